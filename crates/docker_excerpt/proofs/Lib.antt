@@ -7,6 +7,7 @@ pub mod NearWalk
 pub mod FinishedExcerpt
 pub mod ScheduleFields
 pub mod ThinLemmas
+pub mod NeededChanges
 pub mod ThinEnds
 pub mod ThinExcerpt
 pub mod ThinParts

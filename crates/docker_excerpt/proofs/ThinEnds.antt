@@ -3,13 +3,14 @@
 use Rattle.std.proofs.Common.{◌≡◌, ℕ, ◌∙◌, ◌≤◌, List, subst, sym, arith}
 use Rattle.std.specs.Prelude.{Option}
 use Rattle.docker_model.specs.file.File.{most_records}
-use Rattle.docker_model.specs.file.Change.{Change, changes}
+use Rattle.docker_model.specs.file.Change.{Change}
 use Rattle.docker_laws.specs.Thinning.{IsThinning}
 use Rattle.cif_file.specs.declared.ended.Ended.{Ended}
 use Rattle.docker_excerpt.specs.declared.thin_kept.ThinSoFar.{ThinSoFar}
 use Rattle.cif_file.specs.EndedRead.{IsEnded}
 use Rattle.cif_file.specs.FileRead.{IsOfRecords}
 use Rattle.cif_file.specs.SourceRead.{ReadsEnded}
+use Rattle.docker_excerpt.specs.Elsewhere.{all_kept, HaveSame}
 use Rattle.docker_excerpt.specs.ThinKept.{KeepsThin}
 use Rattle.docker_excerpt.specs.ThinRead.{AreThinParts}
 use Rattle.docker_excerpt.specs.ThinEnded.{ReadsThin, thin_parts_ended, thin_ended}
@@ -22,14 +23,20 @@ module _ {P : Type 0} (place : List ℕ) (day : ℕ) where
   file_of records ended is = record { header_is = is.header_is; count_is = is.count_is; changes_are = is.kept.so_far }
 
   -- the changes that were kept are a thinning of the file's changes for the place and the day
-  enough_of : (records : List (List ℕ)) (ended : Ended (ThinSoFar P)) → IsEnded (KeepsThin place day) records ended
-      → IsThinning ended.keeper.thinned.place ended.keeper.thinned.day ended.keeper.so_far.changes (thin_ended ended).kept
+  enough_of : (records : List (List ℕ)) (ended : Ended (ThinSoFar P)) (is : IsEnded (KeepsThin place day) records ended)
+      → IsThinning ended.keeper.thinned.place ended.keeper.thinned.day ended.keeper.so_far.changes is.kept.thinned.kept
   enough_of records ended is =
       let has = is.kept.thinned in
-      subst (λ p. IsThinning p ended.keeper.thinned.day ended.keeper.so_far.changes (thin_ended ended).kept) (sym has.place_is)
-      (subst (λ d. IsThinning place d ended.keeper.so_far.changes (thin_ended ended).kept) (sym has.day_is)
-      (subst (λ (all : List Change). IsThinning place day all (thin_ended ended).kept) (sym is.kept.so_far)
-      (subst (IsThinning place day (changes records)) (sym has.made) has.thinning)))
+      subst (λ p. IsThinning p ended.keeper.thinned.day ended.keeper.so_far.changes has.kept) (sym has.place_is)
+      (subst (λ d. IsThinning place d ended.keeper.so_far.changes has.kept) (sym has.day_is)
+      (subst (λ (all : List Change). IsThinning place day all has.kept) (sym is.kept.so_far) has.thinning))
+
+  -- the changes that were kept for the place are kept for the place that the keeper has
+  same_of : (records : List (List ℕ)) (ended : Ended (ThinSoFar P)) (is : IsEnded (KeepsThin place day) records ended)
+      → HaveSame is.kept.thinned.kept (thin_ended ended).kept
+  same_of records ended is =
+      let has = is.kept.thinned in
+      subst (λ p. HaveSame has.kept (all_kept p ended.keeper.thinned.made ended.keeper.thinned.elsewhere)) (sym has.place_is) has.made
 
   -- if the reader returns a thin file for the text that a source held, it is a thin file of that text
   pub reads_thin : (there : List ℕ) (on : ℕ) (limit : ℕ) (left : Option (List ℕ)) (ended : Ended (ThinSoFar P)) → there ≡ place → on ≡ day
@@ -49,11 +56,13 @@ module _ {P : Type 0} (place : List ℕ) (day : ℕ) where
   -- the parts that the reader returns belong to the thin file
   pub reads_thin_parts : (limit : ℕ) (left : Option (List ℕ)) (ended : Ended (ThinSoFar P)) → limit ≤ most_records
       → ReadsEnded (KeepsThin place day) limit left ended
-      → AreThinParts ended.keeper.thinned.place ended.keeper.thinned.day ended.keeper.so_far.changes (thin_parts_ended ended)
+      → AreThinParts ended.keeper.thinned.place ended.keeper.thinned.day ended.keeper.so_far.changes (thin_parts_ended ended) ended.keeper.thinned.elsewhere
   reads_thin_parts limit left ended few reads =
       let is = reads.of_text in
       let within = is.is_text.within in
       record {
         read = record { records = is.records; of_records = file_of is.records ended is.of_records; is_file = is.is_text.is; few = omega arith };
+        thinned = is.of_records.kept.thinned.kept;
         thinning = enough_of is.records ended is.of_records;
+        same = same_of is.records ended is.of_records;
       }

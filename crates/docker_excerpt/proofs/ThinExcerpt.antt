@@ -1,20 +1,21 @@
--- Thin changes of a file are made for one place and one day, and they make a state. Each docker of
+-- The changes that the docker of one place and day needs of a file make a state. Each docker of
 -- this state, for the place and the day, is a docker of the whole file's state.
-use Rattle.std.proofs.Common.{◌≡◌, ℕ, ◌≤◌, List, [], ◌∷◌, length, map, refl, ap, sym, ◌∙◌, subst, cond, None}
-use Rattle.std.specs.Prelude.{Option, option_and_then, slice_index_or}
+use Rattle.std.proofs.Common.{◌≡◌, ℕ, ◌≤◌, List, [], ◌∷◌, length, map, refl, ap, sym, ◌∙◌, subst}
+use Rattle.std.specs.Prelude.{slice_index_or}
 use Rattle.docker_model.specs.file.File.{IsFile, first_record, most_records}
-use Rattle.docker_model.specs.file.Change.{Key, Body, Change, changes, tiploc_key}
+use Rattle.docker_model.specs.file.Change.{Key, Change, changes, tiploc_key}
 use Rattle.docker_model.specs.state.Op.{Entry}
 use Rattle.docker_model.specs.state.Stamp.{ledger_item_of}
 use Rattle.docker_model.specs.state.State.{State, live_table, HasGoodBodies}
 use Rattle.docker_model.specs.state.Summary.{entry_of}
 use Rattle.docker_model.specs.docker.DockerText.{description_in}
 use Rattle.docker_laws.specs.FileSummary.{latest_entries, summary_of}
-use Rattle.docker_laws.specs.Thinning.{may_matter, thin_body, thinned, IsThinning, IsStateOfChanges}
+use Rattle.docker_laws.specs.Thinning.{thinned, IsThinning, IsStateOfChanges, HasUidsOf, wanted_changes}
 use Rattle.docker_laws.proofs.dockers.FileSummary.{summary_is, summary_valid}
 use Rattle.state_laws.proofs.states.GoodBodies.{good_bodies}
 use Rattle.docker_laws.proofs.dockers.ThinDocker.{thinned_stands}
-use Rattle.docker_laws.proofs.dockers.ThinState.{live_of_summary, thin_live, thin_state_list}
+use Rattle.docker_laws.proofs.dockers.ExcerptDocker.{same_where_needed}
+use Rattle.docker_laws.proofs.dockers.NeededChanges.{wanted_excerpt, wanted_list}
 use Rattle.cif_file.specs.FileRead.{FileRead, IsOfRecords}
 use Rattle.docker_excerpt.specs.Values.{with_entries, state_of_read, StandsAt}
 
@@ -36,43 +37,45 @@ pub state_is_summary : (file : FileRead) (lines : List (List ℕ)) → IsOfRecor
 state_is_summary file lines of = λ i. state_by ((of.header_is ∙ first_is lines) i) (of.changes_are i)
 
 module _ (place : List ℕ) (day : ℕ) (lines : List (List ℕ)) (is_file : IsFile lines) (few : length lines ≤ most_records) (kept : List Change)
-    (thinning : IsThinning place day (changes lines) kept) (part : State) (of : IsStateOfChanges lines kept part) where
+    (thinning : IsThinning place day (changes lines) kept) (uids : List (List ℕ)) (has : HasUidsOf place kept uids) (part : State)
+    (of : IsStateOfChanges lines (wanted_changes uids kept) part) where
   good : HasGoodBodies (live_table (summary_of lines))
   good = good_bodies (summary_of lines) (summary_valid lines is_file few)
 
-  same_live : (key : Key) → thinned place day (live_table (summary_of lines)) key ≡ live_table part key
-  same_live key =
-      ap (λ (found : Option Body). cond (may_matter place key) (option_and_then (thin_body place day) found) None)
-      (live_of_summary lines (summary_of lines) (summary_is lines) key)
-      ∙ sym (thin_live place day lines kept thinning part of key)
-
-  -- for the place and the day, each docker of the state that the thin changes make is a docker of
+  -- for the place and the day, each docker of the state that the wanted changes make is a docker of
   -- the file's summary
   stands_for_summary : StandsAt place day (summary_of lines) part
-  stands_for_summary = record {
-    described = ap description_in (sym (same_live (tiploc_key place)) ∙ (thinned_stands place day (live_table (summary_of lines)) good).tiploc);
-    list = λ listed. (thin_state_list place day lines is_file few kept thinning part of (summary_of lines) (summary_is lines) listed).1;
-  }
+  stands_for_summary =
+      let excerpt = wanted_excerpt place day lines is_file few kept thinning uids part of has (summary_of lines) (summary_is lines) in
+      record {
+        described = ap description_in (
+            same_where_needed place (thinned place day (live_table (summary_of lines))) (live_table part) excerpt (tiploc_key place) refl
+            ∙ (thinned_stands place day (live_table (summary_of lines)) good).tiploc
+            );
+        list = λ listed.
+            (wanted_list place day lines is_file few kept thinning uids part of has (summary_of lines) (summary_is lines) listed).1;
+      }
 
--- if the entries of the state that the thin changes make are replaced by the entries of the whole
+-- if the entries of the state that the wanted changes make are replaced by the entries of the whole
 -- file, the result is the file's state
-pub given_is_state : (file : FileRead) (lines : List (List ℕ)) → IsOfRecords file lines → (kept : List Change) (part : State)
-    → IsStateOfChanges lines kept part → (entries : List (Key × Entry)) → entries ≡ (state_of_read file).entries
+pub given_is_state : (file : FileRead) (lines : List (List ℕ)) → IsOfRecords file lines → (wanted : List Change) (part : State)
+    → IsStateOfChanges lines wanted part → (entries : List (Key × Entry)) → entries ≡ (state_of_read file).entries
     → with_entries part entries ≡ state_of_read file
-given_is_state file lines of_lines kept part of entries given = λ i. record {
+given_is_state file lines of_lines wanted part of entries given = λ i. record {
   horizon = of.horizon i;
   ledger = (of.ledger ∙ ap (λ (head : List ℕ). ledger_item_of (head ∷ []) ∷ []) (sym (of_lines.header_is ∙ first_is lines))) i;
   entries = given i;
 }
 
--- for the place and the day, each docker of the state that the thin changes make is a docker of the
--- file's state
+-- for the place and the day, each docker of the state that the wanted changes make is a docker of
+-- the file's state
 pub thin_stands : (place : List ℕ) (day : ℕ) (file : FileRead) (lines : List (List ℕ)) → IsOfRecords file lines → IsFile lines
     → length lines ≤ most_records → (kept : List Change) → IsThinning place day file.changes_made kept
-    → (part : State) → IsStateOfChanges lines kept part → (entries : List (Key × Entry)) → entries ≡ (state_of_read file).entries
+    → (uids : List (List ℕ)) → HasUidsOf place kept uids
+    → (part : State) → IsStateOfChanges lines (wanted_changes uids kept) part → (entries : List (Key × Entry)) → entries ≡ (state_of_read file).entries
     → StandsAt place day (with_entries part entries) part
-thin_stands place day file lines of_lines is_file few kept thinning part of entries given =
+thin_stands place day file lines of_lines is_file few kept thinning uids has part of entries given =
     subst (λ (state : State). StandsAt place day state part)
-    (sym (given_is_state file lines of_lines kept part of entries given ∙ state_is_summary file lines of_lines))
+    (sym (given_is_state file lines of_lines (wanted_changes uids kept) part of entries given ∙ state_is_summary file lines of_lines))
     (stands_for_summary place day lines is_file few kept
-    (subst (λ (all : List Change). IsThinning place day all kept) of_lines.changes_are thinning) part of)
+    (subst (λ (all : List Change). IsThinning place day all kept) of_lines.changes_are thinning) uids has part of)

@@ -4,96 +4,164 @@ use Rattle.std.proofs.Common.{◌≡◌, ℕ, ◌∙◌, inl, inr, Bool, true, f
 use Rattle.std.proofs.Common.{length, map, subst, refl, ap, sym, Some, None, arith, append_assoc}
 use Rattle.std.specs.Global.{Vec}
 use Rattle.std.proofs.lemmas.List.{map-append}
-use Rattle.std.specs.Prelude.{Option, Contains, ◌⊎◌, ◌||◌, not}
-use Rattle.std.specs.Ordering.{on, is_eq}
+use Rattle.std.specs.Prelude.{Option, Contains, ◌⊎◌, ◌||◌, not, slice_get}
+use Rattle.std.specs.Ordering.{is_eq}
 use Rattle.std.specs.BTreeSet as set
 use Rattle.std.specs.BTreeSet.{BTreeSet}
 use Rattle.std.specs.BTreeMap.{is_at}
-use Rattle.std.specs.declared.cmp.Ordering.{Ordering}
 use Rattle.std.specs.Cmp.{tied_itself}
-use Rattle.std.proofs.lemmas.List.Elements.{Contains-append_cases}
+use Rattle.std.proofs.lemmas.List.Elements.{Contains-append_left, Contains-append_right, Contains-append_cases}
 use Rattle.cif_laws.proofs.lists.Membership.{nil-Contains, Contains-single}
 use Rattle.docker_model.specs.records.Field.{is_deletion, as_new}
-use Rattle.docker_model.specs.file.File.{IsSchedule}
+use Rattle.docker_model.specs.file.File.{IsSchedule, first_record}
+use Rattle.docker_model.specs.file.Journey.{calls_at}
 use Rattle.docker_model.specs.file.Change.{Change, Act, tiploc_body, association_body, schedule_body, delete, put}
-use Rattle.docker_model.specs.state.Op.{key_cmp}
-use Rattle.cif_laws.proofs.orders.Orders.{key_total}
 use Rattle.docker_laws.specs.NearDay.{runs_near}
-use Rattle.docker_laws.specs.Thinning.{may_matter, thin_act, thin_change, lines_for, HasNoChangeOf, IsThinning}
+use Rattle.docker_laws.specs.Thinning.{may_matter, thin_act, thin_change, thin_lines, lines_for, HasNoChangeOf, IsThinning}
 use Rattle.docker_laws.proofs.dockers.ThinChanges.{thinning_at_first, thinning_kept, thinning_dropped, thinning_elsewhere, act_far, near_of_new}
 use Rattle.cif_change.specs.declared.change.Change as code
-use Rattle.cif_change.specs.declared.key.Key.{Key}
+use Rattle.cif_change.specs.declared.key.ScheduleKey.{ScheduleKey}
 use Rattle.cif_change.specs.declared.key.Key.TheVariants as key
 use Rattle.cif_change.specs.JourneyRead.{progress_meant, HasLines}
+use Rattle.cif_change.specs.contracts.key.ScheduleKeyOrd.TheImpl.Laws.{total-law}
 use Rattle.cif_change.specs.Meaning.{change_meant, key_meant}
+use Rattle.cif_change.proofs.SameKeys.{same_key}
 use Rattle.cif_file.specs.declared.opened.Opened.{Opened}
 use Rattle.docker_excerpt.specs.declared.thinned.Thinned.{Thinned}
+use Rattle.docker_excerpt.specs.declared.elsewhere.Elsewhere.{Elsewhere}
+use Rattle.docker_excerpt.specs.Elsewhere.{elsewhere_meant, all_kept, HaveSame}
 use Rattle.cif_file.specs.KeeperRead.{change_opened, with_new_first}
-use Rattle.cif_file.specs.MadeChanges.{HasMade, Makes}
 use Rattle.cif_file.specs.SingleChanges.{puts_schedule, PutsNoSchedule, listed_after}
-use Rattle.docker_excerpt.specs.ThinKept.{has_key, HasKeysOf, HasThinned, Thins, ThinsAll, SaysRunsNear}
+use Rattle.docker_excerpt.specs.ThinKept.{schedule_cmp, has_key, KnowsMore, HasKeysOf, HasThinned, Thins, ThinsAll, SaysRunsNear}
 
 abbrev Lines : Type 0
 Lines = List (List ℕ)
 
--- the definitions' order of keys, applied to keys of the code
-abbrev cmp : Key → Key → Ordering
-cmp = on key_meant key_cmp
+-- ---- the set of the keys of schedules
 
--- Says that the new set is the old set with one key added.
-abbrev pub HasOneMore : BTreeSet Key → Key → BTreeSet Key → Type 0
-HasOneMore old key new = set.Updates cmp old new key true
-
-still_has : (old new : BTreeSet Key) (added key : Key) → HasOneMore old added new → has_key old key ≡ true → has_key new key ≡ true
-still_has old new added key more has = more.0 key ∙ by (is_at (cmp added) key) has
+-- after a key is added to a set, the set has all earlier keys and this key
+pub set_knows : (old new : BTreeSet ScheduleKey) (added : ScheduleKey) → set.Updates schedule_cmp old new added true
+    → KnowsMore old (key_meant (key.Schedule added)) new
+set_knows old new added more = record { still = still; also = also }
   where
-    by : (b : Bool) → has_key old key ≡ true → cond b true (has_key old key) ≡ true
-    by true had = refl
-    by false had = had
+    still : (one : ScheduleKey) → has_key old one ≡ true → has_key new one ≡ true
+    still one has = more.0 one ∙ by (is_at (schedule_cmp added) one) has
+      where
+        by : (b : Bool) → has_key old one ≡ true → cond b true (has_key old one) ≡ true
+        by true had = refl
+        by false had = had
 
-has_added : (old new : BTreeSet Key) (added key : Key) → HasOneMore old added new → key_meant key ≡ key_meant added → has_key new key ≡ true
-has_added old new added key more same =
-    more.0 key ∙ (λ i. cond (is_eq (key_cmp (key_meant added) (same i))) true (has_key old key))
-    ∙ (λ i. cond (is_eq (tied_itself key_total (key_meant added) i)) true (has_key old key))
+    also : (one : ScheduleKey) → key_meant (key.Schedule one) ≡ key_meant (key.Schedule added) → has_key new one ≡ true
+    also one same =
+        let equal : key.Schedule one ≡ key.Schedule added = same_key (key.Schedule one) (key.Schedule added) same in
+        let keys : one ≡ added = cc in
+        more.0 one ∙ (λ i. cond (is_eq (schedule_cmp added (keys i))) true (has_key old one))
+        ∙ (λ i. cond (is_eq (tied_itself total-law added i)) true (has_key old one))
 
 -- after keeping a change and adding its key to the set, the set has the keys of all kept changes
-keys_of_more : (old new : BTreeSet Key) (added : code.Change) (kept : List Change) → HasOneMore old added.key new → HasKeysOf old kept
-    → HasKeysOf new (kept ++ change_meant added ∷ [])
-keys_of_more old new added kept more known change among key same = by (Contains-append_cases kept (change_meant added ∷ []) change among)
+keys_of_more : (old new : BTreeSet ScheduleKey) (added : Change) (kept : List Change) → KnowsMore old added.key new → HasKeysOf old kept
+    → HasKeysOf new (kept ++ added ∷ [])
+keys_of_more old new added kept more known change among one same = by (Contains-append_cases kept (added ∷ []) change among)
   where
-    by : Contains kept change ⊎ Contains (change_meant added ∷ []) change → has_key new key ≡ true
-    by (inl before) = still_has old new added.key key more (known change before key same)
-    by (inr last) =
-        has_added old new added.key key more (same ∙ sym (ap (λ (c : Change). c.key) (Contains-single (change_meant added) change last)))
+    by : Contains kept change ⊎ Contains (added ∷ []) change → has_key new one ≡ true
+    by (inl before) = more.still one (known change before one same)
+    by (inr last) = more.also one (same ∙ sym (ap (λ (c : Change). c.key) (Contains-single added change last)))
 
--- pushing a change appends it to the changes
-pub makes_pushed : (old : Vec code.Change) (change : code.Change) (new : Vec code.Change) → new.items ≡ old.items ++ change ∷ []
-    → Makes old (change_meant change ∷ []) new
-makes_pushed old change new pushed before made =
-    ap (map change_meant) pushed ∙ map-append change_meant old.items (change ∷ []) ∙ ap (λ all. all ++ change_meant change ∷ []) made
+-- ---- the kept changes, in any order
+
+module _ (kept front back : List Change) (change : Change) (same : HaveSame kept (front ++ back)) where
+  abbrev more : List Change
+  more = kept ++ change ∷ []
+
+  -- a change may be appended to the first part of the kept changes
+  same_in_front : HaveSame more ((front ++ change ∷ []) ++ back)
+  same_in_front other = (
+    λ among. forth (Contains-append_cases kept (change ∷ []) other among),
+    λ among. back_in (Contains-append_cases (front ++ change ∷ []) back other among),
+  )
+    where
+      old : Contains front other ⊎ Contains back other → Contains ((front ++ change ∷ []) ++ back) other
+      old (inl first) = Contains-append_left (front ++ change ∷ []) back other (Contains-append_left front (change ∷ []) other first)
+      old (inr last) = Contains-append_right (front ++ change ∷ []) back other last
+
+      forth : Contains kept other ⊎ Contains (change ∷ []) other → Contains ((front ++ change ∷ []) ++ back) other
+      forth (inl before) = old (Contains-append_cases front back other ((same other).0 before))
+      forth (inr last) = Contains-append_left (front ++ change ∷ []) back other (Contains-append_right front (change ∷ []) other last)
+
+      in_front : Contains front other ⊎ Contains (change ∷ []) other → Contains more other
+      in_front (inl first) = Contains-append_left kept (change ∷ []) other ((same other).1 (Contains-append_left front back other first))
+      in_front (inr last) = Contains-append_right kept (change ∷ []) other last
+
+      back_in : Contains (front ++ change ∷ []) other ⊎ Contains back other → Contains more other
+      back_in (inl first) = in_front (Contains-append_cases front (change ∷ []) other first)
+      back_in (inr last) = Contains-append_left kept (change ∷ []) other ((same other).1 (Contains-append_right front back other last))
+
+  -- a change may be appended to the last part of the kept changes
+  same_behind : HaveSame more (front ++ (back ++ change ∷ []))
+  same_behind other = (
+    λ among. forth (Contains-append_cases kept (change ∷ []) other among),
+    λ among. back_in (Contains-append_cases front (back ++ change ∷ []) other among),
+  )
+    where
+      old : Contains front other ⊎ Contains back other → Contains (front ++ (back ++ change ∷ [])) other
+      old (inl first) = Contains-append_left front (back ++ change ∷ []) other first
+      old (inr last) = Contains-append_right front (back ++ change ∷ []) other (Contains-append_left back (change ∷ []) other last)
+
+      forth : Contains kept other ⊎ Contains (change ∷ []) other → Contains (front ++ (back ++ change ∷ [])) other
+      forth (inl before) = old (Contains-append_cases front back other ((same other).0 before))
+      forth (inr last) = Contains-append_right front (back ++ change ∷ []) other (Contains-append_right back (change ∷ []) other last)
+
+      in_back : Contains back other ⊎ Contains (change ∷ []) other → Contains more other
+      in_back (inl last) = Contains-append_left kept (change ∷ []) other ((same other).1 (Contains-append_right front back other last))
+      in_back (inr new) = Contains-append_right kept (change ∷ []) other new
+
+      back_in : Contains front other ⊎ Contains (back ++ change ∷ []) other → Contains more other
+      back_in (inl first) = Contains-append_left kept (change ∷ []) other ((same other).1 (Contains-append_left front back other first))
+      back_in (inr last) = in_back (Contains-append_cases back (change ∷ []) other last)
+
+-- Says that one more change was kept.
+abbrev pub KeepsMore : List ℕ → Vec code.Change → Vec Elsewhere → Change → Vec code.Change → Vec Elsewhere → Type 0
+KeepsMore place made elsewhere change more_made more_elsewhere =
+    (kept : List Change) → HaveSame kept (all_kept place made elsewhere) → HaveSame (kept ++ change ∷ []) (all_kept place more_made more_elsewhere)
+
+-- pushing a change keeps it
+pub made_pushed : (place : List ℕ) (made : Vec code.Change) (elsewhere : Vec Elsewhere) (change : code.Change) (new : Vec code.Change)
+    → new.items ≡ made.items ++ change ∷ [] → KeepsMore place made elsewhere (change_meant change) new elsewhere
+made_pushed place made elsewhere change new pushed kept same =
+    subst (λ front. HaveSame (kept ++ change_meant change ∷ []) (front ++ map (elsewhere_meant place) elsewhere.items))
+    (sym (ap (map change_meant) pushed ∙ map-append change_meant made.items (change ∷ [])))
+    (same_in_front kept (map change_meant made.items) (map (elsewhere_meant place) elsewhere.items) (change_meant change) same)
+
+-- pushing a schedule that doesn't call at the place keeps its thin change
+pub elsewhere_pushed : (place : List ℕ) (made : Vec code.Change) (elsewhere : Vec Elsewhere) (one : Elsewhere) (new : Vec Elsewhere)
+    → new.items ≡ elsewhere.items ++ one ∷ [] → KeepsMore place made elsewhere (elsewhere_meant place one) made new
+elsewhere_pushed place made elsewhere one new pushed kept same =
+    subst (λ back. HaveSame (kept ++ elsewhere_meant place one ∷ []) (map change_meant made.items ++ back))
+    (sym (ap (map (elsewhere_meant place)) pushed ∙ map-append (elsewhere_meant place) elsewhere.items (one ∷ [])))
+    (same_behind kept (map change_meant made.items) (map (elsewhere_meant place) elsewhere.items) (elsewhere_meant place one) same)
 
 -- before the first change, no change has to be kept: the empty list is a thinning of the empty list
-pub none_thinned : (place : List ℕ) (day : ℕ) (thinned : Thinned) → thinned.place ≡ place → thinned.day ≡ day → HasMade thinned.made []
-    → HasThinned place day thinned []
-none_thinned place day thinned there dated made = record {
+pub none_thinned : (place : List ℕ) (day : ℕ) (thinned : Thinned) → thinned.place ≡ place → thinned.day ≡ day → thinned.made.items ≡ []
+    → thinned.elsewhere.items ≡ [] → HasThinned place day thinned []
+none_thinned place day thinned there dated none nothing = record {
   place_is = there;
   day_is = dated;
   kept = [];
-  made = made;
+  made = subst (HaveSame []) (sym (λ i. map change_meant (none i) ++ map (elsewhere_meant place) (nothing i))) (λ change. (λ among. among, λ among. among));
   thinning = thinning_at_first place day;
   known = λ change among. absurd (nil-Contains change among);
 }
 
 module _ (place : List ℕ) (day : ℕ) (old new : Thinned) (whole : Change) where
   -- a change whose key may matter can be kept in its thin form
-  pub thin_kept : (change : code.Change) → new.place ≡ old.place → new.day ≡ old.day → HasOneMore old.keys change.key new.keys
-      → Makes old.made (change_meant change ∷ []) new.made → may_matter place whole.key ≡ true → thin_change place day whole ≡ change_meant change
+  pub thin_kept : (change : Change) → new.place ≡ old.place → new.day ≡ old.day → KnowsMore old.keys change.key new.keys
+      → KeepsMore place old.made old.elsewhere change new.made new.elsewhere → may_matter place whole.key ≡ true → thin_change place day whole ≡ change
       → Thins place day old whole new
-  thin_kept change there dated more made matters same all has = record {
+  thin_kept change there dated more keeps matters same all has = record {
     place_is = there ∙ has.place_is;
     day_is = dated ∙ has.day_is;
-    kept = has.kept ++ change_meant change ∷ [];
-    made = made has.kept has.made;
+    kept = has.kept ++ change ∷ [];
+    made = keeps has.kept has.made;
     thinning =
         subst (λ (c : Change). IsThinning place day (all ++ whole ∷ []) (has.kept ++ c ∷ [])) same
         (thinning_kept place day all has.kept whole has.thinning matters);
@@ -112,9 +180,9 @@ module _ (place : List ℕ) (day : ℕ) (old new : Thinned) (whole : Change) whe
   })
 
   -- a change whose thin form is a deletion can be dropped if no change to its key was kept
-  pub deletion_dropped : (key : Key) → new ≡ old → has_key old.keys key ≡ false → whole.key ≡ key_meant key → thin_act place day whole.act ≡ delete
-      → Thins place day old whole new
-  deletion_dropped key same none named deletes all has = subst (λ (t : Thinned). HasThinned place day t (all ++ whole ∷ [])) (sym same) (record {
+  pub deletion_dropped : (one : ScheduleKey) → new ≡ old → has_key old.keys one ≡ false → whole.key ≡ key_meant (key.Schedule one)
+      → thin_act place day whole.act ≡ delete → Thins place day old whole new
+  deletion_dropped one same none named deletes all has = subst (λ (t : Thinned). HasThinned place day t (all ++ whole ∷ [])) (sym same) (record {
     place_is = has.place_is;
     day_is = has.day_is;
     kept = has.kept;
@@ -124,7 +192,7 @@ module _ (place : List ℕ) (day : ℕ) (old new : Thinned) (whole : Change) whe
   })
     where
       unknown : (kept : List Change) → HasKeysOf old.keys kept → HasNoChangeOf whole.key kept
-      unknown kept known change among is = let bad = known change among key (sym named ∙ sym is) in let both : true ≡ false = sym bad ∙ none in cc
+      unknown kept known change among is = let bad = known change among one (sym named ∙ sym is) in let both : true ≡ false = sym bad ∙ none in cc
 
 -- an act that puts no schedule is its own thin form
 never_thin : (place : List ℕ) (day : ℕ) (act : Act) → puts_schedule act ≡ false → thin_act place day act ≡ act
@@ -185,9 +253,10 @@ pub matters_here : (place : List ℕ) {day : ℕ} (change : Change) {thinned : T
 matters_here place change has matters = ap (λ p. may_matter p change.key) (sym has.place_is) ∙ matters
 
 -- a change whose thin form is a deletion can be kept as a deletion with the same number and key
-pub deletion_kept : (place : List ℕ) (day : ℕ) (whole : Change) (number : ℕ) (key : Key) → whole.number ≡ number → whole.key ≡ key_meant key
-    → thin_act place day whole.act ≡ delete → thin_change place day whole ≡ record { number = number; key = key_meant key; act = delete }
-deletion_kept place day whole number key numbered named deletes = λ i. record { number = numbered i; key = named i; act = deletes i }
+pub deletion_kept : (place : List ℕ) (day : ℕ) (whole : Change) (number : ℕ) (one : ScheduleKey) → whole.number ≡ number
+    → whole.key ≡ key_meant (key.Schedule one) → thin_act place day whole.act ≡ delete
+    → thin_change place day whole ≡ record { number = number; key = key_meant (key.Schedule one); act = delete }
+deletion_kept place day whole number one numbered named deletes = λ i. record { number = numbered i; key = named i; act = deletes i }
 
 -- ---- the changes of a record that is a unit by itself
 
@@ -218,18 +287,36 @@ neither true b h = absurd cc
 neither false false h = absurd cc
 neither false true h = (refl, refl)
 
--- if a schedule runs near the day, the change that is kept for it is the thin form of the schedule's change
-pub opened_kept : (place : List ℕ) (day : ℕ) (opened : Opened) (near : Bool) (lines : Lines) → HasLines (progress_meant opened.progress) lines
-    → IsSchedule lines → SaysRunsNear day lines near → (progress_meant opened.progress).deletion ≡ false → near ≡ true
-    → (thinned : Thinned) → thinned.place ≡ place → (renewed : Lines) → renewed ≡ with_new_first lines
-    → (body : Lines) → body ≡ lines_for thinned.place renewed
-    → thin_change place day (change_opened opened lines)
-    ≡ record { number = opened.number; key = key_meant (key.Schedule opened.key); act = put (schedule_body body) }
-opened_kept place day opened near lines read whole is stays runs thinned there renewed same body needed = λ i. record {
-  number = opened.number;
-  key = key_meant (key.Schedule opened.key);
-  act = (opened_puts place day opened near lines read whole is stays runs ∙ ap (λ b. put (schedule_body b)) (sym needs)) i;
-}
-  where
-    needs : body ≡ lines_for place (with_new_first lines)
-    needs = needed ∙ ap (λ p. lines_for p renewed) there ∙ ap (lines_for place) same
+module _ (place : List ℕ) (day : ℕ) (opened : Opened) (near : Bool) (lines : Lines) (read : HasLines (progress_meant opened.progress) lines)
+    (whole : IsSchedule lines) (is : SaysRunsNear day lines near) (stays : (progress_meant opened.progress).deletion ≡ false) (runs : near ≡ true)
+    (thinned : Thinned) (there : thinned.place ≡ place) (renewed : Lines) (same : renewed ≡ with_new_first lines) where
+  -- the change of a schedule with this body
+  abbrev putting : Lines → Change
+  putting body = record { number = opened.number; key = key_meant (key.Schedule opened.key); act = put (schedule_body body) }
+
+  by_test : (b : Bool) → calls_at thinned.place renewed ≡ b
+      → thin_change place day (change_opened opened lines) ≡ putting (cond b renewed (thin_lines place (first_record renewed)))
+  by_test b h = λ i. record {
+    number = opened.number;
+    key = key_meant (key.Schedule opened.key);
+    act = (opened_puts place day opened near lines read whole is stays runs ∙ ap (λ ls. put (schedule_body (lines_for place ls))) (sym same)
+        ∙ (λ j. put (schedule_body (cond (tested j) renewed (thin_lines place (first_record renewed)))))) i;
+  }
+    where
+      tested : calls_at place renewed ≡ b
+      tested = ap (λ p. calls_at p renewed) (sym there) ∙ h
+
+  -- if a schedule runs near the day and calls at the place, the thin form of its change has all its lines
+  pub opened_whole : (body : Lines) → body ≡ renewed → calls_at thinned.place renewed ≡ true
+      → thin_change place day (change_opened opened lines) ≡ putting body
+  opened_whole body copied calls = by_test true calls ∙ ap putting (sym copied)
+
+  -- if a schedule runs near the day but doesn't call at the place, the thin form of its change has its basic schedule
+  pub opened_elsewhere : (basic : List ℕ) → basic ≡ first_record renewed → calls_at thinned.place renewed ≡ false
+      → thin_change place day (change_opened opened lines) ≡ elsewhere_meant place (record { number = opened.number; key = opened.key; basic = basic })
+  opened_elsewhere basic first apart = by_test false apart ∙ ap (λ line. putting (thin_lines place line)) (sym first)
+
+-- the line at index 0 is the first line
+pub first_line : (lines : Lines) (line : List ℕ) → Some line ≡ slice_get lines 0 → line ≡ first_record lines
+first_line [] line found = absurd (let bad : Some line ≡ None = found in cc)
+first_line (first ∷ others) line found = let same : Some line ≡ Some first = found in cc

@@ -1,66 +1,129 @@
--- The changes that were kept of a file for the docker of one place and day make a state. It satisfies `IsStateOfChanges`, and it is valid.
-use Rattle.std.proofs.Common.{◌≡◌, ℕ, ◌≤◌, List, [], ◌∷◌, map, length, ap, ◌∙◌, subst}
-use Rattle.std.specs.Prelude.{slice_index_or}
-use Rattle.docker_model.specs.file.Change.{Change, changes}
-use Rattle.docker_model.specs.file.File.{IsFile, most_records}
+-- The changes that the docker of one place and day needs of a thin file make a valid state. They are the wanted changes of a thinning, in any order.
+use Rattle.std.proofs.Common.{◌≡◌, ℕ, List, [], ◌∷◌, map, ap, ◌∙◌, subst, Contains}
+use Rattle.std.specs.Prelude.{◌↔◌, filter, slice_index_or}
+use Rattle.std.specs.Global.{Vec}
+use Rattle.docker_model.specs.file.Change.{Key, Change, changes}
 use Rattle.docker_model.specs.state.Stamp.{LedgerItem, ledger_item_of}
-use Rattle.docker_model.specs.state.Op.{op_of}
-use Rattle.docker_model.specs.state.State.{State}
-use Rattle.docker_laws.specs.Thinning.{IsThinning, IsStateOfChanges}
-use Rattle.docker_laws.proofs.dockers.ThinState.{kept_good, thin_valid}
-use Rattle.cif_change.specs.Meaning.{change_meant}
+use Rattle.docker_model.specs.state.Op.{Entry, op_of}
+use Rattle.docker_model.specs.state.State.{State, IsGreatestAmong}
+use Rattle.docker_laws.specs.Thinning.{IsThinning, IsStateOfChanges, HasUidsOf, is_wanted, wanted_changes}
+use Rattle.docker_laws.proofs.dockers.NeededChanges.{wanted_valid}
+use Rattle.docker_laws.proofs.dockers.ThinState.{kept_good}
+use Rattle.cif_laws.proofs.lists.Membership.{Contains-map, map-Contains}
+use Rattle.cif_laws.proofs.lists.FilteredMembers.{filter_back, filter_forth}
+use Rattle.cif_change.specs.declared.key.Key.TheVariants as key
+use Rattle.cif_change.specs.Meaning.{change_meant, key_meant}
 use Rattle.cif_file.specs.declared.parts.FileParts.{FileParts}
 use Rattle.cif_file.specs.FileRead.{IsOfRecords}
 use Rattle.docker_state.specs.MadeState.{HaveRecords, IsMadeState, MakeValid}
+use Rattle.docker_state.specs.Rows.{made_by}
 use Rattle.docker_state.proofs.StateJoin.{op_records}
-use Rattle.docker_excerpt.specs.ThinRead.{ThinRead, AreThinParts, thin_of_parts}
+use Rattle.docker_excerpt.specs.declared.elsewhere.Elsewhere.{Elsewhere}
+use Rattle.docker_excerpt.specs.Elsewhere.{all_kept, HaveSame, uids_named}
+use Rattle.docker_excerpt.specs.ThinRead.{ThinRead, IsThinRead, AreThinParts, AreNeededParts, thin_of_parts}
+use Rattle.docker_excerpt.proofs.NeededChanges.{AreGood, has_uids, needed_are}
 use Rattle.docker_excerpt.proofs.ThinExcerpt.{first_is}
 
 -- a file has the ledger item of its header line
 item_of_header : (head : List ℕ) (lines : List (List ℕ)) → head ≡ slice_index_or lines 0 [] → ledger_item_of (head ∷ []) ≡ ledger_item_of lines
 item_of_header head lines is = ap (λ (line : List ℕ). ledger_item_of (line ∷ [])) (is ∙ first_is lines)
 
--- if the kept changes of a file are a thinning, the bodies that they put consist of records
-thin_records : (place : List ℕ) (day : ℕ) (lines : List (List ℕ)) → IsFile lines → length lines ≤ most_records → (kept : List Change)
-    → IsThinning place day (changes lines) kept → HaveRecords kept
-thin_records place day lines is_file few kept thinning change among =
-    op_records change.key (op_of change.act) (kept_good place day lines is_file few kept thinning change among).0.1
+-- which entry is the greatest for a key doesn't depend on the order of the changes
+same_greatest : (made : Change → Key × Entry) (one other : List Change) → HaveSame one other → (key : Key) (entry : Entry)
+    → IsGreatestAmong (map made one) key entry → IsGreatestAmong (map made other) key entry
+same_greatest made one other same key entry is = record {
+  among = over one other (λ change. (same change).0) (key, entry) is.among;
+  greatest = λ another among. is.greatest another (over other one (λ change. (same change).1) (key, another) among);
+}
+  where
+    over : (from to : List Change) → ((change : Change) → Contains from change → Contains to change) → (row : Key × Entry) → Contains (map made from) row
+        → Contains (map made to) row
+    over from to within row among =
+        let found = Contains-map made from row among in
+        subst (Contains (map made to)) found.2 (map-Contains made to found.0 (within found.0 found.1))
 
--- the state made from a file's ledger item and the kept changes of the file satisfies `IsStateOfChanges`
-kept_state : (item : LedgerItem) (kept : List Change) (lines : List (List ℕ)) (state : State) → item ≡ ledger_item_of lines
-    → IsMadeState item kept state → IsStateOfChanges lines kept state
-kept_state item kept lines state item_is is =
-    let of = subst (λ (i : LedgerItem). IsMadeState i kept state) item_is is in
-    record { horizon = of.horizon; ledger = of.ledger; ascending = of.ascending; entries = of.entries }
+-- the state made from a file's ledger item and some changes satisfies `IsStateOfChanges` for the same changes in another order
+state_of_same : (item : LedgerItem) (needed wanted : List Change) → HaveSame needed wanted → (lines : List (List ℕ)) (state : State)
+    → item ≡ ledger_item_of lines → IsMadeState item needed state → IsStateOfChanges lines wanted state
+state_of_same item needed wanted same lines state item_is is =
+    let of = subst (λ (i : LedgerItem). IsMadeState i needed state) item_is is in
+    let made = made_by (ledger_item_of lines).stamp in
+    record {
+      horizon = of.horizon;
+      ledger = of.ledger;
+      ascending = of.ascending;
+      entries = λ key entry. (
+        λ among. same_greatest made needed wanted same key entry ((of.entries key entry).0 among),
+        λ told. (of.entries key entry).1 (same_greatest made wanted needed (λ change. ((same change).1, (same change).0)) key entry told),
+      );
+    }
 
--- if the kept changes of a file are a thinning, the state that they make is valid
-valid_of_kept : (place : List ℕ) (day : ℕ) (item : LedgerItem) (lines : List (List ℕ)) → item ≡ ledger_item_of lines → IsFile lines
-    → length lines ≤ most_records → (kept : List Change) → IsThinning place day (changes lines) kept → MakeValid item kept
-valid_of_kept place day item lines item_is is_file few kept thinning state is =
-    thin_valid place day lines is_file few kept thinning state (kept_state item kept lines state item_is is)
+module _ (thin : ThinRead) (is : IsThinRead thin) where
+  abbrev records : List (List ℕ)
+  records = is.read.records
 
-module _ (place : List ℕ) (day : ℕ) (all : List Change) (parts : FileParts) (are : AreThinParts place day all parts) where
-  abbrev kept : List Change
-  kept = map change_meant parts.changes.items
+  pub thinning_of_records : IsThinning thin.place thin.day (changes records) is.thinned
+  thinning_of_records = subst (λ (all : List Change). IsThinning thin.place thin.day all is.thinned) is.read.of_records.changes_are is.thinning
 
-  thinning : IsThinning place day (changes are.read.records) kept
-  thinning = subst (λ (every : List Change). IsThinning place day every kept) are.read.of_records.changes_are are.thinning
+  -- the kept changes of a thin file put well-formed bodies
+  pub kept_are_good : AreGood thin.kept
+  kept_are_good change among =
+      (kept_good thin.place thin.day records is.read.is_file is.read.few is.thinned thinning_of_records change ((is.same change).1 among)).0.1
 
-  -- the bodies that the changes of a thin file's parts put consist of records
-  pub parts_records : HaveRecords kept
-  parts_records = thin_records place day are.read.records are.read.is_file are.read.few kept thinning
+-- the parts of a thin file, with a body for each of the wanted schedules that don't call at the place, are the needed parts
+pub are_needed : (place : List ℕ) (day : ℕ) (all : List Change) (parts : FileParts) (elsewhere : Vec Elsewhere)
+    → AreThinParts place day all parts elsewhere → (uids : List (List ℕ))
+    → ((uid : List ℕ) → Contains uids uid ↔ Contains (uids_named (map change_meant parts.changes.items)) uid) → (some : Vec Elsewhere)
+    → some.items ≡ filter (λ (one : Elsewhere). is_wanted uids (key_meant (key.Schedule one.key))) elsewhere.items → (left : FileParts)
+    → left.header ≡ parts.header → map change_meant left.changes.items ≡ all_kept place parts.changes some
+    → AreNeededParts (thin_of_parts place day all parts elsewhere) left
+are_needed place day all parts elsewhere is uids named some of left header are = record {
+  header = header;
+  uids = uids;
+  has_uids = has_uids place parts.changes elsewhere (kept_are_good (thin_of_parts place day all parts elsewhere) is) uids named;
+  same =
+      needed_are place parts.changes elsewhere (kept_are_good (thin_of_parts place day all parts elsewhere) is) uids named some of
+      (map change_meant left.changes.items) are;
+}
 
-  -- the state that the parts of a thin file make is valid
-  pub parts_valid : MakeValid (ledger_item_of (parts.header ∷ [])) kept
-  parts_valid =
-      valid_of_kept place day (ledger_item_of (parts.header ∷ [])) are.read.records (item_of_header parts.header are.read.records are.read.of_records.header_is)
-      are.read.is_file are.read.few kept thinning
+module _ (thin : ThinRead) (is : IsThinRead thin) where
+  module _ (parts : FileParts) (are : AreNeededParts thin parts) where
+    abbrev needed : List Change
+    needed = map change_meant parts.changes.items
 
--- the state that the parts of a thin file make is the state of the file's kept changes
-pub parts_state : (thin : ThinRead) (parts : FileParts) → thin_of_parts thin.place thin.day thin.file.changes_made parts ≡ thin
-    → (lines : List (List ℕ)) → IsOfRecords thin.file lines → (state : State)
-    → IsMadeState (ledger_item_of (parts.header ∷ [])) (map change_meant parts.changes.items) state → IsStateOfChanges lines thin.kept state
-parts_state thin parts same lines of state is =
-    kept_state (ledger_item_of (parts.header ∷ [])) thin.kept lines state
-    (item_of_header parts.header lines (ap (λ (t : ThinRead). t.file.header_line) same ∙ of.header_is))
-    (subst (λ (kept : List Change). IsMadeState (ledger_item_of (parts.header ∷ [])) kept state) (ap (λ (t : ThinRead). t.kept) same) is)
+    -- the needed changes are the wanted changes of the thinning
+    needed_are_wanted : HaveSame needed (wanted_changes are.uids is.thinned)
+    needed_are_wanted change = (
+      λ among.
+          let passed = filter_back (λ (one : Change). is_wanted are.uids one.key) thin.kept change ((are.same change).0 among) in
+          filter_forth (λ (one : Change). is_wanted are.uids one.key) is.thinned change ((is.same change).1 passed.0) passed.1,
+      λ among.
+          let passed = filter_back (λ (one : Change). is_wanted are.uids one.key) is.thinned change among in
+          (are.same change).1 (filter_forth (λ (one : Change). is_wanted are.uids one.key) thin.kept change ((is.same change).0 passed.0) passed.1),
+    )
+
+    -- the UIDs are enough for the changes of the thinning
+    pub uids_of_thinning : HasUidsOf thin.place is.thinned are.uids
+    uids_of_thinning = record {
+      calls = λ change key lines among. are.has_uids.calls change key lines ((is.same change).0 among);
+      names = λ change key line among. are.has_uids.names change key line ((is.same change).0 among);
+    }
+
+    -- the bodies that the needed changes put consist of records
+    pub parts_records : HaveRecords needed
+    parts_records change among =
+        op_records change.key (op_of change.act)
+        (kept_are_good thin is change (filter_back (λ (one : Change). is_wanted are.uids one.key) thin.kept change ((are.same change).0 among)).0)
+
+    -- the state that the needed changes make is the state of the wanted changes of the thinning
+    pub parts_state : (lines : List (List ℕ)) → IsOfRecords thin.file lines → (state : State) → IsMadeState (ledger_item_of (parts.header ∷ [])) needed state
+        → IsStateOfChanges lines (wanted_changes are.uids is.thinned) state
+    parts_state lines of state made =
+        state_of_same (ledger_item_of (parts.header ∷ [])) needed (wanted_changes are.uids is.thinned) needed_are_wanted lines state
+        (item_of_header parts.header lines (are.header ∙ of.header_is)) made
+
+    -- the state that the needed changes make is valid
+    pub parts_valid : MakeValid (ledger_item_of (parts.header ∷ [])) needed
+    parts_valid state made =
+        wanted_valid thin.place thin.day is.read.records is.read.is_file is.read.few is.thinned (thinning_of_records thin is) are.uids state
+        (parts_state is.read.records is.read.of_records state made)

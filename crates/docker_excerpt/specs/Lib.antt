@@ -3,6 +3,7 @@ pub mod ExcerptWalk
 pub mod DayWalk
 pub mod Values
 pub mod Ledger
+pub mod Elsewhere
 pub mod ThinRead
 pub mod ThinKept
 pub mod ThinEnded

@@ -18,7 +18,8 @@ thin_parts_ended ended = record {
 -- converts the `Ended` of a keeper that keeps only what the docker of a place on a day needs. The
 -- result is the thin file
 abbrev pub thin_ended : {P : Type 0} → Ended (ThinSoFar P) → ThinRead
-thin_ended ended = thin_of_parts ended.keeper.thinned.place ended.keeper.thinned.day ended.keeper.so_far.changes (thin_parts_ended ended)
+thin_ended ended =
+    thin_of_parts ended.keeper.thinned.place ended.keeper.thinned.day ended.keeper.so_far.changes (thin_parts_ended ended) ended.keeper.thinned.elsewhere
 
 -- Says that the source held the text of a file within the limit on records, and that this is the
 -- file's thin file for the place and the day.

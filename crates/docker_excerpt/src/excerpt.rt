@@ -85,7 +85,7 @@ impl Excerpt {
         // instead of all changes of the file.
         let _header = file.header();
         let given = given_of(&file);
-        let parts = file.into_parts();
+        let parts = file.into_needed(alloc)?;
         let part = State::of_parts(alloc, parts)?;
         Ok(Excerpt::of(place, day, part, given))
     }

@@ -4,6 +4,7 @@
 
 mod changes_so_far;
 mod day_walk;
+mod elsewhere;
 mod excerpt;
 mod excerpting;
 mod given_file;
@@ -17,9 +18,9 @@ mod reading;
 mod start_days;
 mod thin_file;
 mod thin_kept;
-mod thin_lines;
 mod thinned;
 mod walk;
+mod wanted;
 
 pub use excerpt::Excerpt;
 pub use excerpting::Excerpting;

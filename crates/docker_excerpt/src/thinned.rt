@@ -5,24 +5,28 @@ ghost use Rattle.docker_model.specs.file.Change.{delete};
 ghost use Rattle.docker_laws.specs.Thinning.{may_matter, thin_act, thin_change};
 ghost use Rattle.cif_change.specs.Meaning.{change_meant, key_meant};
 ghost use Rattle.cif_file.specs.SingleChanges.{PutNoSchedules, PutsNoSchedule, listed};
-ghost use Rattle.docker_excerpt.specs.ThinKept.{has_key, HasThinned, Thins, ThinsAll, ThinsOpened};
+ghost use Rattle.docker_excerpt.specs.Elsewhere.{elsewhere_meant};
+ghost use Rattle.docker_excerpt.specs.ThinKept.{has_key, with_keys, KnowsMore, HasThinned, Thins, ThinsAll, ThinsOpened};
 
+use crate::elsewhere::Elsewhere;
 use crate::needs::may_matter;
-use crate::thin_lines::lines_for;
-use cif_change::{Act, Body, Change, Key};
-use cif_file::{Opened, SingleChanges};
+use cif_change::{Act, Body, Change, Key, ScheduleKey};
+use cif_file::{Opened, SingleChanges, body_of, calls_at};
 use cif_line::{Day, Line, Tiploc};
 use std::alloc::{AllocError, Global};
 use std::collections::BTreeSet;
 
-/// The changes that are kept for the docker of one place on one day, and the set of their keys.
+/// The changes that are kept for the docker of one place on one day, and the set of the keys of
+/// their schedules. A schedule that doesn't call at the place is in `elsewhere`, without a body. All
+/// other changes are in `made`.
 #[derive(Debug, Drop)]
 pub(crate) struct Thinned {
     alloc: Global,
     pub(crate) place: Tiploc,
     pub(crate) day: Day,
-    keys: BTreeSet<Key>,
+    keys: BTreeSet<ScheduleKey>,
     pub(crate) made: Vec<Change>,
+    pub(crate) elsewhere: Vec<Elsewhere>,
 }
 
 impl Thinned {
@@ -36,6 +40,7 @@ impl Thinned {
             day,
             keys: BTreeSet::new(alloc),
             made: Vec::new(alloc),
+            elsewhere: Vec::new(alloc),
         }
     }
 
@@ -46,19 +51,33 @@ impl Thinned {
         self.day
     }
 
-    /// Whether a change to this key was kept. In most extracts the changes are nearly sorted by
+    /// Whether a change to this schedule was kept. In most extracts the changes are nearly sorted by
     /// key. So the function first compares the key with the greatest kept key, which needs no
     /// search.
-    fn has_kept(&self, key: &Key) -> bool
+    fn has_kept(&self, key: &ScheduleKey) -> bool
         ensures { result ≡ has_key self.now.keys key.now }
     {
         let Some(greatest) = self.keys.last() else {
             return false;
         };
-        if *greatest < *key {
+        if greatest.cmp(key).is_lt() {
             return false;
         }
         self.keys.contains(key)
+    }
+
+    /// Adds a key to the set if it is the key of a schedule.
+    fn know(&mut self, key: &Key) -> Result<(), AllocError>
+        ensures known { OnOk result (KnowsMore self.old.keys (key_meant key.now) self.new.keys) }
+        ensures same { self.new ≡ with_keys self.old self.new.keys }
+    {
+        let Key::Schedule(schedule) = key else {
+            return Ok(());
+        };
+        match self.keys.insert(*schedule) {
+            Ok(_) => Ok(()),
+            Err(_) => Err(AllocError),
+        }
     }
 
     /// Appends a change that is to be kept, and adds its key to the set. The change already
@@ -69,13 +88,21 @@ impl Thinned {
             → thin_change place day whole ≡ change_meant change
             → Thins place day self.old whole self.new) }
     {
-        match self.keys.insert(change.key) {
-            Ok(_) => {
-                self.made.push(change)?;
-                Ok(())
-            }
-            Err(_) => Err(AllocError),
-        }
+        self.know(&change.key)?;
+        self.made.push(change)?;
+        Ok(())
+    }
+
+    /// Keeps a schedule that doesn't call at the place, and adds its key to the set.
+    fn keep_elsewhere(&mut self, schedule: Elsewhere) -> Result<(), AllocError>
+        ensures { OnOk result ((place : List ℕ) (day : ℕ) (whole : model.Change)
+            → may_matter place whole.key ≡ true
+            → thin_change place day whole ≡ elsewhere_meant place schedule
+            → Thins place day self.old whole self.new) }
+    {
+        self.know(&Key::Schedule(schedule.key))?;
+        self.elsewhere.push(schedule)?;
+        Ok(())
     }
 
     /// Keeps the change of a TIPLOC or an association unaltered if the change's key may matter at
@@ -108,9 +135,9 @@ impl Thinned {
 
     /// Receives a change after which the docker doesn't need the schedule with this key. If an
     /// earlier change to the key was kept, a deletion is kept. Otherwise nothing is kept.
-    fn delete(&mut self, number: u32, key: Key) -> Result<(), AllocError>
+    fn delete(&mut self, number: u32, key: ScheduleKey) -> Result<(), AllocError>
         ensures { OnOk result ((place : List ℕ) (day : ℕ) (whole : model.Change)
-            → whole.number ≡ number → whole.key ≡ key_meant key
+            → whole.number ≡ number → whole.key ≡ key_meant (Key.Schedule key)
             → may_matter place whole.key ≡ true → thin_act place day whole.act ≡ delete
             → Thins place day self.old whole self.new) }
     {
@@ -119,7 +146,7 @@ impl Thinned {
         }
         self.keep(Change {
             number,
-            key,
+            key: Key::Schedule(key),
             act: Act::Delete,
         })
     }
@@ -135,15 +162,24 @@ impl Thinned {
         ensures { OnOk result ((place : List ℕ) (day : ℕ)
             → ThinsOpened place day self.old opened runs_near lines.now self.new) }
     {
-        let key = Key::Schedule(opened.key);
         if opened.progress.is_deletion() | !runs_near {
-            return self.delete(opened.number, key);
+            return self.delete(opened.number, opened.key);
         }
-        let body = lines_for(self.alloc, &self.place, lines)?;
-        self.keep(Change {
+        if calls_at(&self.place, lines) {
+            let body = body_of(self.alloc, lines)?;
+            return self.keep(Change {
+                number: opened.number,
+                key: Key::Schedule(opened.key),
+                act: Act::Put(Body::Schedule(body)),
+            });
+        }
+        let Some(basic) = lines.first() else {
+            return Ok(());
+        };
+        self.keep_elsewhere(Elsewhere {
             number: opened.number,
-            key,
-            act: Act::Put(Body::Schedule(body)),
+            key: opened.key,
+            basic: *basic,
         })
     }
 }

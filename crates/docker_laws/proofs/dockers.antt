@@ -31,6 +31,7 @@ pub mod ThinBody
 pub mod ThinDocker
 pub mod ThinChanges
 pub mod ThinState
+pub mod NeededChanges
 pub mod FileSummary
 pub mod NoLinesElsewhere
 pub mod Sublists

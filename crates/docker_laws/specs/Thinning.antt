@@ -1,14 +1,17 @@
 -- Thinning removes from a table what the docker of one place on one day doesn't need. It removes
 -- TIPLOCs and associations of other places, and schedules that run on no start day near the day. Of
--- a schedule that doesn't call at the place, it leaves only the basic schedule, the origin and the
--- terminus. Each change can be thinned by itself.
-use Rattle.std.specs.Prelude.{◌≡◌, ℕ, Bool, true, false, if◌then◌else◌, List, [], ◌∷◌, map, filter}
+-- a schedule that doesn't call at the place, it leaves only the basic schedule, followed by a
+-- made-up origin and terminus. Each change can be thinned by itself.
+use Rattle.std.specs.Prelude.{◌≡◌, ℕ, Bool, true, if◌then◌else◌, List, [], ◌∷◌, ◌++◌, map, filter, codes}
 use Rattle.std.specs.Prelude.{fold, Option, Some, None, option_and_then, not, Contains, ◌↔◌}
 use Rattle.std.specs.Ordering.{is_eq}
+use Rattle.std.specs.List.{list_any}
 use Rattle.std.specs.Str.{bytes_eq}
-use Rattle.docker_model.specs.records.Record.{Kind, origin_location, terminating_location, kind_of}
+use Rattle.docker_model.specs.records.PrintedTime.{spaces}
 use Rattle.docker_model.specs.file.Journey.{calls_at}
-use Rattle.docker_model.specs.file.Change.{Key, tiploc_key, association_key, schedule_key, Body, schedule_body, Act, delete, put, Change}
+use Rattle.docker_model.specs.file.File.{first_record}
+use Rattle.docker_model.specs.file.Change.{Key, tiploc_key, association_key, schedule_key, AssociationKey, ScheduleKey}
+use Rattle.docker_model.specs.file.Change.{Body, schedule_body, association_body, Act, delete, put, Change}
 use Rattle.docker_model.specs.state.Order.{IsAtMost}
 use Rattle.docker_model.specs.state.Stamp.{ledger_item_of}
 use Rattle.docker_model.specs.state.Op.{key_cmp, put_with, Entry}
@@ -18,22 +21,23 @@ use Rattle.docker_model.specs.state.Summary.{entry_of}
 use Rattle.docker_laws.specs.Excerpt.{IsSublist}
 use Rattle.docker_laws.specs.NearDay.{may_count}
 
--- whether a record of this kind is an end of a journey: its origin or its terminus
-abbrev pub is_end : Option Kind → Bool
-is_end (Some origin_location) = true
-is_end (Some terminating_location) = true
-is_end _ = false
+-- a made-up origin and terminus at this TIPLOC, both with the time 0000
+abbrev pub ends_at : List ℕ → List (List ℕ)
+ends_at code = (codes "LO" ++ code ++ codes " 0000 0000" ++ spaces 61) ∷ (codes "LT" ++ code ++ codes " 0000 0000" ++ spaces 61) ∷ []
 
--- the thin records of a schedule: its basic schedule, origin and terminus. For example, if a
--- schedule has the records BS, BX, LO, LI, LT, its thin records are BS, LO, LT
-abbrev pub thin_lines : List (List ℕ) → List (List ℕ)
-thin_lines [] = []
-thin_lines (basic ∷ others) = basic ∷ filter (λ line. is_end (kind_of line)) others
+-- a made-up origin and terminus at a TIPLOC that isn't the place
+abbrev pub ends_elsewhere : List ℕ → List (List ℕ)
+ends_elsewhere place = if bytes_eq place (codes "NOWHERE") then ends_at (codes "ANOTHER") else ends_at (codes "NOWHERE")
+
+-- the thin records of a schedule whose basic schedule is `basic`. For example, if the schedule has
+-- the records BS, BX, LO, LI, LT, its thin records are BS and a made-up LO and LT
+abbrev pub thin_lines : List ℕ → List ℕ → List (List ℕ)
+thin_lines place basic = basic ∷ ends_elsewhere place
 
 -- the records of a schedule that the docker of the place needs: all records if the schedule calls
 -- at the place, and otherwise the thin records
 abbrev pub lines_for : List ℕ → List (List ℕ) → List (List ℕ)
-lines_for place lines = if calls_at place lines then lines else thin_lines lines
+lines_for place lines = if calls_at place lines then lines else thin_lines place (first_record lines)
 
 -- the body that the docker of the place needs: the thin records of a schedule that doesn't call at
 -- the place, and any other body unchanged
@@ -105,3 +109,21 @@ pub record IsStateOfChanges (file : List (List ℕ)) (changes : List Change) (st
   pub ascending : AreAscending state.entries
   pub entries : (key : Key) (entry : Entry) → Contains state.entries (key, entry)
       ↔ IsGreatestAmong (map (λ (change : Change). (change.key, entry_of file change)) changes) key entry
+
+-- whether a key isn't the key of a schedule, or is the key of a schedule with one of these UIDs
+abbrev pub is_wanted : List (List ℕ) → Key → Bool
+is_wanted uids (tiploc_key code) = true
+is_wanted uids (association_key key) = true
+is_wanted uids (schedule_key key) = list_any (λ uid. bytes_eq uid key.uid) uids
+
+-- the changes without those to schedules whose UIDs aren't among these UIDs
+abbrev pub wanted_changes : List (List ℕ) → List Change → List Change
+wanted_changes uids changes = filter (λ (change : Change). is_wanted uids change.key) changes
+
+-- the UIDs are enough for the docker of the place. Among them are the UID of each schedule that is
+-- put and calls at the place, and the UID of the associated train of each association that is put
+pub record HasUidsOf (place : List ℕ) (kept : List Change) (uids : List (List ℕ)) : Type 0 where
+  pub calls : (change : Change) (key : ScheduleKey) (lines : List (List ℕ)) → Contains kept change → change.key ≡ schedule_key key
+      → change.act ≡ put (schedule_body lines) → calls_at place lines ≡ true → Contains uids key.uid
+  pub names : (change : Change) (key : AssociationKey) (line : List ℕ) → Contains kept change → change.key ≡ association_key key
+      → change.act ≡ put (association_body line) → Contains uids key.associated

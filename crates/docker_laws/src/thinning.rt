@@ -1,12 +1,11 @@
 //! Laws of thinning, which drops the changes of a file that the docker of one place on one day
 //! doesn't need. Each change is judged by itself. A law is a function with an empty body. Its
 //! contract states a fact, which holds for all values of the variables.
-ghost use Rattle.std.specs.Prelude.{◌≡◌, ℕ, ◌-◌, ◌^◌, ◌<◌, ◌≤◌, Contains, List, [], ◌∷◌, ◌++◌, ◌↔◌, ◌||◌, ◌&&◌, length, fold, true, false};
-ghost use Rattle.std.specs.Str.{bytes_eq};
-ghost use Rattle.docker_model.specs.records.Record.{IsRecord, columns, is_location, kind_of, HasKind, origin_location, terminating_location};
+ghost use Rattle.std.specs.Prelude.{◌≡◌, ℕ, ◌-◌, ◌^◌, ◌<◌, ◌≤◌, Contains, List, [], ◌∷◌, ◌++◌, ◌↔◌, length, fold, true, false};
+ghost use Rattle.docker_model.specs.records.Record.{IsRecord, HasKind, origin_location, terminating_location};
 ghost use Rattle.docker_model.specs.records.Field.{HasGoodFields, as_new};
 ghost use Rattle.docker_model.specs.file.Journey.{calls_at};
-ghost use Rattle.docker_model.specs.file.File.{IsFile, IsSchedule, first_record, most_records};
+ghost use Rattle.docker_model.specs.file.File.{IsFile, first_record, most_records};
 ghost use Rattle.docker_model.specs.file.Change.{Key, ScheduleKey, delete, put, Body, tiploc_body, association_body, schedule_body, Change, changes};
 ghost use Rattle.docker_model.specs.state.Order.{IsBelow, IsAtMost};
 ghost use Rattle.docker_model.specs.state.Op.{key_cmp, op_of};
@@ -19,8 +18,8 @@ ghost use Rattle.docker_model.specs.docker.DockerText.{IsDockerText};
 ghost use Rattle.docker_laws.specs.NearDay.{runs_near};
 ghost use Rattle.docker_laws.specs.Excerpt.{IsExcerpt};
 ghost use Rattle.docker_laws.specs.StandIn.{IsStandIn, StandsFor};
-ghost use Rattle.docker_laws.specs.Thinning.{is_end, thin_lines, lines_for, body_for, may_matter, thinned, thin_act, thin_change};
-ghost use Rattle.docker_laws.specs.Thinning.{thin_changes, table_of, IsThinning, HasNoChangeOf, AreAtMost, without, IsStateOfChanges};
+ghost use Rattle.docker_laws.specs.Thinning.{ends_elsewhere, thin_lines, lines_for, body_for, may_matter, thinned, thin_act, thin_change};
+ghost use Rattle.docker_laws.specs.Thinning.{thin_changes, table_of, IsThinning, HasNoChangeOf, AreAtMost, without, IsStateOfChanges, wanted_changes, HasUidsOf};
 ghost use Rattle.docker_laws.specs.FileSummary.{summary_of};
 
 /// Suppose that the bodies of a table are well formed. For a place and a day, the table and its
@@ -80,33 +79,16 @@ pub fn stand_in_of_a_schedule()
 {}
 
 /// A body, and the body that the docker of a place needs instead of it, belong to the same key. The
-/// thin records of a schedule form a schedule with the same key and the same first record. There
-/// are at most three thin records, and they call only at places where the schedule calls.
+/// thin records of a schedule form a schedule with the same key and the same first record. They
+/// don't call at the place if the schedule doesn't.
 pub fn thin_body_is_of_its_key()
-    ensures schedule { (lines : List (List ℕ)) → IsSchedule lines → IsSchedule (thin_lines lines) }
-    ensures of_key { (key : ScheduleKey) (lines : List (List ℕ))
-        → IsScheduleOf key lines → IsScheduleOf key (thin_lines lines) }
+    ensures of_key { (place : List ℕ) (key : ScheduleKey) (lines : List (List ℕ))
+        → IsScheduleOf key lines → IsScheduleOf key (thin_lines place (first_record lines)) }
     ensures body { (place : List ℕ) (key : Key) (body : Body)
         → IsBodyOf key body → IsBodyOf key (body_for place body) }
-    ensures few { (lines : List (List ℕ)) → IsSchedule lines → length (thin_lines lines) ≤ 3 }
-    ensures first { (lines : List (List ℕ)) → first_record (thin_lines lines) ≡ first_record lines }
-    ensures elsewhere { (place : List ℕ) (lines : List (List ℕ))
-        → calls_at place lines ≡ false → calls_at place (thin_lines lines) ≡ false }
-{}
-
-/// A walk over the records of a schedule can compute the schedule's thin records, and whether the
-/// schedule calls at a place.
-pub fn thin_lines_in_a_walk()
-    ensures first { (basic : List ℕ) → thin_lines (basic ∷ []) ≡ basic ∷ [] }
-    ensures end { (basic : List ℕ) (others : List (List ℕ)) (line : List ℕ)
-        → is_end (kind_of line) ≡ true
-        → thin_lines (basic ∷ others ++ line ∷ []) ≡ thin_lines (basic ∷ others) ++ line ∷ [] }
-    ensures between { (basic : List ℕ) (others : List (List ℕ)) (line : List ℕ)
-        → is_end (kind_of line) ≡ false
-        → thin_lines (basic ∷ others ++ line ∷ []) ≡ thin_lines (basic ∷ others) }
-    ensures calls { (place : List ℕ) (lines : List (List ℕ)) (line : List ℕ)
-        → calls_at place (lines ++ line ∷ []) ≡ (calls_at place lines
-        || (is_location (kind_of line) && bytes_eq (columns 3 9 line) place)) }
+    ensures ends { (place : List ℕ) → calls_at place (ends_elsewhere place) ≡ false }
+    ensures elsewhere { (place : List ℕ) (lines : List (List ℕ)) → calls_at place lines ≡ false
+        → calls_at place (thin_lines place (first_record lines)) ≡ false }
 {}
 
 /// If a schedule runs on no start day near the day, the thin form of its put is a deletion.
@@ -127,7 +109,8 @@ pub fn thin_act_by_case()
         → thin_act place day (put (schedule_body lines)) ≡ put (schedule_body lines) }
     ensures thin { (place : List ℕ) (day : ℕ) (lines : List (List ℕ))
         → runs_near day (first_record lines) ≡ true → calls_at place lines ≡ false
-        → thin_act place day (put (schedule_body lines)) ≡ put (schedule_body (thin_lines lines)) }
+        → thin_act place day (put (schedule_body lines))
+        ≡ put (schedule_body (thin_lines place (first_record lines))) }
     ensures renewed { (day : ℕ) (line : List ℕ)
         → runs_near day (as_new line) ≡ runs_near day line }
 {}
@@ -217,6 +200,30 @@ pub fn state_of_thinning_has_one_docker()
     ensures text { (place : List ℕ) (day : ℕ) (file : List (List ℕ)) (kept : List Change)
         (part whole : State) → IsFile file → length file ≤ most_records
         → IsThinning place day (changes file) kept → IsStateOfChanges file kept part
+        → IsSummary (file ∷ []) 0 whole → (text : List ℕ)
+        → IsDockerText (live_table whole) place day text
+        ↔ IsDockerText (live_table part) place day text }
+{}
+
+/// Of the changes of a thinning, those to schedules that the docker of the place doesn't need may be
+/// dropped. The other changes of a file make a valid state. This state and the summary of the file
+/// have the same docker for the place and the day.
+pub fn wanted_changes_have_one_docker()
+    ensures valid { (place : List ℕ) (day : ℕ) (file : List (List ℕ)) (kept : List Change)
+        (uids : List (List ℕ)) (part : State) → IsFile file → length file ≤ most_records
+        → IsThinning place day (changes file) kept
+        → IsStateOfChanges file (wanted_changes uids kept) part → IsValid part }
+    ensures list { (place : List ℕ) (day : ℕ) (file : List (List ℕ)) (kept : List Change)
+        (uids : List (List ℕ)) (part whole : State) → IsFile file → length file ≤ most_records
+        → IsThinning place day (changes file) kept → HasUidsOf place kept uids
+        → IsStateOfChanges file (wanted_changes uids kept) part
+        → IsSummary (file ∷ []) 0 whole → (lines : List DockerLine)
+        → IsDockerList (live_table whole) place day lines
+        ↔ IsDockerList (live_table part) place day lines }
+    ensures text { (place : List ℕ) (day : ℕ) (file : List (List ℕ)) (kept : List Change)
+        (uids : List (List ℕ)) (part whole : State) → IsFile file → length file ≤ most_records
+        → IsThinning place day (changes file) kept → HasUidsOf place kept uids
+        → IsStateOfChanges file (wanted_changes uids kept) part
         → IsSummary (file ∷ []) 0 whole → (text : List ℕ)
         → IsDockerText (live_table whole) place day text
         ↔ IsDockerText (live_table part) place day text }

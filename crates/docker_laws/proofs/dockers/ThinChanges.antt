@@ -28,11 +28,11 @@ use Rattle.cif_laws.proofs.orders.AtMost.{less_not_greater, at_most_trans}
 use Rattle.cif_laws.proofs.lists.Membership.{cons-Contains, cons-Contains-first, nil-Contains, Contains-single}
 
 -- whether the change has this key
-abbrev is_of : Key → Change → Bool
+abbrev pub is_of : Key → Change → Bool
 is_of key change = is_eq (key_cmp change.key key)
 
 -- the body at a key after an act, or `None` after a deletion
-abbrev left_by : Act → Option Body
+abbrev pub left_by : Act → Option Body
 left_by act = body_of (op_of act)
 
 -- ---- thinning commutes with one change
@@ -52,7 +52,7 @@ thin_left place day (put body) = by (may_count day (put_with body))
 after_here : (table : Table) (change : Change) (key : Key) → is_of key change ≡ true → after_change table change key ≡ left_by change.act
 after_here table change key h = λ i. cond (h i) (left_by change.act) (table key)
 
-after_there : (table : Table) (change : Change) (key : Key) → is_of key change ≡ false → after_change table change key ≡ table key
+pub after_there : (table : Table) (change : Change) (key : Key) → is_of key change ≡ false → after_change table change key ≡ table key
 after_there table change key h = λ i. cond (h i) (left_by change.act) (table key)
 
 -- if two tables have the same body at a key, the two thinned tables also have the same body at this
@@ -142,7 +142,7 @@ table_more table [] change = refl
 table_more table (first ∷ changes) change = table_more (after_change table first) changes change
 
 -- changes to other keys leave the body at a key unchanged
-untouched : (changes : List Change) (table : Table) (key : Key) → HasNoChangeOf key changes → fold after_change table changes key ≡ table key
+pub untouched : (changes : List Change) (table : Table) (key : Key) → HasNoChangeOf key changes → fold after_change table changes key ≡ table key
 untouched [] table key none = refl
 untouched (change ∷ changes) table key none =
     by (is_of key change) refl
@@ -395,13 +395,13 @@ module _ (place : List ℕ) (day : ℕ) (lines : List (List ℕ)) where
   -- is the same put
   pub act_calls : runs_near day (first_record lines) ≡ true → calls_at place lines ≡ true
       → thin_act place day (put (schedule_body lines)) ≡ put (schedule_body lines)
-  act_calls near calls = act_near near ∙ (λ i. put (schedule_body (cond (calls i) lines (thin_lines lines))))
+  act_calls near calls = act_near near ∙ (λ i. put (schedule_body (cond (calls i) lines (thin_lines place (first_record lines)))))
 
   -- if a schedule runs on a start day near the day but doesn't call at the place, the thin form of
   -- its put is a put of the thin records
   pub act_thin : runs_near day (first_record lines) ≡ true → calls_at place lines ≡ false
-      → thin_act place day (put (schedule_body lines)) ≡ put (schedule_body (thin_lines lines))
-  act_thin near none = act_near near ∙ (λ i. put (schedule_body (cond (none i) lines (thin_lines lines))))
+      → thin_act place day (put (schedule_body lines)) ≡ put (schedule_body (thin_lines place (first_record lines)))
+  act_thin near none = act_near near ∙ (λ i. put (schedule_body (cond (none i) lines (thin_lines place (first_record lines)))))
 
 -- whether a basic schedule runs on a start day near the day doesn't depend on its transaction
 pub near_of_new : (day : ℕ) (line : List ℕ) → runs_near day (as_new line) ≡ runs_near day line

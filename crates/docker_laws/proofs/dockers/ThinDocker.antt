@@ -29,7 +29,7 @@ use Rattle.docker_laws.proofs.dockers.LapsedDocker.{text_with}
 use Rattle.docker_laws.proofs.dockers.NearDocker.{near_start, IsStartNear, runs_near_by, started, partner_near}
 use Rattle.docker_laws.specs.Excerpt.{IsExcerpt}
 use Rattle.docker_laws.proofs.dockers.ExcerptDocker.{excerpt_list_iff, excerpt_text_iff}
-use Rattle.docker_laws.proofs.dockers.ThinBody.{first_of_thin, thin_elsewhere, needed_is_body}
+use Rattle.docker_laws.proofs.dockers.ThinBody.{thin_elsewhere, needed_is_body}
 
 -- ---- which records may replace a schedule
 
@@ -67,9 +67,9 @@ stand_in_by_first place day whole lines same none no_other = record {
 pub needed_stand_in : (place : List ℕ) (day : ℕ) (lines : List (List ℕ)) → IsStandIn place day lines (lines_for place lines)
 needed_stand_in place day lines = by (calls_at place lines) refl
   where
-    by : (b : Bool) → calls_at place lines ≡ b → IsStandIn place day lines (cond b lines (thin_lines lines))
+    by : (b : Bool) → calls_at place lines ≡ b → IsStandIn place day lines (cond b lines (thin_lines place (first_record lines)))
     by true h = record { runs = λ start near. refl; identity = refl; calls = λ either. refl }
-    by false h = stand_in_by_first place day lines (thin_lines lines) (first_of_thin lines) h (thin_elsewhere place lines h)
+    by false h = stand_in_by_first place day lines (thin_lines place (first_record lines)) refl h (thin_elsewhere place lines h)
 
 -- ---- two tables have the same docker if each has all that the docker needs from the other table
 

@@ -51,7 +51,7 @@ module _ (file : List (List ℕ)) (kept : List Change) (state : State) (of : IsS
 
   -- suppose that, of two kept changes to one key, the later change has the higher record number.
   -- Then the live table of the state equals the table after the kept changes
-  live_is_made : AllLater Apart kept → (key : Key) → live_table state key ≡ table_of kept key
+  pub live_is_made : AllLater Apart kept → (key : Key) → live_table state key ≡ table_of kept key
   live_is_made apart key =
       by (last_there entries empty_table key (later_map_weaker (entry_of_change file) Apart Ascends (within_file file) kept apart)) (find_in state.entries key)
       ∙ sym (λ i. fold_entries file empty_table kept i key)
@@ -87,7 +87,7 @@ live_of_summary file whole summary key =
 
 module _ (place : List ℕ) (day : ℕ) (file : List (List ℕ)) (kept : List Change) (is : IsThinning place day (changes file) kept) where
   -- of two kept changes to one key, the later change has the higher record number
-  kept_apart : AllLater Apart kept
+  pub kept_apart : AllLater Apart kept
   kept_apart =
       sublist_later Apart kept (map (thin_change place day) (changes file)) is.some
       (later_map Apart (thin_change place day) (changes file) (changes_apart 1 file))
@@ -164,8 +164,10 @@ kept_good place day file is_file few kept is change among =
     subst (λ (c : Change). (IsGoodKey c.key × IsOpOf c.key (op_of c.act)) × ((2 ≤ c.number) × (c.number < 2 ^ 32 - 1))) was.2
     ((told.good.0, thin_op place day was.0.key was.0.act told.good.1), (told.low, told.high))
 
+-- the state made from any of the kept changes
 module _ (place : List ℕ) (day : ℕ) (file : List (List ℕ)) (is_file : IsFile file) (few : length file ≤ most_records) (kept : List Change)
-    (is : IsThinning place day (changes file) kept) (state : State) (of : IsStateOfChanges file kept state) where
+    (is : IsThinning place day (changes file) kept) (some : List Change) (within : (change : Change) → Contains some change → Contains kept change)
+    (state : State) (of : IsStateOfChanges file some state) where
   in_ledger : Contains (map (λ (item : LedgerItem). item.stamp) state.ledger) (file_stamp_of file)
   in_ledger =
       subst (λ items. Contains (map (λ (item : LedgerItem). item.stamp) items) (file_stamp_of file)) (sym of.ledger)
@@ -177,32 +179,43 @@ module _ (place : List ℕ) (day : ℕ) (file : List (List ℕ)) (is_file : IsFi
       let told = kept_good place day file is_file few kept is change among in
       record { key = told.0.0; stamp = record { in_ledger = in_ledger; low = told.1.0; high = told.1.1 }; op = told.0.1 }
 
-  -- the state made from the kept changes is valid
-  pub thin_valid : IsValid state
-  thin_valid = record {
+  -- the state made from any of the kept changes is valid
+  pub some_valid : IsValid state
+  some_valid = record {
     horizon = subst IsDay (sym of.horizon) (omega arith);
     ledger = subst IsLedger (sym of.ledger) (ledger_of_one (ledger_item_of file) (item_good file is_file));
     entries = (
       all_members (IsGoodEntry state.ledger) state.entries (λ entry among.
           let told = (of.entries entry.0 entry.1).0 among in
-          let found = Contains-map (entry_of_change file) kept (entry.0, entry.1) told.among in
-          subst (IsGoodEntry state.ledger) found.2 (entry_good found.0 found.1)),
+          let found = Contains-map (entry_of_change file) some (entry.0, entry.1) told.among in
+          subst (IsGoodEntry state.ledger) found.2 (entry_good found.0 (within found.0 found.1))),
       of.ascending,
     );
     have_lapsed = all_members (λ (entry : Keyed). HasNotToLapse state.horizon entry.1.op) state.entries
         (λ entry among. subst (λ horizon. HasNotToLapse horizon entry.1.op) (sym of.horizon) (no_lapse entry.1.op));
   }
 
+-- the bodies of the summary of a file are well formed
+pub summary_good : (file : List (List ℕ)) → IsFile file → length file ≤ most_records → (whole : State) → IsSummary (file ∷ []) 0 whole
+    → HasGoodBodies (live_table whole)
+summary_good file is_file few whole summary =
+    good_bodies whole
+    (summary_is_valid (file ∷ []) 0 whole (omega arith) (all_of_one IsFile is_file) (all_of_one (λ f. length f ≤ most_records) few) summary)
+  where
+    all_of_one : (P : List (List ℕ) → Type 0) → P file → All P (file ∷ [])
+    all_of_one P here = all_members P (file ∷ []) (λ other among. subst P (Contains-single file other among) here)
+
+module _ (place : List ℕ) (day : ℕ) (file : List (List ℕ)) (is_file : IsFile file) (few : length file ≤ most_records) (kept : List Change)
+    (is : IsThinning place day (changes file) kept) (state : State) (of : IsStateOfChanges file kept state) where
+  -- the state made from the kept changes is valid
+  pub thin_valid : IsValid state
+  thin_valid = some_valid place day file is_file few kept is kept (λ change among. among) state of
+
   -- ---- the state made from the kept changes has the same docker as the summary of the file
 
   module _ (whole : State) (summary : IsSummary (file ∷ []) 0 whole) where
     whole_good : HasGoodBodies (live_table whole)
-    whole_good =
-        good_bodies whole
-        (summary_is_valid (file ∷ []) 0 whole (omega arith) (all_of_one IsFile is_file) (all_of_one (λ f. length f ≤ most_records) few) summary)
-      where
-        all_of_one : (P : List (List ℕ) → Type 0) → P file → All P (file ∷ [])
-        all_of_one P here = all_members P (file ∷ []) (λ other among. subst P (Contains-single file other among) here)
+    whole_good = summary_good file is_file few whole summary
 
     same_live : thinned place day (live_table whole) ≡ live_table state
     same_live = λ i key. same key i

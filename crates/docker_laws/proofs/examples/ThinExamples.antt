@@ -33,17 +33,24 @@ use Rattle.docker_laws.proofs.dockers.Events.{event_calls}
 use Rattle.docker_laws.proofs.dockers.FewMidnights.{falls_below}
 use Rattle.docker_laws.proofs.dockers.ThinDocker.{stand_in_by_first}
 use Rattle.docker_laws.proofs.dockers.ThinChanges.{thinning_of_all, thinning_removed}
-use Rattle.docker_laws.proofs.examples.ExcerptExamples.{place, key_of, stops, short, stops_key, short_key, link, link_key, far_link, far_link_key}
+use Rattle.docker_laws.proofs.examples.ExcerptExamples.{place, key_of, stops, stops_key, short_key, link, link_key, far_link, far_link_key}
 
 -- ---- thin records
 
--- for a train that doesn't call at the place, only the basic schedule, the origin and the terminus
--- are kept
+-- for a train that doesn't call at the place, only the basic schedule is kept, followed by a made-up
+-- origin and terminus
 night_elsewhere : lines_for (codes "EASTRIG") night_schedule
     ≡ bs (codes "N") (codes "C20001") (codes "240610") (codes "240610") (codes "1000000") (codes "2B20") (codes "P")
-    ∷ lo (codes "ASHFELD") no_text (codes "2355") (codes "2355") (codes "1") (codes "SL")
-    ∷ lt (codes "BRAYTON") no_text (codes "0020") (codes "0021") (codes "2") (codes "FL") ∷ []
+    ∷ lo (codes "NOWHERE") no_text (codes "0000") (codes "0000") no_text no_text
+    ∷ lt (codes "NOWHERE") no_text (codes "0000") (codes "0000") no_text no_text ∷ []
 night_elsewhere = refl
+
+-- if the place is NOWHERE, the made-up origin and terminus are at ANOTHER
+night_from_nowhere : lines_for (codes "NOWHERE") night_schedule
+    ≡ bs (codes "N") (codes "C20001") (codes "240610") (codes "240610") (codes "1000000") (codes "2B20") (codes "P")
+    ∷ lo (codes "ANOTHER") no_text (codes "0000") (codes "0000") no_text no_text
+    ∷ lt (codes "ANOTHER") no_text (codes "0000") (codes "0000") no_text no_text ∷ []
+night_from_nowhere = refl
 
 -- for a train that calls at the place, all records are kept
 night_here : lines_for place night_schedule ≡ night_schedule
@@ -61,6 +68,12 @@ way_round =
     ∷ lo (codes "ASHFELD") no_text (codes "2300") no_text (codes "1") no_text
     ∷ li (codes "DUNMERE") no_text no_text no_text (codes "2320") no_text no_text no_text no_text no_text
     ∷ lt (codes "BRAYTON") no_text (codes "2350") no_text (codes "1") no_text ∷ []
+
+-- the thin records of the overlay
+abbrev thin_way_round : List (List ℕ)
+thin_way_round =
+    first_record way_round ∷ lo (codes "NOWHERE") no_text (codes "0000") (codes "0000") no_text no_text
+    ∷ lt (codes "NOWHERE") no_text (codes "0000") (codes "0000") no_text no_text ∷ []
 
 -- a schedule that runs from 1 to 3 June
 abbrev long_ago : List (List ℕ)
@@ -80,7 +93,7 @@ all_changes =
 -- train that calls there and the thin overlay, and a deletion
 kept_of_all : thin_changes place 23538 all_changes
     ≡ change_of 3 (tiploc_key (codes "COLWELL")) (put (tiploc_body (spaces 63))) ∷ change_of 4 (association_key link_key) (put (association_body link))
-    ∷ change_of 6 (schedule_key stops_key) (put (schedule_body stops)) ∷ change_of 9 (schedule_key short_key) (put (schedule_body short))
+    ∷ change_of 6 (schedule_key stops_key) (put (schedule_body stops)) ∷ change_of 9 (schedule_key short_key) (put (schedule_body thin_way_round))
     ∷ change_of 13 (schedule_key (key_of (codes "C40003") 23528 80)) delete ∷ []
 unfolding days_from_civil day_count days_of_years days_of_months
 kept_of_all = refl
@@ -223,7 +236,7 @@ abbrev overlaid : List Change
 overlaid = put_schedule 2 stops_key stops ∷ put_schedule 5 short_key way_round ∷ []
 
 -- for 11 June the overlay is kept in its thin form
-overlay_is_kept : thin_changes place 23538 overlaid ≡ put_schedule 2 stops_key stops ∷ put_schedule 5 short_key short ∷ []
+overlay_is_kept : thin_changes place 23538 overlaid ≡ put_schedule 2 stops_key stops ∷ put_schedule 5 short_key thin_way_round ∷ []
 unfolding days_from_civil day_count days_of_years days_of_months
 overlay_is_kept = refl
 
@@ -325,15 +338,22 @@ follows_on_key = key_of (codes "C40002") 23539 80
 abbrev partner_alone : List Change
 partner_alone = put_schedule 2 follows_on_key follows_on ∷ []
 
+-- the put of the train's thin records
+abbrev thin_partner : List Change
+thin_partner =
+    put_schedule 2 follows_on_key
+    (first_record follows_on ∷ lo (codes "NOWHERE") no_text (codes "0000") (codes "0000") no_text no_text
+    ∷ lt (codes "NOWHERE") no_text (codes "0000") (codes "0000") no_text no_text ∷ []) ∷ []
+
 -- for 11 June the train's schedule is kept: the train may be the associated train of a train on 11
 -- June, and start a day later
-partner_is_kept : thin_changes place 23538 partner_alone ≡ partner_alone
+partner_is_kept : thin_changes place 23538 partner_alone ≡ thin_partner
 unfolding days_from_civil day_count days_of_years days_of_months
 partner_is_kept = refl
 
 -- for 15 June the train's schedule is kept too: a train may start on 13 June, pass midnight twice,
 -- and have the train of 12 June as its associated train
-partner_is_still_kept : thin_changes place 23542 partner_alone ≡ partner_alone
+partner_is_still_kept : thin_changes place 23542 partner_alone ≡ thin_partner
 unfolding days_from_civil day_count days_of_years days_of_months
 partner_is_still_kept = refl
 

@@ -1,9 +1,9 @@
--- A schedule that is a deletion or doesn't run near the day is handled as a deletion. For any other
--- schedule, only the lines that matter at the place are kept.
-use Rattle.std.proofs.Common.{◌≡◌, refl, sym, ap, ◌∙◌, true, false}
+-- A schedule that is a deletion or doesn't run near the day is handled as a deletion. Of any other
+-- schedule, all lines are kept if it calls at the place, and otherwise only the basic schedule.
+use Rattle.std.proofs.Common.{◌≡◌, refl, sym, ap, ◌∙◌, Bool, true, false}
 use Rattle.std.specs.Prelude.{◌||◌, not}
 use Rattle.cif_file.proofs.FrontLemmas.{on_ok_one}
-use Rattle.docker_excerpt.proofs.ThinLemmas.{opened_deletes, opened_kept, either, neither}
+use Rattle.docker_excerpt.proofs.ThinLemmas.{opened_deletes, opened_whole, opened_elsewhere, first_line, either, neither}
 use Rattle.cif_file.specs.KeeperRead.{change_opened}
 use Rattle.docker_excerpt.proofs.thinned.Thinned.add_opened.Goals as goal
 
@@ -16,16 +16,24 @@ returns-then-is_deletion-runs_near c =
     (either c.args.opened.progress.deletion c.args.runs_near
     (ap (λ test. test || not c.args.runs_near) (sym c.is_deletion.ensures) ∙ c.if-is_deletion-runs_near.true))))
 
--- the schedule isn't a deletion, and it runs near the day
-none : (c : goal.After-keep) → (c.args.opened.progress.deletion ≡ false) × (c.args.runs_near ≡ true)
-none c =
-    neither c.args.opened.progress.deletion c.args.runs_near
-    (ap (λ test. test || not c.args.runs_near) (sym c.is_deletion.ensures) ∙ c.if-is_deletion-runs_near.false)
+-- if neither `deletion` nor `not runs` is true, both are false
+none : (deletion runs test : Bool) → test ≡ deletion → (test || not runs) ≡ false → (deletion ≡ false) × (runs ≡ true)
+none deletion runs test same fails = neither deletion runs (ap (λ t. t || not runs) (sym same) ∙ fails)
 
-pub returns : goal.returns
-returns c =
+pub returns-then-calls_at : goal.returns-then-calls_at
+returns-then-calls_at c =
+    let stays = none c.args.opened.progress.deletion c.args.runs_near c.is_deletion.result c.is_deletion.ensures c.if-is_deletion-runs_near.false in
     on_ok_one c.keep.result c.keep.ensures
     (λ kept. λ place day lines renewed read whole near all has.
     kept place day (change_opened c.args.opened lines) refl
-    (opened_kept place day c.args.opened c.args.runs_near lines read whole near
-    (none c).0 (none c).1 c.args.self.now has.place_is c.args.lines.now renewed c.in_ok-body.body c.in_ok-body.ensures) all has)
+    (opened_whole place day c.args.opened c.args.runs_near lines read whole near stays.0 stays.1 c.args.self.now has.place_is c.args.lines.now renewed
+    c.in_ok-body.body c.in_ok-body.ensures (sym c.calls_at.ensures ∙ c.if-calls_at.true)) all has)
+
+pub returns : goal.returns
+returns c =
+    let stays = none c.args.opened.progress.deletion c.args.runs_near c.is_deletion.result c.is_deletion.ensures c.if-is_deletion-runs_near.false in
+    on_ok_one c.keep_elsewhere.result c.keep_elsewhere.ensures
+    (λ kept. λ place day lines renewed read whole near all has.
+    kept place day (change_opened c.args.opened lines) refl
+    (opened_elsewhere place day c.args.opened c.args.runs_near lines read whole near stays.0 stays.1 c.args.self.now has.place_is c.args.lines.now renewed
+    c.in-Some.basic.now (first_line c.args.lines.now c.in-Some.basic.now c.in-Some.ensures.value) (sym c.calls_at.ensures ∙ c.if-calls_at.false)) all has)

@@ -1,0 +1,166 @@
+-- Of the kept changes, those to schedules that the docker of the place doesn't need may be dropped.
+-- The state made from the other changes has the same docker for the place and the day.
+use Rattle.std.proofs.Common.{◌≡◌, ℕ, ◌≤◌, List, [], ◌∷◌, length, subst, inl, inr, ◌⊎◌, refl, ap, sym, ◌∙◌}
+use Rattle.std.proofs.Common.{Bool, true, false, cond, Some, None, Contains}
+use Rattle.std.specs.Prelude.{Option, ◌↔◌, option_and_then, fold}
+use Rattle.std.specs.Str.{bytes_eq}
+use Rattle.std.proofs.lemmas.Slice.Eq.{bytes_eq-Decides}
+use Rattle.docker_model.specs.file.File.{IsFile, most_records}
+use Rattle.docker_model.specs.file.Change.{Key, tiploc_key, association_key, schedule_key, ScheduleKey, Body, schedule_body, association_body}
+use Rattle.docker_model.specs.file.Change.{Act, delete, put, Change, changes}
+use Rattle.docker_model.specs.state.Table.{Table, empty_table, after_change}
+use Rattle.docker_model.specs.state.State.{State, IsValid, live_table}
+use Rattle.docker_model.specs.state.Summary.{IsSummary}
+use Rattle.docker_model.specs.docker.DockerLine.{DockerLine}
+use Rattle.docker_model.specs.docker.DockerList.{IsDockerList}
+use Rattle.docker_model.specs.docker.DockerText.{IsDockerText}
+use Rattle.docker_laws.specs.Excerpt.{IsNeeded, IsConcerned, IsExcerpt}
+use Rattle.docker_laws.specs.Thinning.{may_matter, thin_body, thinned, table_of, IsThinning, IsStateOfChanges, is_wanted, wanted_changes, HasUidsOf}
+use Rattle.cif_laws.proofs.lists.Membership.{cons-Contains, cons-Contains-first}
+use Rattle.cif_laws.proofs.lists.FilteredMembers.{filter_back}
+use Rattle.cif_laws.proofs.orders.Orders.{same_key}
+use Rattle.cif_laws.proofs.files.ChangeOrder.{Apart}
+use Rattle.state_laws.proofs.indexes.CallsTest.{calls_test, any_forth}
+use Rattle.docker_laws.proofs.dockers.Sublists.{sublist_filter, sublist_later}
+use Rattle.docker_laws.proofs.dockers.ThinChanges.{is_of, left_by, after_there, untouched}
+use Rattle.docker_laws.proofs.dockers.ThinDocker.{thin_excerpt_list, thin_excerpt_text}
+use Rattle.docker_laws.proofs.dockers.ThinState.{live_is_made, live_of_summary, kept_apart, some_valid, summary_good}
+
+-- ---- a body in the table was put by a change
+
+-- an act that leaves a body puts this body
+put_by : (act : Act) (body : Body) → left_by act ≡ Some body → act ≡ put body
+put_by delete body left = absurd (let bad : None ≡ Some body = left in cc)
+put_by (put other) body left = cc
+
+-- if a table has a body at a key after some changes, a change put it, or the table had it before
+put_or_before : (all : List Change) (table : Table) (key : Key) (body : Body) → fold after_change table all key ≡ Some body
+    → ((change : Change) × Contains all change × (change.key ≡ key) × (change.act ≡ put body)) ⊎ (table key ≡ Some body)
+put_or_before [] table key body there = inr there
+put_or_before (change ∷ all) table key body there = by (put_or_before all (after_change table change) key body there)
+  where
+    Put : List Change → Type 0
+    Put list = (one : Change) × Contains list one × (one.key ≡ key) × (one.act ≡ put body)
+
+    first : (b : Bool) → is_of key change ≡ b → after_change table change key ≡ Some body → Put (change ∷ all) ⊎ (table key ≡ Some body)
+    first true h left =
+        inl (
+          change,
+          cons-Contains-first change all,
+          same_key change.key key h,
+          put_by change.act body (sym (λ i. cond (h i) (left_by change.act) (table key)) ∙ left),
+        )
+    first false h left = inr (sym (after_there table change key h) ∙ left)
+
+    by : Put all ⊎ (after_change table change key ≡ Some body) → Put (change ∷ all) ⊎ (table key ≡ Some body)
+    by (inl found) = inl (found.0, cons-Contains change all found.0 found.1, found.2, found.3)
+    by (inr before) = first (is_of key change) refl before
+
+-- if the table after some changes has a body at a key, one of these changes put it
+pub was_put : (all : List Change) (key : Key) (body : Body) → table_of all key ≡ Some body
+    → (change : Change) × Contains all change × (change.key ≡ key) × (change.act ≡ put body)
+was_put all key body there = by (put_or_before all empty_table key body there)
+  where
+    by : ((change : Change) × Contains all change × (change.key ≡ key) × (change.act ≡ put body)) ⊎ (empty_table key ≡ Some body)
+        → (change : Change) × Contains all change × (change.key ≡ key) × (change.act ≡ put body)
+    by (inl found) = found
+    by (inr before) = absurd (let bad : None ≡ Some body = before in cc)
+
+-- ---- the table after the wanted changes
+
+module _ (uids : List (List ℕ)) where
+  -- at a wanted key the table after the wanted changes equals the table after all changes
+  wanted_there : (key : Key) → is_wanted uids key ≡ true → (all : List Change) (one two : Table) → one key ≡ two key
+      → fold after_change one (wanted_changes uids all) key ≡ fold after_change two all key
+  wanted_there key here [] one two same = same
+  wanted_there key here (change ∷ all) one two same = by (is_wanted uids change.key) refl (wanted_there key here all)
+    where
+      apart : is_wanted uids change.key ≡ false → (b : Bool) → is_of key change ≡ b → b ≡ false
+      apart h true is = let bad : false ≡ true = sym h ∙ ap (is_wanted uids) (same_key change.key key is) ∙ here in sym bad
+      apart h false is = refl
+
+      by : (b : Bool) → is_wanted uids change.key ≡ b
+          → ((first second : Table) → first key ≡ second key → fold after_change first (wanted_changes uids all) key ≡ fold after_change second all key)
+          → fold after_change one (cond (is_wanted uids change.key) (change ∷ wanted_changes uids all) (wanted_changes uids all)) key
+          ≡ fold after_change (after_change two change) all key
+      by true h rest =
+          (λ i. fold after_change one (cond (h i) (change ∷ wanted_changes uids all) (wanted_changes uids all)) key)
+          ∙ rest (after_change one change) (after_change two change) (λ i. cond (is_of key change) (left_by change.act) (same i))
+      by false h rest =
+          (λ i. fold after_change one (cond (h i) (change ∷ wanted_changes uids all) (wanted_changes uids all)) key)
+          ∙ rest one (after_change two change) (same ∙ sym (after_there two change key (apart h (is_of key change) refl)))
+
+  -- at any other key the table after the wanted changes has no body
+  wanted_gone : (key : Key) → is_wanted uids key ≡ false → (all : List Change) → table_of (wanted_changes uids all) key ≡ None
+  wanted_gone key gone all = untouched (wanted_changes uids all) empty_table key none
+    where
+      none : (change : Change) → Contains (wanted_changes uids all) change → ¬ (change.key ≡ key)
+      none change among same =
+          let passed = (filter_back (λ (one : Change). is_wanted uids one.key) all change among).1 in
+          let bad : true ≡ false = sym passed ∙ ap (is_wanted uids) same ∙ gone in
+          absurd (let worse : true ≡ false = bad in cc)
+
+  -- a schedule with one of the UIDs is wanted
+  pub wanted_uid : (key : ScheduleKey) → Contains uids key.uid → is_wanted uids (schedule_key key) ≡ true
+  wanted_uid key among = any_forth (λ uid. bytes_eq uid key.uid) uids key.uid among ((bytes_eq-Decides key.uid key.uid).1 refl)
+
+-- ---- the state made from the wanted changes has the same docker as the summary of the file
+
+module _ (place : List ℕ) (day : ℕ) (file : List (List ℕ)) (is_file : IsFile file) (few : length file ≤ most_records) (kept : List Change)
+    (is : IsThinning place day (changes file) kept) (uids : List (List ℕ)) (part : State)
+    (of : IsStateOfChanges file (wanted_changes uids kept) part) where
+  abbrev wanted : List Change
+  wanted = wanted_changes uids kept
+
+  -- the state made from the wanted changes is valid
+  pub wanted_valid : IsValid part
+  wanted_valid =
+      some_valid place day file is_file few kept is wanted
+      (λ change among. (filter_back (λ (one : Change). is_wanted uids one.key) kept change among).0) part of
+
+  live_wanted : (key : Key) → live_table part key ≡ table_of wanted key
+  live_wanted =
+      live_is_made file wanted part of
+      (sublist_later Apart wanted kept (sublist_filter (λ (one : Change). is_wanted uids one.key) kept) (kept_apart place day file kept is))
+
+  module _ (has : HasUidsOf place kept uids) (whole : State) (summary : IsSummary (file ∷ []) 0 whole) where
+    abbrev thin : Table
+    thin = thinned place day (live_table whole)
+
+    table_is_thin : (key : Key) → table_of kept key ≡ thin key
+    table_is_thin key =
+        is.enough key
+        ∙ sym (ap (λ (found : Option Body). cond (may_matter place key) (option_and_then (thin_body place day) found) None)
+        (live_of_summary file whole summary key))
+
+    concerned : (key : ScheduleKey) → IsConcerned thin place key.uid → Contains uids key.uid
+    concerned key (inl call) =
+        let found = was_put kept (schedule_key call.key) (schedule_body call.lines) (table_is_thin (schedule_key call.key) ∙ call.calling.is_live) in
+        subst (Contains uids) call.uid_is
+        (has.calls found.0 call.key call.lines found.1 found.2 found.3 ((calls_test place call.lines).1 call.calling.calls))
+    concerned key (inr named) =
+        let found = was_put kept (association_key named.key) (association_body named.line) (table_is_thin (association_key named.key) ∙ named.linked.is_live) in
+        subst (Contains uids) named.associated_is (has.names found.0 named.key named.line found.1 found.2 found.3)
+
+    not_needed : (key : Key) → is_wanted uids key ≡ false → ¬ IsNeeded thin place key
+    not_needed (tiploc_key code) gone needed = absurd (let bad : true ≡ false = gone in cc)
+    not_needed (association_key key) gone needed = absurd (let bad : true ≡ false = gone in cc)
+    not_needed (schedule_key key) gone needed =
+        let bad : true ≡ false = sym (wanted_uid uids key (concerned key needed)) ∙ gone in
+        absurd (let worse : true ≡ false = bad in cc)
+
+    -- the live table of the state is an excerpt of the thinned table
+    pub wanted_excerpt : IsExcerpt place thin (live_table part)
+    wanted_excerpt key = by (is_wanted uids key) refl
+      where
+        by : (b : Bool) → is_wanted uids key ≡ b → (live_table part key ≡ thin key) ⊎ ((live_table part key ≡ None) × ¬ IsNeeded thin place key)
+        by true h = inl (live_wanted key ∙ wanted_there uids key h kept empty_table empty_table refl ∙ table_is_thin key)
+        by false h = inr (live_wanted key ∙ wanted_gone uids key h kept, not_needed key h)
+
+    -- the state made from the wanted changes has the same docker list as the summary of the file
+    pub wanted_list : (lines : List DockerLine) → IsDockerList (live_table whole) place day lines ↔ IsDockerList (live_table part) place day lines
+    wanted_list = thin_excerpt_list place day (live_table whole) (summary_good file is_file few whole summary) (live_table part) wanted_excerpt
+
+    -- the state made from the wanted changes has the same docker text as the summary of the file
+    pub wanted_text : (text : List ℕ) → IsDockerText (live_table whole) place day text ↔ IsDockerText (live_table part) place day text
+    wanted_text = thin_excerpt_text place day (live_table whole) (summary_good file is_file few whole summary) (live_table part) wanted_excerpt
