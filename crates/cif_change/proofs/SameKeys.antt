@@ -8,7 +8,7 @@ use Rattle.cif_change.specs.declared.key.Key.{Key}
 use Rattle.cif_change.specs.declared.key.Key.TheVariants as key
 use Rattle.cif_change.specs.declared.key.AssocKey.{AssocKey}
 use Rattle.cif_change.specs.declared.key.ScheduleKey.{ScheduleKey}
-use Rattle.cif_change.specs.Meaning.{key_meant}
+use Rattle.cif_change.specs.Meaning.{key_meant, association_key_meant, schedule_key_meant}
 
 -- STP indicators with the same letter are equal
 same_stp : (a b : Stp) → stp_letter a ≡ stp_letter b → a ≡ b
@@ -29,17 +29,7 @@ same_stp stp.Permanent stp.New same = absurd (omega arith)
 same_stp stp.Permanent stp.Overlay same = absurd (omega arith)
 same_stp stp.Permanent stp.Permanent same = refl
 
-abbrev association_meant : AssocKey → model.AssociationKey
-association_meant k = record {
-  base = k.base;
-  associated = k.associated;
-  start = k.start;
-  location = k.location;
-  suffix = k.suffix;
-  indicator = stp_letter k.stp;
-}
-
-same_association : (a b : AssocKey) → association_meant a ≡ association_meant b → a ≡ b
+same_association : (a b : AssocKey) → association_key_meant a ≡ association_key_meant b → a ≡ b
 same_association a b same = λ i. record {
   base = (same i).base;
   associated = (same i).associated;
@@ -49,10 +39,7 @@ same_association a b same = λ i. record {
   stp = same_stp a.stp b.stp (λ j. (same j).indicator) i;
 }
 
-abbrev schedule_meant : ScheduleKey → model.ScheduleKey
-schedule_meant k = record { uid = k.uid; runs_from = k.runs_from; indicator = stp_letter k.stp }
-
-same_schedule : (a b : ScheduleKey) → schedule_meant a ≡ schedule_meant b → a ≡ b
+same_schedule : (a b : ScheduleKey) → schedule_key_meant a ≡ schedule_key_meant b → a ≡ b
 same_schedule a b same = λ i. record {
   uid = (same i).uid;
   runs_from = (same i).runs_from;
@@ -65,8 +52,8 @@ same_key (key.Tiploc a) (key.Tiploc b) same = ap key.Tiploc (let codes : a ≡ b
 same_key (key.Tiploc a) (key.Assoc b) same = cc
 same_key (key.Tiploc a) (key.Schedule b) same = cc
 same_key (key.Assoc a) (key.Tiploc b) same = cc
-same_key (key.Assoc a) (key.Assoc b) same = ap key.Assoc (same_association a b (let keys : association_meant a ≡ association_meant b = cc in keys))
+same_key (key.Assoc a) (key.Assoc b) same = ap key.Assoc (same_association a b (let keys : association_key_meant a ≡ association_key_meant b = cc in keys))
 same_key (key.Assoc a) (key.Schedule b) same = cc
 same_key (key.Schedule a) (key.Tiploc b) same = cc
 same_key (key.Schedule a) (key.Assoc b) same = cc
-same_key (key.Schedule a) (key.Schedule b) same = ap key.Schedule (same_schedule a b (let keys : schedule_meant a ≡ schedule_meant b = cc in keys))
+same_key (key.Schedule a) (key.Schedule b) same = ap key.Schedule (same_schedule a b (let keys : schedule_key_meant a ≡ schedule_key_meant b = cc in keys))

@@ -9,6 +9,11 @@ use Rattle.std.specs.List.{concat}
 abbrev pub Reads : Option (List ℕ) → List ℕ → Option (List ℕ) → Type 0
 Reads old bytes new = old ≡ option_map (λ rest. bytes ++ rest) new
 
+-- the device held this text, or contracts can't refer to its bytes
+abbrev pub Held : Option (List ℕ) → List ℕ → Type 0
+Held None text = ⊤
+Held (Some bytes) text = bytes ≡ text
+
 -- no bytes are left in the source, or contracts can't refer to its bytes
 abbrev pub IsEnd : Option (List ℕ) → Type 0
 IsEnd None = ⊤

@@ -6,7 +6,7 @@ use Rattle.docker_model.specs.file.FaultSoFar.{IsFaultSoFar}
 use Rattle.docker_model.specs.file.FileFault.{IsFileText}
 use Rattle.docker_model.specs.file.FileFault as model
 use Rattle.cif_laws.proofs.files.ReportedFaults.{fault_in_the_end}
-use Rattle.cif_device.specs.Device.{CountsFailure, Reads, IsEnd}
+use Rattle.cif_device.specs.Device.{CountsFailure, Reads, IsEnd, Held}
 use Rattle.cif_device.specs.declared.feed.FeedFault.{FeedFault}
 use Rattle.cif_device.specs.declared.feed.FeedFault.TheVariants as feed
 use Rattle.cif_device.specs.Taken.{AfterEach, HasFed, HasRefused, LosesOnePieceMore}
@@ -23,7 +23,7 @@ use Rattle.cif_file.specs.FileTaken.{TakesFile, RefusesPiece}
 use Rattle.cif_file.proofs.ParserLemmas.{reading_tells_none}
 use Rattle.cif_file.specs.ParserRead.{EndsBy, GoesOn, TellsFault, IsReading, IsLater, IsLast, WantsMemoryAt, IsCauseSoFar, IsFaultReported, IsCauseOf}
 use Rattle.cif_file.specs.ParserRead.{IsRefused}
-use Rattle.cif_file.specs.SourceRead.{Held, IsFaultOf, ReadsEnded, RefusesText, ReadsNoFurther, WantsAtStart, WantsMemory, WantsMemoryBy}
+use Rattle.cif_file.specs.SourceRead.{IsFaultOf, ReadsEnded, RefusesText, ReadsNoFurther, WantsAtStart, WantsMemory, WantsMemoryBy}
 use Rattle.cif_file.specs.FileEnds.{CountsFileOutcome, CountsWhyNoFile, IsFileOutcome, IsWhyNoFile, StopsReadingFile, Wanting}
 
 -- ---- pieces of a source

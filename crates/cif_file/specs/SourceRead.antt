@@ -1,22 +1,16 @@
 -- Defines which text a source held, and what reading this text as a CIF file returned.
-use Rattle.std.specs.Prelude.{◌≡◌, ℕ, ◌<◌, ◌≤◌, ◌⊎◌, List, [], ◌++◌, length, Option, Some, None, ⊤}
+use Rattle.std.specs.Prelude.{◌≡◌, ℕ, ◌<◌, ◌≤◌, ◌⊎◌, List, [], ◌++◌, length, Option, Some}
 use Rattle.docker_model.specs.file.Text.{lines_of, complete_lines}
 use Rattle.docker_model.specs.file.FaultSoFar.{IsFaultSoFar, sure_lines}
 use Rattle.docker_model.specs.file.FileFault.{FileCause, IsFileFault, IsFileText}
 use Rattle.docker_model.specs.file.FileFault as model
-use Rattle.cif_device.specs.Device.{Reads}
+use Rattle.cif_device.specs.Device.{Held, Reads}
 use Rattle.cif_file.specs.declared.ended.Ended.{Ended}
 use Rattle.cif_file.specs.declared.fault.FileFault.{FileFault}
 use Rattle.cif_change.specs.Cause.{cause_meant}
 use Rattle.cif_file.specs.FileRead.{FileRead, FileCounted}
 use Rattle.cif_file.specs.KeeperRead.{Keeps}
 use Rattle.cif_file.specs.ParserRead.{IsOfFileText, IsCountOfFileText, IsEndedText, WantsMemoryAt}
-
--- Says that a source held this text. If contracts can't refer to the bytes of the source, for
--- example because it is endless, the source may have held any text.
-abbrev pub Held : Option (List ℕ) → List ℕ → Type 0
-Held None text = ⊤
-Held (Some left) text = left ≡ text
 
 -- Says that the source held the text of this file, which is within the limit on records.
 pub record ReadsText (limit : ℕ) (left : Option (List ℕ)) (file : FileRead) : Type 0 where

@@ -19,7 +19,8 @@ use Rattle.state_text.specs.declared.stage.Stage.{Stage}
 use Rattle.state_text.specs.declared.stage.Stage.TheVariants as stage
 use Rattle.state_text.specs.FaultMeaning.{IsBadHere}
 use Rattle.state_text.specs.Lines.{AreLinesUpToIn, IsUpToRefusal}
-use Rattle.state_text.specs.Stage.{schedule_meant, stage_meant, begins_item, LeadsTo}
+use Rattle.cif_change.specs.Meaning.{schedule_key_meant}
+use Rattle.state_text.specs.Stage.{stage_meant, begins_item, LeadsTo}
 use Rattle.docker_bytes.specs.StateReading.{IsLineOf}
 
 -- after a line that isn't its schedule's last line, the next part is a line of the same schedule
@@ -39,16 +40,16 @@ line_width key n at of state lines = subst (λ (p : Stage). width (stage_meant p
 pub line_leads : (format : Format) (at : Stage) (entries : ℕ) (key : code.ScheduleKey) (stamp : stamps.Stamp) (n : ℕ) → at ≡ stage.Line entries key stamp n
     → (state : State) (lines taken : List (List ℕ)) (line : List ℕ) → AreGood format (stage_meant at state lines) → taken ≡ lines ++ line ∷ []
     → length lines + 1 < n
-    → AreLinesUpToIn state (schedule_meant key) n (lines ++ line ∷ [])
+    → AreLinesUpToIn state (schedule_key_meant key) n (lines ++ line ∷ [])
     → LeadsTo format (stage_meant at state lines) line at state taken × (begins_item (stage_meant at state taken) ≡ false)
 line_leads format at entries key stamp n is state lines taken line good taken_is below up_to =
-    let here : AreGood format (in_entry entries state (before_line (schedule_meant key) (stamp_meant stamp) n lines)) = subst
+    let here : AreGood format (in_entry entries state (before_line (schedule_key_meant key) (stamp_meant stamp) n lines)) = subst
     (λ (p : Stage). AreGood format (stage_meant p state lines)) is good in
     let size = length-append lines (line ∷ []) in
     let same : length taken ≡ length (lines ++ line ∷ []) = ap (λ (ls : List (List ℕ)). length ls) taken_is in
     subst (λ (p : Stage). LeadsTo format (stage_meant p state lines) line p state taken × (begins_item (stage_meant p state taken) ≡ false)) (sym is) (
       record {
-        is = more_to_come format entries state (schedule_meant key) (stamp_meant stamp) n lines line taken taken_is (omega arith);
+        is = more_to_come format entries state (schedule_key_meant key) (stamp_meant stamp) n lines line taken taken_is (omega arith);
         not_bad = λ cause bad. bad.1 up_to;
         fresh = tt;
       },
@@ -58,13 +59,13 @@ line_leads format at entries key stamp n is state lines taken line good taken_is
 -- a line is a bad part if it can't follow the lines of its schedule that were read before it. A line that can follow them is refused only if there is no memory
 -- for it
 pub line_bad : (format : Format) (at : Stage) (entries : ℕ) (key : code.ScheduleKey) (stamp : stamps.Stamp) (n : ℕ) → at ≡ stage.Line entries key stamp n
-    → (state : State) (lines : List (List ℕ)) (line : List ℕ) (cause : Option model.StateCause) → IsUpToRefusal state (schedule_meant key) n lines line cause
+    → (state : State) (lines : List (List ℕ)) (line : List ℕ) (cause : Option model.StateCause) → IsUpToRefusal state (schedule_key_meant key) n lines line cause
     → AreGood format (stage_meant at state lines) → IsBadHere format (stage_meant at state lines) line cause
 line_bad format at entries key stamp n is state lines line cause refused good =
     subst (λ (p : Stage). IsBadHere format (stage_meant p state lines) line cause) (sym is) (by cause refused)
   where
-    by : (cause : Option model.StateCause) → IsUpToRefusal state (schedule_meant key) n lines line cause
-        → IsBadHere format (in_entry entries state (before_line (schedule_meant key) (stamp_meant stamp) n lines)) line cause
+    by : (cause : Option model.StateCause) → IsUpToRefusal state (schedule_key_meant key) n lines line cause
+        → IsBadHere format (in_entry entries state (before_line (schedule_key_meant key) (stamp_meant stamp) n lines)) line cause
     by None r = record { takes = tt; not_bad = λ cause bad. bad.1 r }
     by (Some bad_body) r = (refl, r)
     by (Some bad_mark) r = absurd r

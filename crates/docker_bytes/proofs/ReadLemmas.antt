@@ -3,7 +3,7 @@ use Rattle.std.proofs.Common.{◌≡◌, ◌≢◌, ℕ, ◌<◌, List, [], ◌�
 use Rattle.std.proofs.Common.{◌⊎◌, arith, append_assoc, append-nil, length-drop, Some, None, Err, Result}
 use Rattle.std.specs.Prelude.{Option, Ok, IfErr, IsOk, OnOk, ◌^◌}
 use Rattle.std.proofs.lemmas.List.{take-append-drop}
-use Rattle.cif_device.specs.Device.{Reads, IsEnd}
+use Rattle.cif_device.specs.Device.{Reads, IsEnd, Held}
 use Rattle.cif_device.specs.Taken.{AfterEach, HasFed, HasRefused, LosesOnePieceMore}
 use Rattle.docker_model.specs.state.State.{State, raise_horizon}
 use Rattle.docker_model.specs.state.StateText.{Format}
@@ -21,7 +21,7 @@ use Rattle.state_text.specs.FaultMeaning.{cause_meant}
 use Rattle.docker_bytes.specs.StateReading.{format_of, IsCauseSoFar, IsFaultReported, IsCauseAtEnd, IsUnended, IsWhole, IsWanting, IsMadeOf, IsStep, JoinsText}
 use Rattle.docker_bytes.specs.ParserRead.{ParserState, HasRead, IsUnread}
 use Rattle.docker_bytes.specs.StateTaken.{RefusesPart, StateSettings, TakesState}
-use Rattle.docker_bytes.specs.SourceRead.{Held, ReadsState, ReadsMade, IsCauseOf, IsFaultOf, RefusesState}
+use Rattle.docker_bytes.specs.SourceRead.{ReadsState, ReadsMade, IsCauseOf, IsFaultOf, RefusesState}
 use Rattle.docker_bytes.specs.SourceRead.{ReadsOnePieceMore, ReadsAll, WantsSoFar, WantsMemory, JoinsState, RaisesState}
 use Rattle.docker_bytes.specs.ReadEnds.{as_it_is, CountsOutcome, CountsWhy, EndsReadingBy, EndsText, IsOutcome, IsWhyUnread, StopsReading, Wanting}
 use Rattle.docker_bytes.proofs.TextEnd.{sound_text}

@@ -1,6 +1,6 @@
 -- What the result of reading a source implies for the text that the source held.
-use Rattle.std.specs.Prelude.{◌≡◌, ℕ, ◌≤◌, ◌⊎◌, List, [], ◌++◌, length, Option, Some, None, ⊤}
-use Rattle.cif_device.specs.Device.{Reads}
+use Rattle.std.specs.Prelude.{◌≡◌, ℕ, ◌≤◌, ◌⊎◌, List, [], ◌++◌, length, Option, Some, None}
+use Rattle.cif_device.specs.Device.{Held, Reads}
 use Rattle.docker_model.specs.state.State.{State, IsJoin, raise_horizon}
 use Rattle.docker_model.specs.state.StateText.{Format}
 use Rattle.docker_model.specs.state.StateFault.{IsStateFault, IsStateText}
@@ -9,12 +9,6 @@ use Rattle.docker_bytes.specs.declared.fault.StateFault.{StateFault}
 use Rattle.state_text.specs.FaultMeaning.{cause_meant}
 use Rattle.docker_bytes.specs.StateReading.{IsMadeOf, IsWhole, IsOpen, IsWanting}
 use Rattle.docker_bytes.specs.ParserRead.{ParserState, HasRead}
-
--- says that a source held this text. If no contract says which bytes the source holds, this is true
--- of every text
-abbrev pub Held : Option (List ℕ) → List ℕ → Type 0
-Held None text = ⊤
-Held (Some left) text = left ≡ text
 
 -- says that the source held the text of this state in this format, and that the text isn't longer
 -- than the limit

@@ -1,9 +1,9 @@
 -- What a job reads, and what it writes.
 use Rattle.std.specs.Prelude.{◌≡◌, ℕ, ◌+◌, ◌⊎◌, ⊤, List, [], ◌∷◌, Option, Result, Ok, Err}
-use Rattle.cif_device.specs.Device.{Reads, Takes, TakesPart, IsEnd}
+use Rattle.cif_device.specs.Device.{Reads, Takes, TakesPart, IsEnd, Held}
 use Rattle.cif_device.specs.FeedEnds.{most_at_once}
 use Rattle.cif_file.specs.FileRead.{FileCounted}
-use Rattle.cif_file.specs.SourceRead.{Held, CountsText, RefusesText, ReadsNoFurther}
+use Rattle.cif_file.specs.SourceRead.{CountsText, RefusesText, ReadsNoFurther}
 use Rattle.cif_file.specs.declared.fault.FileFault.{FileFault}
 use Rattle.docker_model.specs.file.File.{most_records}
 use Rattle.docker_model.specs.file.FileFault.{IsFileText}
@@ -72,19 +72,19 @@ pub record JoinsBehind (first second : DeviceBytes) (state : State) : Type 0 whe
 
 -- this is the state of an office that has read these sources. If a file was only checked, there is
 -- no state
-abbrev pub IsStateOf : Sources → DeviceBytes → DeviceBytes → State → Type 0
-IsStateOf no_source first second state = state ≡ no_state
-IsStateOf checked_file first second state = ⊥
-IsStateOf taken_file first second state = TakesFile most_records first no_state state
-IsStateOf (one_state format) first second state = ReadsState format most_bytes first state
-IsStateOf state_and_file first second state = TakesBehind first second state
-IsStateOf two_states first second state = JoinsBehind first second state
+abbrev pub IsStateOfSources : Sources → DeviceBytes → DeviceBytes → State → Type 0
+IsStateOfSources no_source first second state = state ≡ no_state
+IsStateOfSources checked_file first second state = ⊥
+IsStateOfSources taken_file first second state = TakesFile most_records first no_state state
+IsStateOfSources (one_state format) first second state = ReadsState format most_bytes first state
+IsStateOfSources state_and_file first second state = TakesBehind first second state
+IsStateOfSources two_states first second state = JoinsBehind first second state
 
 -- this is the state that a task makes from its sources. `horizon` raises the horizon of the state
 -- that was read, and `check` makes no state
 abbrev pub IsStateReadBy : TaskView → DeviceBytes → DeviceBytes → State → Type 0
 IsStateReadBy (horizon_task day) first second state = RaisesState dks_2 most_bytes first day state
-IsStateReadBy task first second state = IsStateOf (sources_of task) first second state
+IsStateReadBy task first second state = IsStateOfSources (sources_of task) first second state
 
 -- this is what a task makes from its sources. For `check`, it is the counts of the file; for any
 -- other task, it is a state
@@ -192,9 +192,9 @@ IsWhyRefused sources first left second second_left office.Sink = ⊥
 -- reading the sources ended with this result. If the result is a value, it has the property
 -- `IsMade`, and each file was read to its end. If the result is a fault, the sources may be refused
 -- for this fault
-abbrev pub EndsReading : {A : Type 0} → (A → Type 0) → Sources → DeviceBytes → DeviceBytes → DeviceBytes → DeviceBytes → Result A OfficeFault → Type 0
-EndsReading IsMade sources first left second second_left (Ok made) = IsMade made × HasReadToEnd sources left second_left
-EndsReading IsMade sources first left second second_left (Err fault) = IsWhyRefused sources first left second second_left fault
+abbrev pub EndsReadingSources : {A : Type 0} → (A → Type 0) → Sources → DeviceBytes → DeviceBytes → DeviceBytes → DeviceBytes → Result A OfficeFault → Type 0
+EndsReadingSources IsMade sources first left second second_left (Ok made) = IsMade made × HasReadToEnd sources left second_left
+EndsReadingSources IsMade sources first left second second_left (Err fault) = IsWhyRefused sources first left second second_left fault
 
 -- the sources were read in order, no further than the result needs, and `Ends` holds
 pub record ReadsFew (sources : Sources) (first left second second_left : DeviceBytes) (Ends : Type 0) : Type 0 where
@@ -206,7 +206,7 @@ pub record ReadsFew (sources : Sources) (first left second second_left : DeviceB
 -- `IsMade`, or a fault
 abbrev pub ReadsSources : {A : Type 0} → (A → Type 0) → Sources → DeviceBytes → DeviceBytes → DeviceBytes → DeviceBytes → Result A OfficeFault → Type 0
 ReadsSources IsMade sources first left second second_left result =
-    ReadsFew sources first left second second_left (EndsReading IsMade sources first left second second_left result)
+    ReadsFew sources first left second second_left (EndsReadingSources IsMade sources first left second second_left result)
 
 -- the prepared job consists of this job and of what its task makes from its sources
 abbrev pub IsPreparedFor : JobView → DeviceBytes → DeviceBytes → PreparedView → Type 0

@@ -7,7 +7,7 @@ ghost use Rattle.docker_model.specs.docker.Choice.{group_of, schedule_runs};
 ghost use Rattle.docker_laws.specs.Gathering.{counts_as, identity_of, runs_by};
 ghost use Rattle.docker_laws.specs.LiveRows.{train_in, link_in};
 ghost use Rattle.train_choice.specs.Along.{IsLiveTrain};
-ghost use Rattle.train_choice.specs.Keys.{association_key_meant};
+ghost use Rattle.cif_change.specs.Meaning.{association_key_meant};
 ghost use Rattle.docker_day.specs.Bases.{first_call, meant_if};
 ghost use Rattle.docker_state.specs.Timetables.{live_in};
 

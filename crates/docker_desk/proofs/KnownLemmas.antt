@@ -12,7 +12,7 @@ use Rattle.docker_model.specs.run.Run.{Known, nothing, united}
 use Rattle.docker_laws.proofs.runs.GoodKnowledge.{horizon_good, united_good}
 use Rattle.state_laws.proofs.states.SummaryLaws.{join_is_summary, raised_summary}
 use Rattle.state_laws.proofs.texts.TextsApart.{one_text}
-use Rattle.cif_file.specs.SourceRead.{Held}
+use Rattle.cif_device.specs.Device.{Held}
 use Rattle.docker_cmd.specs.Words.{NamesDay, OfOne, Text}
 use Rattle.docker_host.specs.History.{Event}
 use Rattle.docker_bytes.specs.SourceRead.{ReadsState}

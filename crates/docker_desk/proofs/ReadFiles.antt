@@ -6,7 +6,8 @@ use Rattle.docker_model.specs.file.File.{most_records}
 use Rattle.docker_model.specs.state.State.{State}
 use Rattle.docker_model.specs.state.StateText.{dks_2, state_text}
 use Rattle.docker_cmd.specs.Prepared.{ReadsFewOfState, most_bytes}
-use Rattle.docker_host.specs.History.{Bytes, IsText, Text}
+use Rattle.cif_device.specs.Device.{Held}
+use Rattle.docker_host.specs.History.{Bytes, Text}
 use Rattle.docker_bytes.specs.ReadEnds.{CountsOutcome, CountsWhy, IsOutcome, IsWhyUnread}
 use Rattle.docker_bytes.specs.SourceRead.{JoinsState, ReadsState, WantsMemory}
 use Rattle.docker_office.specs.Office.{TakesFile}
@@ -116,7 +117,7 @@ reading_counted before after (Err fault) counted = fault_counted before after fa
 
 -- comparing the copy of a source's bytes with a state's text has the same result as comparing the
 -- bytes that the source held with this text
-found_held : (bytes : Bytes) (copy : Option Text) (found : Compared) (state : State) (left : Bytes) → IfSome copy (IsText bytes)
+found_held : (bytes : Bytes) (copy : Option Text) (found : Compared) (state : State) (left : Bytes) → IfSome copy (Held bytes)
     → ComparesCopy found copy (state_text dks_2 state) → IsFound found state (reading bytes left)
 found_held None copy compared.Same state left held is = tt
 found_held None copy compared.Other state left held is = tt
@@ -147,16 +148,16 @@ refuses_as held left seen seen_left old new fault why kept same same_left = (
 
 -- a copy is a vector of bytes. If the items of the vector are the text, the copy as a list is the
 -- text too
-copied : {Z : Type 0} (bytes : Bytes) (copy : Option (Vec ℕ Z)) → IfSome copy (λ it. IsText bytes it.items)
-    → IfSome (option_map (λ (it : Vec ℕ Z). it.items) copy) (IsText bytes)
+copied : {Z : Type 0} (bytes : Bytes) (copy : Option (Vec ℕ Z)) → IfSome copy (λ it. Held bytes it.items)
+    → IfSome (option_map (λ (it : Vec ℕ Z). it.items) copy) (Held bytes)
 copied bytes None held = tt
 copied bytes (Some it) held = held
 
 -- if a state was received, and the copy of the file's text was compared with the text of the new
 -- state, the call succeeded as its contract says (`EndsComparing`)
 pub compares : {Z : Type 0} (held bytes left : Bytes) (copy : Option (Vec ℕ Z)) (old new : State) (found : Compared) → held ≡ bytes
-    → IfSome copy (λ it. IsText bytes it.items) → ComparesCopy found (option_map (λ (it : Vec ℕ Z). it.items) copy) (state_text dks_2 new)
+    → IfSome copy (λ it. Held bytes it.items) → ComparesCopy found (option_map (λ (it : Vec ℕ Z). it.items) copy) (state_text dks_2 new)
     → JoinsState dks_2 most_bytes held old new → EndsComparing old new (Ok found) (Some (reading held left))
 compares held bytes left copy old new found same whole is joins =
-    let of_held = copied held copy (subst (λ (b : Bytes). IfSome copy (λ it. IsText b it.items)) (sym same) whole) in
+    let of_held = copied held copy (subst (λ (b : Bytes). IfSome copy (λ it. Held b it.items)) (sym same) whole) in
     (joins, found_held held (option_map (λ it. it.items) copy) found new left of_held is)

@@ -7,7 +7,8 @@ use Rattle.docker_model.specs.state.State.{State}
 use Rattle.docker_model.specs.state.StateText.{dks_2, state_text}
 use Rattle.docker_bytes.specs.SourceRead.{ReadsState}
 use Rattle.docker_cmd.specs.Prepared.{most_bytes}
-use Rattle.docker_host.specs.History.{Bytes, Event, IsText, Text, closed, drafted, dropped, looked, named_if, opened, placed, undrafted, unplaced}
+use Rattle.cif_device.specs.Device.{Held}
+use Rattle.docker_host.specs.History.{Bytes, Event, Text, closed, drafted, dropped, looked, named_if, opened, placed, undrafted, unplaced}
 use Rattle.docker_host.specs.Asked.{FailsToStore}
 use Rattle.docker_host.specs.Standing.{IsStandingOf, IsStill, Standing}
 use Rattle.docker_office.specs.declared.fault.OfficeFault.{OfficeFault}
@@ -31,12 +32,12 @@ not_set : (flag : Bool) → flag ≡ true → flag ≡ false → ⊥
 not_set flag set clear = let never : true ≡ false = sym set ∙ clear in true≢false never
 
 -- the bytes of a draft are its text
-named_text : (names_bytes : Bool) (text : Text) → IsText (named_if names_bytes text) text
+named_text : (names_bytes : Bool) (text : Text) → Held (named_if names_bytes text) text
 named_text true text = refl
 named_text false text = tt
 
 -- a text that a state's file held is the text of this state
-read_text : (held : Bytes) (state : State) → ReadsState dks_2 most_bytes held state → IsText held (state_text dks_2 state)
+read_text : (held : Bytes) (state : State) → ReadsState dks_2 most_bytes held state → Held held (state_text dks_2 state)
 read_text None state reads = tt
 read_text (Some bytes) state reads = reads.held ∙ reads.is.is
 
@@ -80,13 +81,13 @@ module _ (name : Text) where
   -- a text that was read after the look is the desk's own
   own_opened : (old new : List Event) (held left : Bytes) (look : ℕ) (state read : State)
       → new ≡ old ++ looked name ∷ opened name held ∷ closed left ∷ [] → look ≡ length old → ReadsState dks_2 most_bytes held read
-      → IsText held (state_text dks_2 state) → IsOwnText name new look (state_text dks_2 state)
+      → Held held (state_text dks_2 state) → IsOwnText name new look (state_text dks_2 state)
   own_opened old new held left look state read grown number reads is =
       inl (record { earlier = old; held = held; left = left; later = []; whole = grown; number = number; state = read; reads = reads }, is)
 
   -- the text of a draft that replaced the file is the desk's own
   own_placed : (old new : List Event) (bytes : Bytes) (from look : ℕ) (text : Text)
-      → new ≡ old ++ drafted name from ∷ placed name bytes ∷ looked name ∷ [] → look ≡ length old + 2 → IsText bytes text → IsOwnText name new look text
+      → new ≡ old ++ drafted name from ∷ placed name bytes ∷ looked name ∷ [] → look ≡ length old + 2 → Held bytes text → IsOwnText name new look text
   own_placed old new bytes from look text grown number is = inr (
     record {
       earlier = old ++ drafted name from ∷ [];
@@ -236,13 +237,13 @@ module _ (setting : Setting) where
   -- if the file's bytes have stayed the same since the look, the file holds that text
   pub is_in_state : (standing : Standing) (point : SessionView) → WasInState setting point → IsStandingOf standing point.history
       → IsStill standing setting.name point.look (length point.history)
-      → IsText (standing (length point.history) setting.name) (state_text dks_2 point.desk.state)
+      → Held (standing (length point.history) setting.name) (state_text dks_2 point.desk.state)
   is_in_state standing point (inl (opening, is)) stands still =
-      subst (λ (bytes : Bytes). IsText bytes (state_text dks_2 point.desk.state))
+      subst (λ (bytes : Bytes). Held bytes (state_text dks_2 point.desk.state))
       (sym (opened_own standing setting.name point.history point.look [] opening
       (subst (IsStandingOf standing) (sym (append-nil point.history)) stands) still)) is
   is_in_state standing point (inr (placing, is)) stands still =
-      subst (λ (bytes : Bytes). IsText bytes (state_text dks_2 point.desk.state))
+      subst (λ (bytes : Bytes). Held bytes (state_text dks_2 point.desk.state))
       (sym (placed_own standing setting.name point.history point.look [] placing
       (subst (IsStandingOf standing) (sym (append-nil point.history)) stands) still)) is
 

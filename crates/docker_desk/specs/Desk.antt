@@ -14,8 +14,8 @@ use Rattle.docker_model.specs.lists.TrainsText.{IsTrainsText}
 use Rattle.docker_model.specs.lists.KnownText.{IsKnownText}
 use Rattle.docker_model.specs.lists.PlacesText.{IsPlacesText}
 use Rattle.docker_cmd.specs.Prepared.{WantsForState, most_bytes}
-use Rattle.cif_device.specs.Device.{IsEnd}
-use Rattle.docker_host.specs.History.{Bytes, Event, IsText, Text, drafted, looked, named_if, placed}
+use Rattle.cif_device.specs.Device.{IsEnd, Held}
+use Rattle.docker_host.specs.History.{Bytes, Event, Text, drafted, looked, named_if, placed}
 use Rattle.docker_host.specs.Asked.{FailsToStore, IsStored, IsUndrafted}
 use Rattle.docker_bytes.specs.SourceRead.{JoinsState, ReadsState, RefusesState}
 use Rattle.docker_office.specs.Office.{TakesFile, WantsForFile}
@@ -202,7 +202,7 @@ IsOtherText (Some bytes) text = bytes ≢ text
 -- `Other` if they differ. `Unknown` is possible in both cases. If contracts can't say which bytes
 -- the file held, every result is possible
 abbrev pub IsFound : Compared → State → Reading → Type 0
-IsFound compared.Same state read = IsText read.held (state_text dks_2 state)
+IsFound compared.Same state read = Held read.held (state_text dks_2 state)
 IsFound compared.Other state read = IsOtherText read.held (state_text dks_2 state)
 IsFound compared.Unknown state read = ⊤
 

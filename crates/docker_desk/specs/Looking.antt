@@ -4,7 +4,8 @@ use Rattle.docker_model.specs.state.State.{State}
 use Rattle.docker_model.specs.state.StateText.{dks_2, state_text}
 use Rattle.docker_bytes.specs.SourceRead.{ReadsState}
 use Rattle.docker_cmd.specs.Prepared.{most_bytes}
-use Rattle.docker_host.specs.History.{Bytes, Event, IsText, Text, closed, looked, opened, placed}
+use Rattle.cif_device.specs.Device.{Held}
+use Rattle.docker_host.specs.History.{Bytes, Event, Text, closed, looked, opened, placed}
 use Rattle.docker_host.specs.Standing.{IsStill, Standing}
 use Rattle.docker_desk.specs.SessionViews.{SessionView, Setting}
 
@@ -45,8 +46,8 @@ IsOwn name history look bytes =
 -- far as contracts can say
 abbrev pub IsOwnText : Text → List Event → ℕ → Text → Type 0
 IsOwnText name history look text =
-    ((opening : IsBeforeOpening name history look) × IsText opening.held text)
-    ⊎ ((placing : IsAfterPlacing name history look) × IsText placing.bytes text)
+    ((opening : IsBeforeOpening name history look) × Held opening.held text)
+    ⊎ ((placing : IsAfterPlacing name history look) × Held placing.bytes text)
 
 -- the state's file held the text of this point's state, right after the look of the point or right
 -- before it

@@ -1,6 +1,6 @@
 //! A source that keeps a copy of what is read from it.
 ghost use Rattle.std.specs.Prelude.{◌≡◌, IfSome, option_map};
-ghost use Rattle.docker_host.specs.History.{IsText};
+ghost use Rattle.cif_device.specs.Device.{Held};
 ghost use Rattle.docker_desk.specs.Copying.{KeepsMore};
 
 use cif_line::{Failed, Source};
@@ -72,7 +72,7 @@ impl<B: Begun, S: Source> Copying<B, S> {
     pub(crate) fn into_parts(self) -> (S, Option<Vec<u8>>)
         ensures left { S.left result.0 ≡ self.left }
         ensures failures { S.failures result.0 ≡ self.failures }
-        ensures copy { IfSome result.1 (λ copy. IsText B.bytes copy.items) }
+        ensures copy { IfSome result.1 (λ copy. Held B.bytes copy.items) }
     {
         let Copying {
             source,

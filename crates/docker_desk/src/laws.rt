@@ -14,7 +14,8 @@ ghost use Rattle.docker_model.specs.run.Knowledge.{AreOneKnowledge, HaveSameFile
 ghost use Rattle.docker_cmd.specs.Prepared.{DeviceBytes, most_bytes};
 ghost use Rattle.docker_cmd.specs.Saved.{Gain, HoldsVersion};
 ghost use Rattle.docker_host.specs.Asked.{IsUnplaced};
-ghost use Rattle.docker_host.specs.History.{Event, IsText};
+ghost use Rattle.cif_device.specs.Device.{Held};
+ghost use Rattle.docker_host.specs.History.{Event};
 ghost use Rattle.docker_host.specs.Standing.{IsStandingOf, IsStill, Standing};
 ghost use Rattle.docker_desk.specs.Lines.{AreLines, LineView};
 ghost use Rattle.docker_model.specs.lists.TrainsText.{IsTrainsText};
@@ -98,7 +99,7 @@ pub fn what_is_not_unsaved_is_in_state()
         → AreSteps setting first steps last → last.desk.unsaved ≡ false
         → IsStandingOf standing last.history
         → IsStill standing setting.name last.look (length last.history)
-        → IsText (standing (length last.history) setting.name)
+        → Held (standing (length last.history) setting.name)
         (state_text dks_2 last.desk.state) }
     ensures refused { (setting : Setting) (before after : SessionView) (fault : OfficeFault)
         → DoesRequest setting renew_request before (refused_for fault) after

@@ -11,7 +11,8 @@ use Rattle.docker_laws.proofs.dockers.ExcerptWalk.{walk_is_excerpt}
 use Rattle.docker_laws.proofs.dockers.ExcerptDocker.{same_where_needed, excerpt_list_iff}
 use Rattle.docker_laws.proofs.dockers.NearDocker.{near_description}
 use Rattle.docker_laws.proofs.dockers.NearState.{near_part, near_valid, near_state_list, excerpt_on_valid}
-use Rattle.state_text.specs.PartsSoFar.{horizon_meant, under}
+use Rattle.docker_state.specs.Parts.{under}
+use Rattle.state_text.specs.PartsSoFar.{horizon_meant}
 use Rattle.docker_excerpt.specs.Values.{Excerpt, with_entries, StandsAt, IsExcerptOf}
 
 -- a state without a horizon equals the same state with the horizon 0

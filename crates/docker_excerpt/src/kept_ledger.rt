@@ -2,7 +2,8 @@
 ghost use Rattle.std.specs.Prelude.{◌≡◌, map};
 ghost use Rattle.docker_model.specs.state.State.{IsValid};
 ghost use Rattle.docker_state.specs.Meaning.{item_meant};
-ghost use Rattle.state_text.specs.PartsSoFar.{horizon_meant, under};
+ghost use Rattle.docker_state.specs.Parts.{under};
+ghost use Rattle.state_text.specs.PartsSoFar.{horizon_meant};
 
 use crate::ledger::Ledger;
 use cif_line::{Day, Memory};
@@ -21,7 +22,8 @@ pub struct KeptLedger {
 impl Model for KeptLedger {
     ghost use Rattle.docker_model.specs.state.State as states;
     ghost use Rattle.docker_model.specs.state.State.{IsValid};
-    ghost use Rattle.state_text.specs.PartsSoFar.{horizon_meant, under};
+    ghost use Rattle.docker_state.specs.Parts.{under};
+    ghost use Rattle.state_text.specs.PartsSoFar.{horizon_meant};
 
     ghost Value = { states.State };
 

@@ -1,5 +1,5 @@
 -- The events of a folder, oldest first: the calls to the folder, and their results.
-use Rattle.std.specs.Prelude.{◌≡◌, ℕ, Bool, true, false, ⊤, List, Option, None, Some}
+use Rattle.std.specs.Prelude.{◌≡◌, ℕ, Bool, true, false, List, Option, None, Some}
 
 -- the bytes of a name or of a text
 abbrev pub Text : Type 0
@@ -37,7 +37,3 @@ abbrev pub named_if : Bool → Text → Bytes
 named_if true text = Some text
 named_if false text = None
 
--- the bytes are this text, or contracts can't say which bytes they are
-abbrev pub IsText : Bytes → Text → Type 0
-IsText None text = ⊤
-IsText (Some bytes) text = bytes ≡ text

@@ -17,9 +17,9 @@ use Rattle.cif_file.specs.declared.fault.FileFault.{FileFault}
 use Rattle.cif_file.specs.declared.fault.ReadFault as files
 use Rattle.cif_file.specs.declared.fault.ReadFault.TheVariants as file_faults
 use Rattle.docker_bytes.specs.Excerpts.{IsExcerptAt}
-use Rattle.cif_device.specs.Device.{IsEnd}
+use Rattle.cif_device.specs.Device.{IsEnd, Held}
 use Rattle.docker_bytes.specs.ReadEnds.{BytesLeft, CountsOutcome, CountsWhy, IsOutcome, IsWhyUnread, StopsReading, Wanting}
-use Rattle.docker_bytes.specs.SourceRead.{Held, RaisesState, ReadsMade, ReadsState, RefusesState, JoinsState}
+use Rattle.docker_bytes.specs.SourceRead.{RaisesState, ReadsMade, ReadsState, RefusesState, JoinsState}
 use Rattle.docker_bytes.specs.declared.fault.StateFault.{StateFault}
 use Rattle.docker_laws.specs.FileSummary.{summary_of}
 use Rattle.docker_laws.proofs.dockers.FileSummary.{join_of_nothing, summary_is, summary_valid}

@@ -1,6 +1,6 @@
 -- How an office's calls change the state that it keeps.
 use Rattle.std.specs.Prelude.{◌≡◌, ℕ, max, ◌⊎◌, List, [], ◌∷◌, ◌++◌, Option, Some}
-use Rattle.cif_device.specs.Device.{Takes, TakesPart}
+use Rattle.cif_device.specs.Device.{Takes, TakesPart, Held}
 use Rattle.cif_device.specs.FeedEnds.{most_at_once}
 use Rattle.docker_model.specs.file.FileFault.{IsFileText}
 use Rattle.docker_model.specs.state.State.{State, IsJoin, live_table}
@@ -8,7 +8,7 @@ use Rattle.docker_model.specs.state.Summary.{IsSummary}
 use Rattle.docker_model.specs.state.StateText.{Format, dks_2}
 use Rattle.docker_model.specs.state.StateFault.{IsStateText}
 use Rattle.docker_model.specs.docker.DockerText.{IsDockerText}
-use Rattle.cif_file.specs.SourceRead.{Held, WantsMemory}
+use Rattle.cif_file.specs.SourceRead.{WantsMemory}
 
 -- the state without files and without a horizon
 abbrev pub no_state : State

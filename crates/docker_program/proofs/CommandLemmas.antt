@@ -18,7 +18,8 @@ use Rattle.docker_laws.proofs.runs.MessageTexts.{counts_fit, summary_told}
 use Rattle.state_laws.proofs.states.SummaryLaws.{join_is_summary, raised_summary}
 use Rattle.state_laws.proofs.texts.TextsApart.{one_text}
 use Rattle.docker_host.specs.History.{Bytes}
-use Rattle.docker_bytes.specs.SourceRead.{Held, ReadsState}
+use Rattle.cif_device.specs.Device.{Held}
+use Rattle.docker_bytes.specs.SourceRead.{ReadsState}
 use Rattle.docker_office.specs.Office.{TakesFile, no_state}
 use Rattle.docker_cmd.specs.Prepared.{most_bytes}
 use Rattle.docker_cmd.specs.Saved.{HoldsFile}

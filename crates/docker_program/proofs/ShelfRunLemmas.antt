@@ -4,8 +4,7 @@ use Rattle.docker_model.specs.file.Change.{changes}
 use Rattle.docker_model.specs.file.Text.{lines_of}
 use Rattle.docker_model.specs.run.Run.{united}
 use Rattle.docker_model.specs.state.StateText.{dks_2}
-use Rattle.cif_device.specs.Device.{IsEnd, Reads, Takes}
-use Rattle.cif_file.specs.SourceRead.{Held}
+use Rattle.cif_device.specs.Device.{IsEnd, Reads, Takes, Held}
 use Rattle.docker_host.specs.History.{Bytes, Event, closed, drafted, looked, opened, placed}
 use Rattle.docker_host.specs.Host.{HostView}
 use Rattle.docker_host.specs.Shelf.{IsShelfHistory}

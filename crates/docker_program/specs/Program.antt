@@ -66,9 +66,9 @@ reading old new job rest now =
 
 -- the program ended after the job's sources were opened, read and closed, or after a file couldn't
 -- be opened. `Holds` is true of the changes to the folder and to standard input until then
-abbrev pub EndsReading : HostView → HostView → (Asking → JobView → Type 0)
+abbrev pub EndsAfterReading : HostView → HostView → (Asking → JobView → Type 0)
     → JobView → Bytes → Type 0
-EndsReading old new Holds job rest = Holds (reading old new job rest new.history) job
+EndsAfterReading old new Holds job rest = Holds (reading old new job rest new.history) job
 
 -- how a job replaces its file: the draft is based on the look with which the program began
 abbrev pub from_first_look : Bool → HostView → Drafting
@@ -100,7 +100,7 @@ WantsToRead asked job = IsNotOpened asked job ⊎ WantsForSources asked job
 
 -- memory ran out while a file was opened, while the sources were read, or while the output was made
 abbrev pub WantsMemory : Bool → HostView → HostView → JobView → Bytes → Type 0
-WantsMemory names_bytes old new job rest = EndsReading old new WantsToRead job rest
+WantsMemory names_bytes old new job rest = EndsAfterReading old new WantsToRead job rest
     ⊎ HasRead old new (WantsToWrite (from_first_look names_bytes old)) job rest
 
 -- the reason why the program ended with this fault before it wrote anything. For example, with the
@@ -112,13 +112,13 @@ IsWhy words names_bytes old new (Job job.Memory) =
     IsNotAsked words old new (AskForSome words old.input)
 IsWhy words names_bytes old new (Job job.Source) = IsNotAsked words old new (words ≡ [])
 IsWhy words names_bytes old new (Office (office.File fault)) =
-    IsAsked words old.input (EndsReading old new (RefusesFile fault))
+    IsAsked words old.input (EndsAfterReading old new (RefusesFile fault))
 IsWhy words names_bytes old new (Office (office.State fault)) =
-    IsAsked words old.input (EndsReading old new (RefusesState fault))
+    IsAsked words old.input (EndsAfterReading old new (RefusesState fault))
 IsWhy words names_bytes old new (Office office.Lapsed) =
     IsAsked words old.input (HasRead old new RefusesDay)
 IsWhy words names_bytes old new (Office office.Source) =
-    IsAsked words old.input (EndsReading old new FailsToRead)
+    IsAsked words old.input (EndsAfterReading old new FailsToRead)
 IsWhy words names_bytes old new (Office office.Memory) =
     IsAsked words old.input (WantsMemory names_bytes old new)
 IsWhy words names_bytes old new (Office office.Sink) = ⊥

@@ -6,8 +6,8 @@ use Rattle.docker_model.specs.state.Op.{Entry}
 use Rattle.docker_model.specs.state.State.{State}
 
 -- the state with this horizon in place of its own
-abbrev pub under_horizon : ℕ → State → State
-under_horizon horizon state = record { horizon = horizon; ledger = state.ledger; entries = state.entries }
+abbrev pub under : ℕ → State → State
+under horizon state = record { horizon = horizon; ledger = state.ledger; entries = state.entries }
 
 -- the key of the last entry, or `None` if there are no entries
 abbrev pub last_key : List (Key × Entry) → Option Key

@@ -6,7 +6,7 @@ ghost use Rattle.docker_model.specs.state.StatePart.{IsStampHere};
 ghost use Rattle.cif_change.specs.Meaning.{key_meant};
 ghost use Rattle.docker_join.specs.Meaning.{entry_meant, row_meant};
 ghost use Rattle.docker_state.specs.Meaning.{item_meant, state_meant};
-ghost use Rattle.docker_state.specs.Parts.{last_key, under_horizon};
+ghost use Rattle.docker_state.specs.Parts.{last_key, under};
 
 use crate::item::LedgerItem;
 use crate::state::State;
@@ -124,8 +124,8 @@ impl Parts {
     /// Makes the state with this horizon from what was added, without an index. The caller ensures
     /// that no body ended before the horizon, so no end date is read. Allocates nothing.
     pub fn finish_unindexed_under(self, horizon: Day) -> State
-        requires { IsValid (under_horizon horizon self) }
-        ensures { result ≡ under_horizon horizon self }
+        requires { IsValid (under horizon self) }
+        ensures { result ≡ under horizon self }
     {
         let Parts { ledger, entries } = self;
         State::of_rows(horizon.number(), ledger, entries, None)

@@ -1,13 +1,12 @@
 //! Lists the trains that have a train identity and start on a day.
 ghost use Rattle.std.specs.Prelude.{◌≡◌, ◌+◌, ◌-◌, ◌^◌, ◌<◌, ◌↔◌, List, IsOk, IsErr, Err, OnOk, OnErr, Some};
-ghost use Rattle.cif_change.specs.Meaning.{body_meant, key_meant};
+ghost use Rattle.cif_change.specs.Meaning.{body_meant, key_meant, schedule_key_meant};
 ghost use Rattle.cif_device.specs.Device.{CountsFailure, Takes, TakesPart};
 ghost use Rattle.docker_model.specs.docker.DockerText.{ended};
 ghost use Rattle.docker_model.specs.state.Row.{Row, AreRowsOf};
 ghost use Rattle.docker_model.specs.state.State.{IsBodyOf, live_table};
 ghost use Rattle.docker_state.specs.Timetables.{live_in};
 ghost use Rattle.train_choice.specs.Along.{IsLiveTrain};
-ghost use Rattle.train_choice.specs.Keys.{schedule_key_meant};
 ghost use Rattle.docker_train.specs.TrainsListed.{ListsPart, ListsTrains};
 ghost use Rattle.docker_model.specs.lists.TrainsText.{train_columns};
 ghost use Rattle.docker_train.specs.TrainRows.{row_line, schedule_line};

@@ -11,10 +11,10 @@ use Rattle.docker_model.specs.state.StatePart.{before_body, before_line, key_tex
 use Rattle.state_laws.proofs.texts.StateBytes.{AreBytes, four_bytes, stamp_written, key_written, tag_of_key, single}
 use Rattle.cif_change.specs.declared.key.Key.{Key}
 use Rattle.cif_change.specs.declared.key.ScheduleKey.{ScheduleKey}
-use Rattle.cif_change.specs.Meaning.{key_meant}
+use Rattle.cif_change.specs.Meaning.{key_meant, schedule_key_meant}
 use Rattle.docker_join.specs.Meaning.{stamp_meant}
 use Rattle.docker_join.specs.declared.stamp.Stamp.{Stamp}
-use Rattle.state_text.specs.Stage.{tag_meant, schedule_meant}
+use Rattle.state_text.specs.Stage.{tag_meant}
 use Rattle.state_text.specs.declared.stage.Tag.{Tag}
 use Rattle.state_text.specs.declared.stage.Tag.TheVariants as tag
 use Rattle.state_text.specs.declared.stage.Stage.TheVariants as stage
@@ -83,14 +83,14 @@ body_after count state key stamp number n bytes put body split size parts =
 -- after a schedule's key, stamp, op and number of lines, the next part is the first line
 pub lines_after : (count : ℕ) (state : State) (key : ScheduleKey) (stamp : Stamp) (n : ℕ) (bytes put rest number lines : List ℕ) → bytes ≡ put ++ rest
     → rest ≡ number ++ lines → length put ≡ 25 → length number ≡ 4 → ((i : ℕ) → get_or bytes i 0 < 256)
-    → AreParts state (3 ∷ put) (before_body (schedule_key (schedule_meant key)) (stamp_meant stamp))
+    → AreParts state (3 ∷ put) (before_body (schedule_key (schedule_key_meant key)) (stamp_meant stamp))
     → n ≡ from_be_bytes w32 number → IsLineCount (from_be_bytes w32 number)
     → BeginsWithParts IsPutHead count state (3 ∷ bytes) (stage.Line count key stamp n, 30)
 lines_after count state key stamp n bytes put rest number lines split parted put_size number_size small parts is good =
     let sizes = ap length whole ∙ length-append ((3 ∷ put) ++ number) lines in
     let both = length-append (3 ∷ put) number in
     record {
-      part = before_line (schedule_meant key) (stamp_meant stamp) n [];
+      part = before_line (schedule_key_meant key) (stamp_meant stamp) n [];
       ends = refl;
       within = omega arith;
       parts = record {
@@ -103,7 +103,7 @@ lines_after count state key stamp n bytes put rest number lines split parted put
     }
   where
     head : List ℕ
-    head = key_text (schedule_key (schedule_meant key)) ++ stamp_bytes (stamp_meant stamp)
+    head = key_text (schedule_key (schedule_key_meant key)) ++ stamp_bytes (stamp_meant stamp)
 
     few : IsLineCount n
     few = subst IsLineCount (sym is) good

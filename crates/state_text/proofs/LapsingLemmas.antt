@@ -14,9 +14,8 @@ use Rattle.docker_model.specs.state.State.{IsValid, State, raise_horizon}
 use Rattle.docker_model.specs.state.StatePart.{IsStampHere}
 use Rattle.state_laws.proofs.joins.JoinValid.{raised_is_valid}
 use Rattle.state_laws.proofs.states.Lapse.{entry_stays, entry_twice}
-use Rattle.docker_state.specs.Parts.{under_horizon}
+use Rattle.docker_state.specs.Parts.{under}
 use Rattle.state_text.specs.Lapsing.{HasLapsed}
-use Rattle.state_text.specs.PartsSoFar.{under}
 use Rattle.state_text.specs.Receiving.{given_state}
 
 above : (day : ℕ) (key : Key) (entries : List (Key × Entry)) → AllByRecursion (λ (entry : Key × Entry). IsBelow key_cmp entry.0 key) entries
@@ -55,7 +54,7 @@ entries_later horizon day (first ∷ entries) all =
 -- the given state with its horizon raised to this day
 pub raised_parts : (day own horizon later : ℕ) (parts : State) (given : List (Key × Entry)) → HasLapsed day own parts given → later ≡ max horizon own
     → IsValid (under horizon (given_state parts.ledger given))
-    → under_horizon later parts ≡ raise_horizon day (under horizon (given_state parts.ledger given))
+    → under later parts ≡ raise_horizon day (under horizon (given_state parts.ledger given))
 raised_parts day own horizon later parts given has is valid = λ i. record {
   horizon = (is ∙ ap (max horizon) has.day_is) i;
   ledger = parts.ledger;
@@ -66,7 +65,7 @@ raised_parts day own horizon later parts given has is valid = λ i. record {
 -- the state that is made from the kept entries is valid
 pub raised_valid : (day own horizon later : ℕ) (parts : State) (given : List (Key × Entry)) → HasLapsed day own parts given → later ≡ max horizon own
     → IsDay own → IsValid (under horizon (given_state parts.ledger given))
-    → IsValid (under_horizon later parts)
+    → IsValid (under later parts)
 raised_valid day own horizon later parts given has is within valid =
     subst IsValid (sym (raised_parts day own horizon later parts given has is valid))
     (raised_is_valid day (under horizon (given_state parts.ledger given)) (subst IsDay has.day_is within) valid)

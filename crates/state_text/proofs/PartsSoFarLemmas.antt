@@ -4,7 +4,7 @@ use Rattle.std.proofs.Common.{◌≡◌, ℕ, ap, sym, ◌∙◌, subst}
 use Rattle.std.specs.Prelude.{max}
 use Rattle.docker_model.specs.state.State.{State, IsValid, IsJoin, lapse_state, raise_horizon}
 use Rattle.state_laws.proofs.joins.RaisedHorizon.{set_last, join_then_set}
-use Rattle.state_text.specs.PartsSoFar.{under}
+use Rattle.docker_state.specs.Parts.{under}
 
 -- if the parts have the horizon 0, setting their horizon to 0 changes nothing
 pub under_none : (parts : State) → parts.horizon ≡ 0 → parts ≡ under 0 parts

@@ -11,10 +11,9 @@ use Rattle.state_laws.specs.Staging.{IsStaged, IsCommit}
 use Rattle.cif_laws.proofs.lists.Membership.{member_of}
 use Rattle.state_laws.proofs.joins.StagedEntry.{nothing_staged, one_staged_more, one_left_out, staging_joins_before}
 use Rattle.docker_state.specs.declared.item.LedgerItem.{LedgerItem}
-use Rattle.docker_state.specs.Parts.{last_key}
+use Rattle.docker_state.specs.Parts.{last_key, under}
 use Rattle.docker_state.specs.Staging.{Staging, IsOffered, IsAboveStaged}
 use Rattle.state_text.specs.Receiving.{given_state, items_of, IsStagedOf}
-use Rattle.state_text.specs.PartsSoFar.{under}
 
 -- if a key is above the keys of all entries that the receiving state was given, it is above the
 -- keys of the staged entries

@@ -14,10 +14,6 @@ horizon_meant (Some day) = day
 abbrev pub file_stamps : List LedgerItem → List FileStamp
 file_stamps items = map (λ (item : LedgerItem). item.stamp) items
 
--- the state with this horizon in place of its own
-abbrev pub under : ℕ → State → State
-under horizon state = record { horizon = horizon; ledger = state.ledger; entries = state.entries }
-
 -- the state with this item appended to its ledger, and without entries
 abbrev pub with_item : State → LedgerItem → State
 with_item state item = record { horizon = state.horizon; ledger = state.ledger ++ item ∷ []; entries = [] }

@@ -2,16 +2,12 @@
 -- next. What comes before that part follows from the stage, the parts that were read, and the lines
 -- of a schedule that isn't complete.
 use Rattle.std.specs.Prelude.{◌≡◌, ℕ, ◌+◌, ◌≤◌, Bool, true, false, List, [], length, ⊤}
-use Rattle.docker_model.specs.file.Change as model
 use Rattle.docker_model.specs.state.State.{State}
 use Rattle.docker_model.specs.state.StateText.{Format}
 use Rattle.docker_model.specs.state.StateFault.{StateCause, IsBadPart}
 use Rattle.docker_model.specs.state.StatePart.{EntryPart, before_tag, before_key, before_stamp, before_op, before_body, before_line, Before, before_mark}
 use Rattle.docker_model.specs.state.StatePart.{before_horizon, before_ledger_count, before_item, before_entry_count, in_entry, at_end, AreGood}
-use Rattle.cif_line.specs.Letter.{stp_letter}
-use Rattle.cif_change.specs.declared.key.AssocKey.{AssocKey}
-use Rattle.cif_change.specs.declared.key.ScheduleKey.{ScheduleKey}
-use Rattle.cif_change.specs.Meaning.{key_meant}
+use Rattle.cif_change.specs.Meaning.{key_meant, schedule_key_meant}
 use Rattle.docker_join.specs.Meaning.{stamp_meant}
 use Rattle.state_text.specs.declared.stage.Tag.{Tag}
 use Rattle.state_text.specs.declared.stage.Tag.TheVariants as tag
@@ -24,21 +20,6 @@ abbrev pub tag_meant : Tag → ℕ
 tag_meant tag.Tiploc = 1
 tag_meant tag.Assoc = 2
 tag_meant tag.Schedule = 3
-
--- converts a schedule's key from the code's type to the definitions' type
-abbrev pub schedule_meant : ScheduleKey → model.ScheduleKey
-schedule_meant key = record { uid = key.uid; runs_from = key.runs_from; indicator = stp_letter key.stp }
-
--- converts an association's key from the code's type to the definitions' type
-abbrev pub assoc_meant : AssocKey → model.AssociationKey
-assoc_meant key = record {
-  base = key.base;
-  associated = key.associated;
-  start = key.start;
-  location = key.location;
-  suffix = key.suffix;
-  indicator = stp_letter key.stp;
-}
 
 -- converts a stage to a `Before`, which says what part comes next and has the values of the parts before it. Besides the stage, the conversion needs the parts
 -- that were read, and the lines of a schedule that isn't complete
@@ -53,7 +34,7 @@ stage_meant (stage.Key count kind) state lines = in_entry count state (before_ke
 stage_meant (stage.Stamp count key) state lines = in_entry count state (before_stamp (key_meant key))
 stage_meant (stage.Op count key stamp) state lines = in_entry count state (before_op (key_meant key) (stamp_meant stamp))
 stage_meant (stage.Body count key stamp) state lines = in_entry count state (before_body (key_meant key) (stamp_meant stamp))
-stage_meant (stage.Line count key stamp n) state lines = in_entry count state (before_line (schedule_meant key) (stamp_meant stamp) n lines)
+stage_meant (stage.Line count key stamp n) state lines = in_entry count state (before_line (schedule_key_meant key) (stamp_meant stamp) n lines)
 stage_meant stage.End state lines = at_end state
 
 -- whether the next part is the tag, with which an entry begins

@@ -7,8 +7,7 @@ ghost use Rattle.docker_model.specs.file.Change.{tiploc_body, association_body, 
 ghost use Rattle.docker_model.specs.state.Op.{readable_end};
 ghost use Rattle.docker_model.specs.state.State.{IsAssociationOf};
 ghost use Rattle.cif_line.specs.Kind.{meaning};
-ghost use Rattle.cif_change.specs.Meaning.{key_meant, body_meant};
-ghost use Rattle.state_text.specs.Stage.{assoc_meant, schedule_meant};
+ghost use Rattle.cif_change.specs.Meaning.{key_meant, body_meant, association_key_meant, schedule_key_meant};
 ghost use Rattle.state_text.specs.Judged.{IsAssociationUnder, IsOfKey, IsFirstOf};
 
 use crate::fields::{field, is_text};
@@ -37,9 +36,9 @@ pub(crate) fn tiploc_body(bytes: &[u8]) -> Option<Body>
 /// Reads the body of the association with this key. Returns `None` if the bytes aren't a body of
 /// this association, or if the association ends before the horizon.
 pub(crate) fn assoc_body(key: &AssocKey, horizon: u16, bytes: &[u8]) -> Option<Body>
-    ensures { MatchOption result (¬ IsAssociationUnder horizon (assoc_meant key.now) bytes.now)
+    ensures { MatchOption result (¬ IsAssociationUnder horizon (association_key_meant key.now) bytes.now)
         (λ body. (body_meant body ≡ association_body bytes.now)
-        × IsAssociationUnder horizon (assoc_meant key.now) bytes.now) }
+        × IsAssociationUnder horizon (association_key_meant key.now) bytes.now) }
 {
     let Some(line) = Line::of(bytes) else {
         return None;
@@ -75,7 +74,7 @@ fn has_kind(line: &Line, wanted: Kind) -> bool
 /// Whether a line is the association with this key.
 fn is_association_of(key: &AssocKey, line: &Line) -> bool
     requires { IsRecord line.now }
-    ensures { IsTrue result ↔ IsAssociationOf (assoc_meant key.now) line.now }
+    ensures { IsTrue result ↔ IsAssociationOf (association_key_meant key.now) line.now }
 {
     if !has_kind(line, Kind::Association) {
         return false;
@@ -89,7 +88,7 @@ fn is_association_of(key: &AssocKey, line: &Line) -> bool
 /// Whether an association has the transaction `N` and this key.
 fn is_new_association(key: &AssocKey, view: &Assoc<'_>) -> bool
     ensures { IsTrue result ↔ (HasNewTransaction view.now ×
-        (association_named view.now ≡ association_key (assoc_meant key.now))) }
+        (association_named view.now ≡ association_key (association_key_meant key.now))) }
 {
     view.transaction() == Transaction::New && is_same(&association_of(view), &Key::Assoc(*key))
 }
@@ -118,8 +117,8 @@ fn is_same(first: &Key, second: &Key) -> bool
 /// Whether a line has the transaction `N` and this schedule key, and its schedule doesn't end
 /// before the horizon. The line's other fields aren't checked.
 pub(crate) fn is_first_of(key: &ScheduleKey, horizon: u16, line: &Line) -> bool
-    ensures of_key { IsTrue result → IsOfKey horizon (schedule_meant key.now) line.now }
-    ensures refused { result ≡ false → ¬ IsFirstOf horizon (schedule_meant key.now) line.now }
+    ensures of_key { IsTrue result → IsOfKey horizon (schedule_key_meant key.now) line.now }
+    ensures refused { result ≡ false → ¬ IsFirstOf horizon (schedule_key_meant key.now) line.now }
 {
     if !is_new_schedule(key, line) {
         return false;
@@ -131,7 +130,7 @@ pub(crate) fn is_first_of(key: &ScheduleKey, horizon: u16, line: &Line) -> bool
 fn is_new_schedule(key: &ScheduleKey, line: &Line) -> bool
     ensures { IsTrue result ↔ (HasNewTransaction line.now
         × IsTrue (is_date (columns 10 15 line.now))
-        × (schedule_named line.now ≡ schedule_key (schedule_meant key.now))) }
+        × (schedule_named line.now ≡ schedule_key (schedule_key_meant key.now))) }
 {
     if line.column(3) != b'N' {
         return false;

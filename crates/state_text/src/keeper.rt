@@ -6,8 +6,8 @@ ghost use Rattle.docker_model.specs.state.StatePart.{IsStampHere};
 ghost use Rattle.cif_change.specs.Meaning.{key_meant};
 ghost use Rattle.docker_join.specs.Meaning.{entry_meant};
 ghost use Rattle.docker_state.specs.Meaning.{item_meant};
-ghost use Rattle.docker_state.specs.Parts.{last_key};
-ghost use Rattle.state_text.specs.PartsSoFar.{horizon_meant, under, with_item, with_row};
+ghost use Rattle.docker_state.specs.Parts.{last_key, under};
+ghost use Rattle.state_text.specs.PartsSoFar.{horizon_meant, with_item, with_row};
 
 use cif_file::Key;
 use cif_line::{Day, Memory};

@@ -6,8 +6,8 @@ ghost use Rattle.docker_model.specs.state.StatePart.{IsStampHere};
 ghost use Rattle.cif_change.specs.Meaning.{key_meant};
 ghost use Rattle.docker_join.specs.Meaning.{entry_meant};
 ghost use Rattle.docker_state.specs.Meaning.{item_meant};
-ghost use Rattle.docker_state.specs.Parts.{last_key};
-ghost use Rattle.state_text.specs.PartsSoFar.{under, with_item, with_row};
+ghost use Rattle.docker_state.specs.Parts.{last_key, under};
+ghost use Rattle.state_text.specs.PartsSoFar.{with_item, with_row};
 
 use crate::keeper::{Keeper, Maker};
 use crate::received::Received;
@@ -27,7 +27,8 @@ pub struct PartsSoFar<K: Keeper> {
 
 impl<K: Keeper> Model for PartsSoFar<K> {
     ghost use Rattle.docker_model.specs.state.State as states;
-    ghost use Rattle.state_text.specs.PartsSoFar.{horizon_meant, under};
+    ghost use Rattle.docker_state.specs.Parts.{under};
+    ghost use Rattle.state_text.specs.PartsSoFar.{horizon_meant};
 
     ghost Value = { states.State };
 

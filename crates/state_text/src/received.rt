@@ -1,7 +1,8 @@
 //! A keeper that passes the parts to a state, which receives them.
 ghost use Rattle.std.specs.Prelude.{◌≡◌, [], IsOk, IsErr};
 ghost use Rattle.docker_model.specs.state.State.{State, IsValid, IsJoin};
-ghost use Rattle.state_text.specs.PartsSoFar.{horizon_meant, under};
+ghost use Rattle.docker_state.specs.Parts.{under};
+ghost use Rattle.state_text.specs.PartsSoFar.{horizon_meant};
 
 use crate::keeper::Keeper;
 use crate::receiving::{Receiver, Receiving};

@@ -2,7 +2,7 @@
 ghost use Rattle.std.specs.Prelude.{◌≡◌, ◌+◌, ◌-◌, ◌<◌, ◌↔◌, ◌⊎◌, [], ◌∷◌, ◌++◌, length, false, IsTrue, IsOk, IfOk, IfErr};
 ghost use Rattle.cif_change.specs.JourneyRead.{HasLines};
 ghost use Rattle.docker_model.specs.file.File.{BeginsSchedule};
-ghost use Rattle.state_text.specs.Stage.{schedule_meant};
+ghost use Rattle.cif_change.specs.Meaning.{schedule_key_meant};
 ghost use Rattle.state_text.specs.Judged.{IsOfKey, IsFirstOf};
 ghost use Rattle.state_text.specs.FaultMeaning.{cause_meant};
 ghost use Rattle.state_text.specs.Lines.{BeginUpTo, AreLinesIn, AreLinesUpToIn, IsLineRefusal, IsUpToRefusal};
@@ -221,9 +221,9 @@ fn may_follow<K: Keeper>(
     line: &Line,
 ) -> bool
     ensures first { IsTrue result → lines.now ≡ [] →
-        IsOfKey parts.now.horizon (schedule_meant key.now) line.now }
+        IsOfKey parts.now.horizon (schedule_key_meant key.now) line.now }
     ensures refused { result ≡ false → (lines.now ≡ []) ×
-        (¬ IsFirstOf parts.now.horizon (schedule_meant key.now) line.now) }
+        (¬ IsFirstOf parts.now.horizon (schedule_key_meant key.now) line.now) }
 {
     !lines.is_empty() || is_first_of(key, parts.horizon(), line)
 }
@@ -239,13 +239,13 @@ pub fn judged_line<K: Keeper>(
     bytes: &[u8],
 ) -> Result<(), StateCause>
     requires lines_of { (lines.old ≡ [])
-        ⊎ AreLinesIn parts.now (schedule_meant key.now) lines.old }
+        ⊎ AreLinesIn parts.now (schedule_key_meant key.now) lines.old }
     requires more { length lines.old < count }
     ensures taken { IsOk result → lines.new ≡ lines.old ++ bytes.now ∷ [] }
-    ensures up_to { IsOk result → AreLinesUpToIn parts.now (schedule_meant key.now) count
+    ensures up_to { IsOk result → AreLinesUpToIn parts.now (schedule_key_meant key.now) count
         (lines.old ++ bytes.now ∷ []) }
     ensures err { IfErr result (λ cause. IsUpToRefusal parts.now
-        (schedule_meant key.now) count lines.old bytes.now (cause_meant cause)) }
+        (schedule_key_meant key.now) count lines.old bytes.now (cause_meant cause)) }
 {
     let Some(line) = Line::of(bytes) else {
         return Err(StateCause::Body);
@@ -266,13 +266,13 @@ pub fn judged_inner_line<K: Keeper>(
     bytes: &[u8],
 ) -> Result<(), StateCause>
     requires lines_of { (lines.old ≡ [])
-        ⊎ AreLinesIn parts.now (schedule_meant key.now) lines.old }
+        ⊎ AreLinesIn parts.now (schedule_key_meant key.now) lines.old }
     requires more { length lines.old + 1 < count }
     ensures taken { IsOk result → lines.new ≡ lines.old ++ bytes.now ∷ [] }
-    ensures up_to { IsOk result → AreLinesUpToIn parts.now (schedule_meant key.now) count
+    ensures up_to { IsOk result → AreLinesUpToIn parts.now (schedule_key_meant key.now) count
         (lines.old ++ bytes.now ∷ []) }
     ensures err { IfErr result (λ cause. IsUpToRefusal parts.now
-        (schedule_meant key.now) count lines.old bytes.now (cause_meant cause)) }
+        (schedule_key_meant key.now) count lines.old bytes.now (cause_meant cause)) }
 {
     if lines.is_empty() {
         return judged_line(key, parts, count, lines, bytes);

@@ -8,11 +8,11 @@ ghost use Rattle.docker_model.specs.state.StateText.{mark};
 ghost use Rattle.docker_model.specs.state.StateText as formats;
 ghost use Rattle.docker_model.specs.state.StatePart.{before_mark, before_horizon, before_item, in_entry, before_tag, before_key, before_stamp, before_op, before_body, before_line, AreGood, IsStampHere, IsLineCount, width, key_width};
 ghost use Rattle.state_laws.specs.TextStage.{after_items, after_entries, with_entry};
-ghost use Rattle.cif_change.specs.Meaning.{key_meant};
+ghost use Rattle.cif_change.specs.Meaning.{key_meant, association_key_meant, schedule_key_meant};
 ghost use Rattle.docker_join.specs.Meaning.{stamp_meant, op_meant};
 ghost use Rattle.state_text.specs.FormatMeaning.{format_meant};
 ghost use Rattle.state_text.specs.Judged.{Judges};
-ghost use Rattle.state_text.specs.Stage.{tag_meant, assoc_meant, schedule_meant, stage_meant, IsReady, IsLast, IsFresh};
+ghost use Rattle.state_text.specs.Stage.{tag_meant, stage_meant, IsReady, IsLast, IsFresh};
 
 use crate::body::{assoc_body, tiploc_body};
 use crate::cause::StateCause;
@@ -262,10 +262,10 @@ fn after_assoc_body<K: Keeper>(
 ) -> Result<Stage, StateCause>
     ghost format: { formats.Format }
     requires good { AreGood format (in_entry count parts.old
-        (before_body (association_key (assoc_meant key)) (stamp_meant stamp))) }
+        (before_body (association_key (association_key_meant key)) (stamp_meant stamp))) }
     ensures { (lines : List (List ℕ)) →
         Judges format (in_entry count parts.old
-        (before_body (association_key (assoc_meant key)) (stamp_meant stamp))) bytes.now
+        (before_body (association_key (association_key_meant key)) (stamp_meant stamp))) bytes.now
         parts.new lines result }
 {
     match assoc_body(&key, parts.horizon(), bytes) {
@@ -305,7 +305,7 @@ fn after_line_count(
     requires { length bytes.now ≡ LINE_COUNT }
     ensures { (state : states.State) →
         Judges format (in_entry count state
-        (before_body (schedule_key (schedule_meant key)) (stamp_meant stamp))) bytes.now
+        (before_body (schedule_key (schedule_key_meant key)) (stamp_meant stamp))) bytes.now
         state lines.new result }
 {
     match line_count(bytes) {
@@ -337,10 +337,10 @@ fn after_last_line<K: Keeper>(
 ) -> Result<Stage, StateCause>
     ghost format: { formats.Format }
     requires good { AreGood format (in_entry count parts.old (before_line
-        (schedule_meant schedule.key) (stamp_meant schedule.stamp) schedule.count lines.old)) }
+        (schedule_key_meant schedule.key) (stamp_meant schedule.stamp) schedule.count lines.old)) }
     requires last { schedule.count ≤ length lines.old + 1 }
     ensures { Judges format (in_entry count parts.old (before_line
-        (schedule_meant schedule.key) (stamp_meant schedule.stamp) schedule.count lines.old))
+        (schedule_key_meant schedule.key) (stamp_meant schedule.stamp) schedule.count lines.old))
         bytes.now parts.new lines.new result }
 {
     judged_line(&schedule.key, parts, schedule.count, lines, bytes)?;

@@ -1,6 +1,5 @@
 pub mod Occurrences
 pub mod Meaning
-pub mod Keys
 pub mod EventWalk
 pub mod Falls
 pub mod Along

@@ -2,7 +2,7 @@
 ghost use Rattle.std.specs.Prelude.{◌≡◌, List, None, IfOk, OnOk, option_map};
 ghost use Rattle.std.specs.BTreeMap.{get};
 ghost use Rattle.std.specs.Option.{option_copied};
-ghost use Rattle.cif_change.specs.Meaning.{key_meant, body_meant};
+ghost use Rattle.cif_change.specs.Meaning.{key_meant, body_meant, association_key_meant};
 ghost use Rattle.docker_model.specs.docker.Choice.{Group, group_of};
 ghost use Rattle.docker_laws.specs.ChoiceWalk.{next_link};
 ghost use Rattle.docker_laws.specs.Gathering.{counts_as};
@@ -10,7 +10,6 @@ ghost use Rattle.docker_laws.specs.LiveRows.{Link, link_in};
 ghost use Rattle.docker_model.specs.state.Row.{Row, AreRowsOf};
 ghost use Rattle.docker_model.specs.state.State.{IsBodyOf};
 ghost use Rattle.train_choice.specs.Along.{link_along, AreGoodRows};
-ghost use Rattle.train_choice.specs.Keys.{association_key_meant};
 ghost use Rattle.train_choice.specs.Known.{group_cmp, HasOneMore};
 ghost use Rattle.docker_state.specs.Timetables.{live_in};
 

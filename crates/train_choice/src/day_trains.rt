@@ -6,7 +6,7 @@ ghost use Rattle.docker_model.specs.docker.Choice.{schedule_runs};
 ghost use Rattle.docker_laws.specs.Gathering.{runs_by};
 ghost use Rattle.docker_laws.specs.LiveRows.{train_in};
 ghost use Rattle.train_choice.specs.Along.{IsLiveTrain};
-ghost use Rattle.train_choice.specs.Keys.{schedule_key_meant};
+ghost use Rattle.cif_change.specs.Meaning.{schedule_key_meant};
 ghost use Rattle.docker_state.specs.Timetables.{live_in};
 
 use crate::choice::train_from;

@@ -1,7 +1,7 @@
 //! Groups of associations: for a day, at most one association of a group is chosen.
 ghost use Rattle.std.specs.Prelude.{◌≡◌};
 ghost use Rattle.docker_model.specs.docker.Choice.{group_of};
-ghost use Rattle.train_choice.specs.Keys.{association_key_meant};
+ghost use Rattle.cif_change.specs.Meaning.{association_key_meant};
 
 use cif_change::AssocKey;
 use cif_line::{Tiploc, Uid};

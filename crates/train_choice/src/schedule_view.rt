@@ -6,7 +6,7 @@ ghost use Rattle.docker_model.specs.file.File.{first_record};
 ghost use Rattle.docker_model.specs.state.State.{IsScheduleOf};
 ghost use Rattle.docker_model.specs.docker.Choice.{schedule_runs};
 ghost use Rattle.docker_model.specs.docker.Event.{falls_to};
-ghost use Rattle.train_choice.specs.Keys.{schedule_key_meant};
+ghost use Rattle.cif_change.specs.Meaning.{schedule_key_meant};
 ghost use Rattle.train_choice.specs.RecentRuns.{AreRecentRuns, may_run_recently, runs_back};
 ghost use Rattle.train_choice.specs.Occurrences.{occurrences};
 ghost use Rattle.train_choice.specs.UpTo.{occurrences_to, up_to_last};
@@ -30,7 +30,7 @@ pub struct ScheduleView<'a> {
 impl<'a> Model for ScheduleView<'a> {
     ghost use Rattle.docker_model.specs.docker.Choice.{Train};
     ghost use Rattle.docker_model.specs.state.State.{IsScheduleOf};
-    ghost use Rattle.train_choice.specs.Keys.{schedule_key_meant};
+    ghost use Rattle.cif_change.specs.Meaning.{schedule_key_meant};
 
     ghost Value = { Train };
 

@@ -2,7 +2,7 @@
 ghost use Rattle.std.specs.Prelude.{◌≡◌, Some, None, if◌then◌else◌};
 ghost use Rattle.std.specs.Str.{bytes_eq};
 ghost use Rattle.docker_laws.specs.Gathering.{runs_by};
-ghost use Rattle.train_choice.specs.Keys.{schedule_key_meant};
+ghost use Rattle.cif_change.specs.Meaning.{schedule_key_meant};
 
 use crate::schedule_view::ScheduleView;
 use cif_change::ScheduleKey;

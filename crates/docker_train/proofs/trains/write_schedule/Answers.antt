@@ -1,7 +1,7 @@
 use Rattle.std.proofs.Common.{List, ℕ, ap, subst, ◌∙◌}
 use Rattle.std.proofs.lemmas.Result.{on_err_weaker}
 use Rattle.cif_device.specs.Device.{TakesPart}
-use Rattle.train_choice.specs.Keys.{schedule_key_meant}
+use Rattle.cif_change.specs.Meaning.{schedule_key_meant}
 use Rattle.docker_train.specs.TrainRows.{Listing}
 use Rattle.docker_train.proofs.WrittenRows.{line_told}
 use Rattle.docker_train.proofs.trains.write_schedule.Goals as goal

@@ -1,7 +1,7 @@
 use Rattle.std.proofs.Common.{ap, ◌∙◌, Some}
 use Rattle.docker_model.specs.docker.Choice.{Train}
 use Rattle.docker_state.specs.Timetables.{live_in}
-use Rattle.train_choice.specs.Keys.{schedule_key_meant}
+use Rattle.cif_change.specs.Meaning.{schedule_key_meant}
 use Rattle.train_choice.specs.Along.{chosen_along}
 use Rattle.train_choice.proofs.Along.{train_from_told}
 use Rattle.train_choice.proofs.choice.train_from.Goals as goal

@@ -1,7 +1,8 @@
 use Rattle.std.proofs.Common.{map, ap, sym, ◌∙◌, subst}
 use Rattle.docker_model.specs.state.State.{State, IsValid, AreEntries}
 use Rattle.docker_join.specs.Meaning.{row_meant}
-use Rattle.state_text.specs.PartsSoFar.{horizon_meant, under}
+use Rattle.docker_state.specs.Parts.{under}
+use Rattle.state_text.specs.PartsSoFar.{horizon_meant}
 use Rattle.docker_excerpt.specs.Values.{Excerpting, with_entries, StandsAt}
 use Rattle.docker_excerpt.proofs.FinishedExcerpt.{kept_entries, kept_valid, is_excerpt_of, stands_for}
 use Rattle.docker_excerpt.proofs.excerpting.Excerpting.finish.Goals as goal

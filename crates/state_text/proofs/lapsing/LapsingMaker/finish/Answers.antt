@@ -1,6 +1,7 @@
 use Rattle.std.proofs.Common.{ap, sym, ◌∙◌, subst}
 use Rattle.docker_model.specs.state.State.{IsValid, raise_horizon}
-use Rattle.state_text.specs.PartsSoFar.{horizon_meant, under}
+use Rattle.docker_state.specs.Parts.{under}
+use Rattle.state_text.specs.PartsSoFar.{horizon_meant}
 use Rattle.state_text.proofs.LapsingLemmas.{raised_parts, raised_valid}
 use Rattle.state_text.proofs.lapsing.LapsingMaker.finish.Goals as goal
 

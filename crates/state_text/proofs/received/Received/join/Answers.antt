@@ -1,6 +1,7 @@
 use Rattle.std.proofs.Common.{◌≡◌, sym, ap, ◌∙◌, refl, subst, true, false}
 use Rattle.docker_model.specs.state.State.{IsValid, IsJoin}
-use Rattle.state_text.specs.PartsSoFar.{horizon_meant, under}
+use Rattle.docker_state.specs.Parts.{under}
+use Rattle.state_text.specs.PartsSoFar.{horizon_meant}
 use Rattle.state_text.specs.Receiving.{given_of}
 use Rattle.state_text.proofs.PartsSoFarLemmas.{join_behind, join_plain}
 use Rattle.state_text.proofs.received.Received.join.Goals as goal

@@ -1,6 +1,7 @@
 use Rattle.std.proofs.Common.{sym, ap, ◌∙◌, subst}
 use Rattle.docker_model.specs.state.State.{IsValid}
-use Rattle.state_text.specs.PartsSoFar.{horizon_meant, under}
+use Rattle.docker_state.specs.Parts.{under}
+use Rattle.state_text.specs.PartsSoFar.{horizon_meant}
 use Rattle.state_text.proofs.PartsSoFarLemmas.{under_none}
 use Rattle.state_text.proofs.whole.WholeMaker.finish.Goals as goal
 

@@ -8,7 +8,7 @@ use Rattle.docker_model.specs.file.Change.{AssociationKey}
 use Rattle.docker_model.specs.state.Op.{association_key_cmp}
 use Rattle.docker_model.specs.state.Row.{Row, AreRowsOf}
 use Rattle.docker_state.specs.Timetables.{live_in}
-use Rattle.train_choice.specs.Keys.{association_key_meant}
+use Rattle.cif_change.specs.Meaning.{association_key_meant}
 use Rattle.train_choice.specs.Known.{PlaceDay, group_cmp}
 use Rattle.train_choice.proofs.Known.{counts_told}
 use Rattle.train_choice.proofs.day_links.DayLinks.counts.Goals as goal
