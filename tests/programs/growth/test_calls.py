@@ -3,7 +3,8 @@
 Some rows of crates/hostile_tests/stdin begin with the word `growth`, and make a call in which a growth can be refused. Each of them is run with the first
 growth of its call refused, then the second, and so on, until a run has no growth to refuse. A refused run has to print that it is out of memory, and then
 what its call promises for this. After that it makes the call again, and prints the answer that crates/hostile_tests/stdout has for the row. A call may also
-manage with less memory and print that answer at once. But in each row, at least one growth has to make the call fail."""
+manage with less memory and print that answer at once. But in each row, at least one growth has to make the call fail. The calls in MANAGING are the exception:
+at least one growth is refused, and every run prints the answer of stdout."""
 import fcntl
 import os
 import re
@@ -47,6 +48,11 @@ PROMISES = {
     "prepare": ["status 3\nthe job of these words"],
     "emit": ["status 3\nnothing is written"],
     "run": ["before the first event", "one reply wants memory\noffices, messages and dockers are those that the replies leave"],
+}
+
+# Calls whose answer is the same without the memory.
+MANAGING = {
+    "FileParser::finish",  # each row's file lacks its trailer: the answer is `NoEnd`, even if memory runs out at the last line
 }
 
 
@@ -111,13 +117,14 @@ def refused_in_turn(calls, library, row):
 
 @each("row", rows())
 def test_each_growth_of_a_call_is_refused_in_turn(calls, refusing, row):
-    whole, allowed = whole_text(row), list(refused_texts(row))
+    whole, manages = whole_text(row), call_of(row) in MANAGING
+    allowed = [] if manages else list(refused_texts(row))
     *texts, last = refused_in_turn(calls, refusing, row)
     same("the answer if nothing is refused", last, whole)
     for growth, text in enumerate(texts, 1):
         is_refused = RECORD.sub("  out of memory at record N", text) in allowed
         holds(f"growth {growth} is refused, and it prints {text}", text == whole or is_refused)
-    assert any(text != whole for text in texts), "no growth was refused"
+    assert any(manages or text != whole for text in texts), "no growth was refused"
     print(f"{len(texts)} growths were refused")
 
 
