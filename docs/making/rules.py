@@ -9,16 +9,12 @@ import functools
 import re
 
 from making import calls, sources
-from making.sources import DOCS, ROOT, Fault, at, read
+from making.sources import DOCS, ROOT, Fault, at, names, read
 
 PAGE = DOCS / "RULES.md"
 HEAD = ("Rule", "Definition", "Promised by", "Code", "Test", "Wrong body")
 TYPE = re.compile(r"^ *pub(?:\(\w+\))? (?:struct|enum|trait) (\w+)", re.M)
 IMPL = re.compile(r"^impl(?:<[^{]*?>)? (\w+)(?:<[^{]*?>)? for (?:\w+::)*(\w+)", re.M)
-
-
-def names(cell):
-    return re.findall(r"`([^`]+)`", cell)
 
 
 # ---- The index of names

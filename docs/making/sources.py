@@ -75,6 +75,12 @@ def at(path, line):
     return Place(str(path.relative_to(ROOT)), line)
 
 
+def names(text):
+    """The texts between backquotes, outside blocks of code. A text between double backquotes may have single ones."""
+    plain = re.sub(r"^```.*?^```$", "", text, flags=re.M | re.S)
+    return re.findall(r"`([^`]+)`", re.sub(r"``.*?``", "", plain, flags=re.S))
+
+
 def by_hand(path, mark=MARK):
     """The part of a page before its mark, which is written by hand."""
     head, found, _ = read(path).partition(mark)
@@ -174,15 +180,10 @@ def by_name():
     return found
 
 
-def named(name):
-    """The definitions of a name, which may be `crate::name`."""
-    return by_name().get(name, [])
-
-
 def in_rules():
     """The definitions that rows of RULES.md cite."""
-    rows = (line.split(" | ") for line in read(ROOT / "docs" / "RULES.md").splitlines() if line.startswith("| "))
-    return {it for row in rows if len(row) > 1 for name in re.findall(r"`([^`]+)`", row[1]) for it in named(name)}
+    rows = (line.split(" | ") for line in read(DOCS / "RULES.md").splitlines() if line.startswith("| "))
+    return {it for row in rows if len(row) > 1 for name in names(row[1]) for it in by_name().get(name, ())}
 
 
 @functools.cache
