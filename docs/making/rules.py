@@ -47,32 +47,27 @@ def known():
                     if pattern is TYPE:
                         add("definition", crate, it.group(1), place)
         for edit in sorted((ROOT / "crates" / crate / "must-fail").glob("*.edit")):
-            add_bodies(crate, edit, lambda name, place: add("wrong body", crate, name, place))
+            begins = [(line[2:], number) for number, line in enumerate(read(edit).splitlines(), 1) if line.startswith("# ")]
+            for name, number in begins or [(edit.stem, 1)]:
+                add("wrong body", crate, name, at(edit, number))
     return found
 
 
-def add_bodies(crate, edit, add):
-    """The wrong bodies in a file, each with the line at which it begins."""
-    lines = read(edit).splitlines()
-    begins = [number for number, line in enumerate(lines, 1) if line.startswith("# ")]
-    for number in begins:
-        add(lines[number - 1][2:], at(edit, number))
-    if not begins:
-        add(edit.stem, at(edit, 1))
+def places(kind, name):
+    """The places to which a name may lead. A definition is preferred to a type with its name, and a public call to a private one."""
+    found = known()[kind].get(name, [])
+    if kind == "definition":
+        return [it for it in found if it.file.endswith(".antt")] or found
+    return [it for it in found if kind == "call" and getattr(it, "is_public", True)] or found
 
 
 def one(kind, name, row, links):
-    """The place to which a name leads. A definition is preferred to a type with its name, and a public call to a private one."""
-    found = known()[kind].get(name, [])
-    if kind == "definition":
-        found = [it for it in found if it.file.endswith(".antt")] or found
-    if kind == "call":
-        found = [it for it in found if getattr(it, "is_public", True)] or found
-    if len(found) != 1:
-        why = f"{len(found)} of the name" if found else "none of the name"
-        links.faults.append(f"{row}: {kind} `{name}`: there are {why}" if found else f"{row}: no {kind} `{name}`")
-        return None
-    return found[0]
+    """The only place to which a name leads."""
+    found = places(kind, name)
+    if len(found) == 1:
+        return found[0]
+    links.faults.append(f"{row}: {kind} `{name}`: there are {len(found) or 'none'} of the name")
+    return None
 
 
 def file_of(found):
@@ -103,11 +98,6 @@ class Links:
     def stop_at_faults(self, page):
         if self.faults:
             raise Fault("\n".join(f"docs/{page.name}: {it}" for it in dict.fromkeys(self.faults)))
-
-
-def plain(cell):
-    """A cell without its links."""
-    return re.sub(r"\[([^\]]+)\](?:\[[^\]]+\]|\([^)]+\))?", r"\1", cell)
 
 
 def linked(cell, kind, row, links):
@@ -202,12 +192,12 @@ def code(cell, bodies, row, links):
 
 
 def linked_row(cells, links):
-    """A row with its links."""
+    """A row with its links. The links that it already has are left out."""
     row = cells[0]
     if len(cells) != len(HEAD):
         links.faults.append(f"{row}: {len(cells)} columns")
         return cells
-    _, definition, promised, files, test, wrong = (plain(it) for it in cells)
+    _, definition, promised, files, test, wrong = (re.sub(r"\[([^\]]+)\](?:\[[^\]]+\]|\([^)]+\))?", r"\1", it) for it in cells)
     where = [one("wrong body", name, row, links) for name in names(wrong)]
     bodies = [body_at(it) for it in where if it]
     return [row, linked(definition, "definition", row, links), promises(promised, row, links), code(files, bodies, row, links),

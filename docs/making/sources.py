@@ -1,12 +1,12 @@
 """Finds the pages, and where the definitions, the functions with their clauses, and the wrong bodies of the crates are."""
 import collections
-import dataclasses
 import functools
 import importlib.machinery
 import importlib.util
 import pathlib
 import re
 import sys
+import typing
 
 ROOT = pathlib.Path(__file__).resolve().parent.parent.parent
 DOCS = ROOT / "docs"
@@ -19,16 +19,14 @@ USE = re.compile(r"^\s*(?:pub )?(?:ghost )?use Rattle\.(\w+)\.specs\.([\w.]+?)(?
 WORD = re.compile(r"[^\s(){}\[\],;→λ×⊎¬]+")
 
 
-@dataclasses.dataclass(frozen=True)
-class Place:
+class Place(typing.NamedTuple):
     """A line of a file."""
 
     file: str
     line: int
 
 
-@dataclasses.dataclass(frozen=True)
-class Definition:
+class Definition(typing.NamedTuple):
     """A definition of `specs/`, with the comment above it."""
 
     crate: str
@@ -38,8 +36,7 @@ class Definition:
     meaning: str
 
 
-@dataclasses.dataclass(frozen=True)
-class Function:
+class Function(typing.NamedTuple):
     """A function: its module, its type and trait, and its contract."""
 
     crate: str
@@ -119,6 +116,17 @@ def bodies():
 def wrong_bodies(crate):
     """The wrong bodies of a crate, by their file and name."""
     return bodies().bodies_of(crate)
+
+
+def closure(found, next_of):
+    """These things, those to which each of them leads, and so on."""
+    seen, left = set(), list(found)
+    while left:
+        it = left.pop()
+        if it not in seen:
+            seen.add(it)
+            left += next_of(it)
+    return seen
 
 
 # ---- Definitions
@@ -204,16 +212,11 @@ def constructors_in(path):
     return found
 
 
-def file_of(crate, module):
-    """The file of definitions that `Rattle.crate.specs.module` leads to."""
-    return ROOT / "crates" / crate / "specs" / (module.replace(".", "/") + ".antt")
-
-
 def taken(text):
     """What a text imports by its `use` lines: names with their definitions, and names of files with the definitions in them."""
     names, files = {}, {}
     for crate, module, listed, other in USE.findall(text):
-        path = file_of(crate, module)
+        path = ROOT / "crates" / crate / "specs" / f"{module.replace('.', '/')}.antt"
         known = constructors_in(path) | defined_in(path)
         for word in filter(None, map(str.strip, listed.split(","))):
             name, _, own = word.partition(" as ")
