@@ -10,7 +10,7 @@ from given import BAD_STATES
 from lists import train_text
 from mirror import WRITING_LINES, give_large, mirrored, reading, state_of, writing
 from outcomes import state_refused
-from programs import give, held, in_memory
+from programs import give, held, in_memory, renames
 from tables import each
 
 PLACE_DAYS = [
@@ -221,12 +221,7 @@ def test_a_file_without_end_of(first, again, wanted):
         assert held() == mirror.stored
 
 
-def renamed(text):
-    give(text, "other")
-    os.replace("other", "extract")
-
-
-@each("comes", {"written in place": lambda text: give(text, "extract"), "renamed into its place": renamed})
+@each("comes", {"written in place": lambda text: give(text, "extract"), "renamed into its place": lambda text: renames(text, "extract")})
 def test_a_file_that_changes_between_two_takes_of_its_name(comes):
     """Each `take` takes what the file holds when that `take` opens it."""
     with mirrored("full") as (asked, mirror):

@@ -4,7 +4,7 @@ import os
 
 from desks import DEVICE, DONE, NOT_SAVED, Desk, docker, ends_well
 from mirror import joined, state_of, writing
-from programs import give, held
+from programs import give, held, renames
 from tables import alone, each
 
 
@@ -45,11 +45,6 @@ def test_beside_a_docker(words):
         assert held() == joined(state_of("full", "night"), there)[1]
 
 
-def renamed(text):
-    give(text, "other")
-    os.replace("other", "STATE")
-
-
 def at_its_time(way, text, more=0):
     """A text comes, with the time of the old file and some nanoseconds more."""
     stamp = os.stat("STATE")
@@ -59,9 +54,9 @@ def at_its_time(way, text, more=0):
 
 @each("way", {
     "written in place": give,
-    "renamed into its place": renamed,
+    "renamed into its place": renames,
     "written in place within the second": lambda text: at_its_time(give, text, 1),
-    "another file of the same time": lambda text: at_its_time(renamed, text),
+    "another file of the same time": lambda text: at_its_time(renames, text),
 })
 def test_a_state_that_is(way):
     with writing("full") as asked:

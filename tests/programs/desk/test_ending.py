@@ -6,7 +6,7 @@ import pytest
 from checks import soon
 from desks import DEVICE, DONE, NOTHING, NOT_SAVED, Desk, desk, docker, written
 from mirror import give_large, reading, state_of
-from programs import DESK, DEVICE_LINE, Ended, give, held, in_turn, preloading, run
+from programs import DESK, DEVICE_LINE, Ended, give, held, in_turn, preloading, renames, run
 from tables import each
 
 WELL, UNSAVED_END = Ended(0, b"", b""), Ended(1, b"", NOT_SAVED)
@@ -76,8 +76,7 @@ def test_a_renewal_of_a_state_that_holds(names, is_unsaved):
     give(state_of("full"))
     with Desk("--write", "STATE") as asked:
         asked.does("take monday", "save")
-        give(state_of(*names), "other")
-        os.replace("other", "STATE")
+        renames(state_of(*names))
         asked.does("renew")
         assert asked.closed() == (UNSAVED_END if is_unsaved else WELL)
 

@@ -6,7 +6,7 @@ import pytest
 from docker_lines import LINES
 from given import FILES_LINE, ONE, STATE_OF_BOTH, STATE_OF_ONE, STATES
 from outcomes import DEVICE, DONE, USAGE, accepted, done, file_refused, keeps, prints, state_refused, stores
-from programs import Ended, docker, give, held, in_seconds, on_disk, redirected
+from programs import Ended, docker, give, held, in_seconds, on_disk, piped, redirected
 from states import under
 from tables import alone, each
 
@@ -63,16 +63,6 @@ def test_a_job_line_that_stores_to_standard_input():
 def test_a_file_from_standard_input():
     with open("one", "rb") as source:
         assert docker("check", "stdin", stdin=source) == ACCEPTED
-
-
-def piped(line, *words, before=()):
-    """Runs a command of `docker` whose standard input is a pipe from this line of the shell."""
-    with subprocess.Popen(["sh", "-c", line], stdout=subprocess.PIPE) as source:
-        try:
-            return docker(*words, before=before, stdin=source.stdout)
-        finally:
-            source.stdout.close()
-            source.kill()
 
 
 BY_BYTES = "exec dd if=one bs=1 status=none"

@@ -161,9 +161,9 @@ def number_of(name):
 
 
 @contextlib.contextmanager
-def open_pipe():
-    """Holds both ends of the pipe, so that no program waits for them."""
-    pipe = os.open("pipe", os.O_RDWR | os.O_NONBLOCK)
+def open_pipe(name="pipe"):
+    """Holds both ends of a pipe, so that no program waits for them."""
+    pipe = os.open(name, os.O_RDWR | os.O_NONBLOCK)
     try:
         yield pipe
     finally:

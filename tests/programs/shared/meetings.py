@@ -1,6 +1,7 @@
 """Runs something else just before one of a program's calls of the file system (tests/device).
 
 So the work of another program is tried between any two calls, and doesn't depend on luck."""
+import contextlib
 import fcntl
 import itertools
 import os
@@ -78,7 +79,7 @@ DRAFTS = {
 }
 
 
-class Draft:
+class Draft(contextlib.AbstractContextManager):
     """The file `draft`, which will get the name of a draft."""
 
     TEXT = b"DKS2 a draft"
@@ -90,9 +91,6 @@ class Draft:
         if is_locked:
             fcntl.flock(self.file, fcntl.LOCK_EX)
         self.seen = os.fstat(self.file)
-
-    def __enter__(self):
-        return self
 
     def __exit__(self, *_):
         os.close(self.file)

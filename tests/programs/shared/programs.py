@@ -48,6 +48,16 @@ def docker(*words, before=(), **options):
     return run([*before, DOCKER, *words], **options)
 
 
+def piped(line, *words, **options):
+    """Runs a command of `docker` whose standard input is a pipe from this line of the shell."""
+    with subprocess.Popen(["setsid", "sh", "-c", line], stdout=subprocess.PIPE) as source:
+        try:
+            return docker(*words, stdin=source.stdout, **options)
+        finally:
+            source.stdout.close()
+            source.terminate()
+
+
 def in_memory(kilobytes):
     """The words that run the program with at most this much memory."""
     return ("prlimit", f"--as={kilobytes * 1024}")
@@ -139,6 +149,12 @@ def give(text, name="STATE"):
     """Makes a file with this text."""
     pathlib.Path(name).write_bytes(text)
     return text
+
+
+def renames(text, name="STATE"):
+    """A new file with this text takes the place of a file."""
+    give(text, "renamed")
+    os.replace("renamed", name)
 
 
 def held(name="STATE"):
