@@ -61,10 +61,7 @@ class Tried:
         assert ended._replace(output=b"") in wanted
         assert self.wanted.output.startswith(ended.output), "other output"
         assert is_as(self.before), "another state"
-        self.look_at_draft(call)
-
-    def look_at_draft(self, call):
-        """A command looks twice whether the draft is its own. If one of these looks fails, the draft stays, and the next command removes it."""
+        # A command looks twice whether the draft is its own. If one of these looks fails, the draft stays, and the next command removes it.
         if os.path.lexists("office.new"):
             assert call == "statx", "a draft is left"
             self.drafts += 1
@@ -165,55 +162,33 @@ def test_statuses_as_one_call_fails(device, call, error, before, words, wanted):
     assert statuses(device, call, error, before, words) == wanted
 
 
-# A read or a write that a signal interrupts is repeated.
+# A read or a write that a signal interrupts is repeated: each is interrupted once. What a write doesn't write is written by the next one: each write of more than
+# one byte writes only half of them.
 
 
 @pytest.fixture
-def interrupting(device):
-    """Each read and each write is interrupted once. At least one has to be interrupted."""
-    yield preloading(device, INTERRUPT=1, TOLD="met")
-    assert os.path.exists("met"), "nothing was interrupted"
+def disturbed(device, setting):
+    """The words that disturb the program. Something has to be disturbed."""
+    yield preloading(device, **{setting: 1}, TOLD="met")
+    assert os.path.exists("met"), "nothing was disturbed"
 
 
-@each("words, text, wanted", {
-    "a file whose reads are interrupted": ("check one", "", ACCEPTED),
-    "standard input whose reads are interrupted": ("", "day stdin ASHFELD 2024-06-10\n" + ONE, ASHFELD),
-    "a docker whose writes are interrupted": ("print state_of_one ASHFELD 2024-06-10", "", ASHFELD),
+@each("setting, words, text, wanted", {
+    "a file whose reads are interrupted": ("INTERRUPT", "check one", "", ACCEPTED),
+    "standard input whose reads are interrupted": ("INTERRUPT", "", "day stdin ASHFELD 2024-06-10\n" + ONE, ASHFELD),
+    "a docker whose writes are interrupted": ("INTERRUPT", "print state_of_one ASHFELD 2024-06-10", "", ASHFELD),
+    "a docker that is written partly": ("PARTLY", "print state_of_one ASHFELD 2024-06-10", "", ASHFELD),
+    "the line of a fault that is written partly": ("PARTLY", "check short", "", file_refused("2: Length")),
 })
-def test_interrupted(interrupting, words, text, wanted):
-    assert docker(*words.split(), before=interrupting, given=text.encode()) == wanted
+def test_disturbed(disturbed, words, text, wanted):
+    assert docker(*words.split(), before=disturbed, given=text.encode()) == wanted
 
 
-def test_a_take_whose_reads_and_writes_are_interrupted(interrupting, large):
-    give(STATE_OF_BOTH, "office")
-    stores(large.wanted_large, "take", "office", "large", before=interrupting)
-
-
-def test_a_merge_whose_reads_and_writes_are_interrupted(interrupting):
-    give(STATE_OF_ONE, "office")
-    words = ("merge", "office", "stdin")
-    stores(STATE_OF_BOTH, *words, before=interrupting, given=STATE_OF_REVISED)
-
-
-# What a write doesn't write is written by the next one.
-
-
-@pytest.fixture
-def writing_partly(device):
-    """Each write of more than one byte writes only half of them. There has to be such a write."""
-    yield preloading(device, PARTLY=1, TOLD="met")
-    assert os.path.exists("met"), "each write wrote all its bytes"
-
-
-@each("words, wanted", {
-    "a docker": ("print state_of_one ASHFELD 2024-06-10", ASHFELD),
-    "the line of a fault": ("check short", file_refused("2: Length")),
+@each("setting, words, text, before, after", {
+    "a take whose reads and writes are interrupted": ("INTERRUPT", "take office large", b"", STATE_OF_BOTH, "wanted_large"),
+    "a merge whose reads and writes are interrupted": ("INTERRUPT", "merge office stdin", STATE_OF_REVISED, STATE_OF_ONE, "state_of_both"),
+    "a state that is written partly": ("PARTLY", "merge office stdin", STATE_OF_REVISED, STATE_OF_ONE, "state_of_both"),
 })
-def test_written_partly(writing_partly, words, wanted):
-    assert docker(*words.split(), before=writing_partly) == wanted
-
-
-def test_a_state_that_is_written_partly(writing_partly):
-    give(STATE_OF_ONE, "office")
-    words = ("merge", "office", "stdin")
-    stores(STATE_OF_BOTH, *words, before=writing_partly, given=STATE_OF_REVISED)
+def test_stores_what_is_disturbed(disturbed, large, words, text, before, after):
+    give(before, "office")
+    stores(held(after), *words.split(), before=disturbed, given=text)

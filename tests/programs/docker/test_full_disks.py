@@ -13,16 +13,11 @@ KILOBYTES = {f"{size} KiB": size for size in (1, 7, 16)}
 
 
 @each("kilobytes", KILOBYTES)
-def test_take_on_a_disk_that_is_full_at(kilobytes):
-    give(STATE_OF_BOTH, "office")
-    keeps(DEVICE, "take", "office", "places", before=on_disk(kilobytes))
-
-
-@each("kilobytes", KILOBYTES)
-def test_merge_on_a_disk_that_is_full_at(kilobytes):
+@each("words", {"take": "take office places", "merge": "merge office of_places"})
+def test_a_disk_that_becomes_full(kilobytes, words):
     give(STATE_OF_BOTH, "office")
     takes("of_places", "places")
-    keeps(DEVICE, "merge", "office", "of_places", before=on_disk(kilobytes))
+    keeps(DEVICE, *words.split(), before=on_disk(kilobytes))
 
 
 def full_disk(*words):

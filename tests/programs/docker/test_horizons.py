@@ -18,6 +18,7 @@ OLD = older(STATE_OF_ONE)
     "merge of a state under a greater horizon": (STATE_OF_ONE, "merge office state_of_lapsed", LAPSED),
     "merge under a horizon": (LAPSED, "merge office state_of_one", LAPSED),
     "take under a horizon": (LAPSED, "take office one", LAPSED),
+    "migrate": (OLD, "migrate office", STATE_OF_ONE),
 })
 def test_stores(before, words, wanted):
     give(before, "office")
@@ -30,9 +31,10 @@ def test_merge_of_a_state_under_a_horizon():
     stores(under("2024-06-14", STATE_OF_BOTH), "merge", "office", "other")
 
 
-def test_the_text_of_a_state_that_lapsed():
-    """These tests write the texts of states part by part, so the size of one is checked here."""
-    assert len(LAPSED) == 67
+@each("text, size", {"a state that lapsed": (LAPSED, 67), "a state in the older format": (OLD, 309)})
+def test_the_text_of(text, size):
+    """These tests write the texts of states part by part, so the sizes of some are checked here."""
+    assert len(text) == size
 
 
 @each("text, date, wanted", {
@@ -67,21 +69,8 @@ def test_an_older_schedule_that_ends_later_stays_below_what_lapsed():
     assert printed == prints("ASHFELD", "2024-06-24")
 
 
-def test_the_text_of_a_state_in_the_older_format():
-    assert len(OLD) == 309
-
-
-def test_migrate():
-    give(OLD, "office")
-    stores(STATE_OF_ONE, "migrate", "office")
-
-
-def test_migrate_of_the_newer_format():
-    give(STATE_OF_ONE, "office")
-    keeps(state_refused(0, "Mark"), "migrate", "office")
-
-
 @each("text, offset, cause", {
+    "the newer format": (STATE_OF_ONE, 0, "Mark"),
     "a text cut to 3 bytes": (OLD[:3], 0, "Short"),
     "a text cut to 11 bytes": (OLD[:11], 4, "Short"),
     "a text cut to 30 bytes": (OLD[:30], 12, "Short"),
