@@ -1,9 +1,9 @@
 """How lines are read: which lines aren't requests, their bytes and lengths, and the pieces in which they come."""
-import array
 import fcntl
 import os
-import pathlib
 import random
+import re
+import sys
 import termios
 
 import desk_extracts as extracts
@@ -81,8 +81,7 @@ def test_a_files_name_up_to_the_lines_last_byte():
 
 def memory(process):
     """The greatest amount of memory that a process has used, in KB."""
-    text = pathlib.Path(f"/proc/{process.pid}/status").read_text(encoding="ascii")
-    return int(next(line.split()[1] for line in text.split("\n") if line.startswith("VmHWM:")))
+    return int(re.search(rb"^VmHWM:\s*(\d+)", held(f"/proc/{process.pid}/status"), re.M)[1])
 
 
 def test_a_line_of_100_mb_in_no_more_memory():
@@ -128,10 +127,7 @@ KINDS = [
 def answers_by_line(*words):
     """The answer of a desk to each of these lines, asked one by one."""
     with Desk(*words) as asked:
-        answers = {}
-        for line in KINDS:
-            asked.say(line)
-            answers[line] = asked.answer()
+        answers = {line: asked.say(line) or asked.answer() for line in KINDS}
         ends_well(asked)
     return answers
 
@@ -147,7 +143,7 @@ def test_10000_requests_at_once():
     lines = mixed("at once", 10000)
     wanted = written([answers[line] for line in lines])
     assert desk("STATE", given=b"".join(lines)) == Ended(0, wanted, b"")
-    pathlib.Path("lines").write_bytes(b"".join(lines))
+    give(b"".join(lines), "lines")
     with open("lines", "rb") as source:
         assert desk("STATE", stdin=source) == Ended(0, wanted, b"")
 
@@ -167,9 +163,7 @@ def test_no_memory_is_kept_between_requests():
 
 def unread(process):
     """The number of bytes of its input that a program hasn't read yet."""
-    count = array.array("i", [0])
-    fcntl.ioctl(process.stdin, termios.FIONREAD, count)
-    return count[0]
+    return int.from_bytes(fcntl.ioctl(process.stdin, termios.FIONREAD, bytes(4)), sys.byteorder)
 
 
 def test_requests_by_one_byte_at_a_time():

@@ -1,6 +1,5 @@
 """What `save` writes, and that no STATE is ever lost."""
 import os
-import pathlib
 import random
 import resource
 import signal
@@ -77,17 +76,6 @@ def apart():
     return command
 
 
-def fill(folder):
-    """Fills a file system with one file, and returns that file."""
-    filler = pathlib.Path(folder) / "filler"
-    with open(filler, "wb", buffering=0) as file:
-        try:
-            while True:
-                file.write(b"x" * 4096)
-        except OSError:
-            return filler
-
-
 @alone
 def test_a_small_file_system_that_is_full():
     give_large(800)
@@ -95,12 +83,12 @@ def test_a_small_file_system_that_is_full():
     with Desk("--write", "small/STATE", program=apart()) as asked:
         asked.does("take large")
         folder = f"/proc/{asked.process.pid}/root{os.getcwd()}/small"
-        filler = fill(folder)
+        subprocess.run(["dd", "if=/dev/zero", f"of={folder}/filler"], check=False, stderr=subprocess.DEVNULL)
         assert asked.ask("save") == DEVICE
         assert sorted(os.listdir(folder)) == ["STATE", "filler"]
         assert held(f"{folder}/STATE") == before
         assert asked.ask("print ASHFELD 2024-06-14").text.count(b" L0") == 800
-        os.remove(filler)
+        os.remove(f"{folder}/filler")
         asked.does("save")
         assert held(f"{folder}/STATE") == with_large()
         ends_well(asked)
@@ -128,27 +116,14 @@ def test_a_draft_that_a_killed_command_left():
 
 
 SIGNALS = ["SIGINT", "SIGTERM"]
-
-
-def default_signals():
-    signal.signal(signal.SIGINT, signal.SIG_DFL)
-    signal.signal(signal.SIGTERM, signal.SIG_DFL)
-
-
-def time_of_save(before):
-    """How long it takes to save the large file's state."""
-    give(before)
-    with Desk("--write", "STATE") as asked:
-        asked.ask("take large")
-        began = time.monotonic()
-        asked.does("save")
-        return time.monotonic() - began
+# The words that run a desk which doesn't ignore these signals.
+HEEDING = ("env", "--default-signal=INT,TERM")
 
 
 def signalled(which, before, wanted, delay):
     """Sends a signal to a desk during a save, and checks what it leaves. Returns whether STATE is as before, and whether a draft is left."""
     give(before)
-    with Desk("--write", "STATE", preexec_fn=default_signals) as asked:
+    with Desk("--write", "STATE", program=HEEDING) as asked:
         asked.does("take large")
         asked.say(b"save\n")
         time.sleep(delay)
@@ -170,7 +145,11 @@ def test_a_signal_at_random_moments_of_a_save(name):
     which, before = getattr(signal, name), state_of("full")
     give_large(4000)
     wanted, numbers, met = with_large(), random.Random(name), set()
-    longest = 1.3 * time_of_save(before)
+    with writing("full") as asked:
+        asked.does("take large")
+        began = time.monotonic()
+        asked.does("save")
+        longest = 1.3 * (time.monotonic() - began)
     for _ in range(60):
         met.add(signalled(which, before, wanted, numbers.uniform(0, longest)))
         ended = desk("--write", "STATE", given=b"take large\nsave\n")
@@ -183,7 +162,7 @@ def test_a_signal_at_random_moments_of_a_save(name):
 @each("name", SIGNALS)
 def test_a_signal_between_requests(name):
     which, before = getattr(signal, name), give(state_of("full"))
-    with Desk("--write", "STATE", preexec_fn=default_signals) as asked:
+    with Desk("--write", "STATE", program=HEEDING) as asked:
         asked.does("take monday")
         asked.process.send_signal(which)
         assert asked.ended() == Ended(-which, b"", b"")
