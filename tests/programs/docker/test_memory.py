@@ -66,12 +66,8 @@ def test_an_endless_pipe_keeps_the_state(line, words, wanted):
     holds_only("office", STATE_OF_BOTH)
 
 
-def sizes():
-    """Sizes in KiB: 4 MiB, and then a quarter more each time."""
-    size = 4096
-    while size < 262144:
-        yield size
-        size += size // 4
+# Sizes in KiB: 4 MiB, and then a quarter more each time.
+SIZES = [int(4096 * 1.25 ** step) for step in range(19)]
 
 
 @each("words, is_changed", {
@@ -83,9 +79,8 @@ def sizes():
 def test_until_it_is_enough(large, words, is_changed):
     """With each size, either the status is 3 and nothing is written, or the whole command is done.
     `check` keeps nothing of a file, so the smallest size may be enough for it."""
-    wanted = docker(*words.split()) if not is_changed else DONE
-    refused = 0
-    for size in sizes():
+    wanted, refused = docker(*words.split()) if not is_changed else DONE, 0
+    for size in SIZES:
         give(STATE_OF_BOTH, "office")
         ended = docker(*words.split(), before=in_memory(size))
         if ended.status == 0:

@@ -13,30 +13,21 @@ def test_take_of(file):
     keeps(file_refused(FAULTS[file]), "take", "office", file)
 
 
-def fault_of_cut(size):
-    """The fault of the file of one schedule if it is cut to this many bytes."""
-    line, column = divmod(size, 81)
-    return {0: f"{line + 1}: NoEnd", 80: f"{line + 2}: NoEnd"}.get(column, f"{line + 1}: Length")
-
-
 def test_take_of_each_cut_of_a_file():
     give(STATE_OF_ONE, "office")
     for size in range(404):
+        line, column = divmod(size, 81)
+        fault = {0: f"{line + 1}: NoEnd", 80: f"{line + 2}: NoEnd"}.get(column, f"{line + 1}: Length")
         ended = docker("take", "office", "stdin", given=ONE[:size].encode())
-        assert ended == file_refused(fault_of_cut(size)), f"cut to {size}"
+        assert ended == file_refused(fault), f"cut to {size}"
     holds_only("office", STATE_OF_ONE)
-
-
-def offset_of_cut(size):
-    """The offset at which the state of one schedule is too short if it is cut to this many bytes."""
-    parts = (0, 4, 6, 14, 33, 41)
-    return max(part for part in parts if part <= size)
 
 
 def test_merge_print_and_files_of_each_cut_of_a_state():
     give(STATE_OF_REVISED, "office")
     for size in range(311):
-        wanted = state_refused(offset_of_cut(size), "Short")
+        # It is too short at the last part that begins before the cut.
+        wanted = state_refused(max(part for part in (0, 4, 6, 14, 33, 41) if part <= size), "Short")
         for words in ("merge office stdin", "print stdin NOWHERE 2024-06-10", "files stdin"):
             ended = docker(*words.split(), given=STATE_OF_ONE[:size])
             assert ended == wanted, f"{words}, cut to {size}"

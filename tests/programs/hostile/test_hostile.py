@@ -9,7 +9,7 @@ from checks import same
 from desks import Answer, answers_in
 from details import docker_part
 from docker_lines import event, works_on
-from outcomes import DONE, done, holds_only, prints
+from outcomes import DONE, done, holds_only, prints, takes
 from programs import DESK, Ended, docker, give, in_seconds, run
 from records import ALWAYS, NO_END, association, basic, extract, header, origin, record, terminus
 from states import ledger
@@ -129,8 +129,7 @@ def test_day_of_a_hostile_file(units, place, wanted):
 def test_trains_of_one_uid_with_many_schedules():
     """All schedules of the UID run on the day and have the train identity."""
     give(extract(header("240609", indicator="F"), *of_one_uid()).encode(), "hostile")
-    same("the new state", docker("new", "STATE"), DONE)
-    same("the taken file", docker("take", "STATE", "hostile"), DONE)
+    takes("STATE", "hostile")
     ended = run([*in_seconds(1), DESK, "STATE"], f"trains 1A10 {DAY}\n".encode())
     same("the answer", ended, Ended(0, Answer(0, f"A00001 {DAY} N\n".encode()).written(), b""))
 
@@ -152,8 +151,7 @@ def test_details_of_a_hostile_file(units):
     """The detailed docker has the same lines as the docker. Each has the records of its own train, and
     its own association."""
     give(extract(header("240609", indicator="F"), *units()).encode(), "hostile")
-    same("the new state", docker("new", "STATE"), DONE)
-    same("the taken file", docker("take", "STATE", "hostile"), DONE)
+    takes("STATE", "hostile")
     requests = f"print MEETING {DAY}\ndetail MEETING {DAY}\n"
     ended = run([*in_seconds(2), DESK, "STATE"], requests.encode())
     plain, detailed = answers_in(ended.output)
