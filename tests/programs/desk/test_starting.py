@@ -1,7 +1,8 @@
-"""How a desk starts: its words, a STATE that is refused, and streams that are closed."""
+"""How a desk starts: its words, a STATE that is refused, and streams that are closed. Also what `desk --help` and `desk --version` print, and that they do nothing
+else."""
 import os
 
-from desks import DONE, USAGE, Answer, Desk, desk, docker, written
+from desks import DONE, HELP, USAGE, VERSION, Answer, Desk, desk, docker, written
 from given import BAD_STATES
 from lists import train_text
 from mirror import Mirror, state_of
@@ -21,8 +22,7 @@ def unread_by(*words):
     """Gives a desk a file of three lines. Returns how the desk ends, and how much it leaves unread."""
     give(SAVING, "lines")
     with open("lines", "rb") as source:
-        ended = desk(*words, stdin=source)
-        return ended, source.read()
+        return desk(*words, stdin=source), source.read()
 
 
 @each("words", {str(words): words for words in REFUSED_WORDS})
@@ -122,3 +122,28 @@ def test_a_desk_leaves_the_folder_as_it_was_if_it_only_reads():
         assert sorted(os.listdir()) == before
         asked.closed()
     assert sorted(os.listdir()) == before
+
+
+ANSWERS = {"--help": HELP, "--version": VERSION}
+
+
+@each("word", [*ANSWERS])
+def test_the_text_to_the_letter(word):
+    before = give(state_of("full"))
+    give(SAVING, "lines")
+    names = sorted(os.listdir())
+    assert unread_by(word) == (Ended(0, ANSWERS[word], b""), SAVING)
+    assert (held(), sorted(os.listdir())) == (before, names)
+
+
+@each("word", [*ANSWERS])
+def test_a_file_of_that_name_is_not_opened(word):
+    os.mkfifo(word)
+    assert desk(word) == Ended(0, ANSWERS[word], b"")
+
+
+@each("word", [*ANSWERS])
+def test_an_output_that_is_full(word):
+    with open("/dev/full", "wb") as full:
+        ended = desk(word, stdout=full)
+    assert (ended.status, ended.errors) == (4, DEVICE_LINE)
