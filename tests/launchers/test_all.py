@@ -46,12 +46,12 @@ class Tree:
         path.parent.mkdir(parents=True, exist_ok=True)
         path.write_text(text, encoding="utf-8")
 
-    def run(self, *words, **more):
+    def run(self, *words, script="test", **more):
         env = {key: value for key, value in os.environ.items() if key != "RT_JOBS"}
         env |= {"TREE": str(self.folder), "PATH": f"{self.folder}/bin:{os.environ['PATH']}", **more}
-        (self.folder / "ran").unlink(missing_ok=True)
-        ended = subprocess.run([self.folder / "test", *words], cwd="/", env=env, check=False, capture_output=True, text=True)
-        ran = (self.folder / "ran").read_text(encoding="utf-8").splitlines() if (self.folder / "ran").exists() else []
+        self.puts(".", "ran", "")
+        ended = subprocess.run([self.folder / script, *words], cwd="/", env=env, check=False, capture_output=True, text=True)
+        ran = (self.folder / "ran").read_text(encoding="utf-8").splitlines()
         return ended, [line.split(":")[0] for line in ran], ran
 
 
@@ -137,8 +137,7 @@ def test_packages_that_are_missing_are_named(tree):
 
 def test_the_gate_runs_everything(tree):
     shutil.copytree(ROOT / ".ci", tree.folder / ".ci")
-    env = {**os.environ, "TREE": str(tree.folder), "PATH": f"{tree.folder}/bin:{os.environ['PATH']}"}
-    ended = subprocess.run([tree.folder / ".ci" / "run"], cwd="/", env=env, check=False, capture_output=True, text=True)
+    ended, _, _ = tree.run(script=".ci/run")
     assert (ended.returncode, last(ended)) == (0, "41 passed, 0 failed")
     tree.puts("status", "tests/run programs", "1")
-    assert subprocess.run([tree.folder / ".ci" / "run"], cwd="/", env=env, check=False, capture_output=True).returncode == 1
+    assert tree.run(script=".ci/run")[0].returncode == 1

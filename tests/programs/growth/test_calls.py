@@ -9,6 +9,7 @@ import fcntl
 import os
 import re
 import subprocess
+import sys
 import textwrap
 
 import pytest
@@ -80,26 +81,14 @@ def refused_texts(row):
         yield "".join(f"{line}\n" for line in (first, refused, *rest))
 
 
-def is_old():
-    """Whether the program is older than one of its sources, or isn't there."""
-    if not os.path.exists(CALLS):
-        return True
-    sources = [path for end in ("rt", "antt") for path in CRATE.parent.rglob(f"*.{end}")]
-    built = os.path.getmtime(CALLS)
-    return any(path.stat().st_mtime > built for path in sources if "out" not in path.parts)
-
-
 @pytest.fixture(scope="session")
-def calls(work):
-    """The program that makes the calls. It is built if needed, unless HOSTILE_TESTS names another program. One process builds it, while others wait."""
+def calls():
+    """The program that makes the calls. The launchers' script builds it if needed, unless HOSTILE_TESTS names another program. One process builds it, while
+    others wait."""
     if not os.environ.get("HOSTILE_TESTS"):
-        with open(CRATE / "stdin", "rb") as locked, open(work / "build", "wb") as log:
+        with open(CRATE / "stdin", "rb") as locked:
             fcntl.flock(locked, fcntl.LOCK_EX)
-            if is_old():
-                options = {"stdin": subprocess.DEVNULL, "stdout": log, "stderr": subprocess.STDOUT}
-                ended = subprocess.run(["rt", "run"], cwd=CRATE, check=False, **options)
-                assert ended.returncode == 0, (work / "build").read_text(encoding="utf-8")[-300:]
-                os.utime(CALLS)
+            subprocess.run([sys.executable, ROOT / "lib" / "launch.py", CRATE.name], stdin=subprocess.DEVNULL, check=True)
     return CALLS
 
 
