@@ -28,15 +28,12 @@ UNSAVED = {
 
 @each("lines, is_unsaved", UNSAVED)
 def test_the_end_of_input_after(lines, is_unsaved):
-    before = give(state_of("full"))
-    wanted = (1, NOT_SAVED) if is_unsaved else (0, b"")
     text = "".join(f"{line}\n" for line in lines)
     for cut in ("", "save"):
-        give(before)
+        before = give(state_of("full"))
         ended = desk("--write", "STATE", given=(text + cut).encode())
-        assert (ended.status, ended.errors) == wanted, f"the end after {text + cut!r}"
-        if "save" not in lines:
-            assert held() == before
+        assert (ended.status, ended.errors) == ((1, NOT_SAVED) if is_unsaved else (0, b"")), f"the end after {text + cut!r}"
+        assert "save" in lines or held() == before
 
 
 def test_changes_whose_save_was_refused_are_unsaved():
@@ -97,8 +94,7 @@ BOTH_LINES = DEVICE_LINE + NOT_SAVED
 def test_an_output_that_fails_while_changes_are_unsaved():
     before = give(state_of("full"))
     with open("/dev/full", "wb") as full:
-        ended = run([DESK, "--write", "STATE"], b"take monday\nsave\n", stdout=full)
-    assert ended == Ended(4, None, BOTH_LINES)
+        assert desk("--write", "STATE", given=b"take monday\nsave\n", stdout=full) == Ended(4, None, BOTH_LINES)
     assert held() == before
 
 
@@ -146,10 +142,8 @@ def test_a_reader_that_goes_away_within_an_answer():
 def test_a_full_device_as_output():
     give(state_of("full"))
     with open("/dev/full", "wb") as full:
-        ended = run([DESK, "STATE"], b"files\nfiles\n", stdout=full)
-        assert ended == Ended(4, None, DEVICE_LINE)
-        ended = run([DESK, "STATE"], b"", stdout=full)
-        assert ended == Ended(0, None, b"")
+        assert desk("STATE", given=b"files\nfiles\n", stdout=full) == Ended(4, None, DEVICE_LINE)
+        assert desk("STATE", stdout=full) == Ended(0, None, b"")
 
 
 @each("size", {f"of {size} bytes": size for size in (1, 5, 6, 7, 40, 100)})
