@@ -140,8 +140,7 @@ def cases_named(path, name):
 
 def case_of(folder, name, row, links):
     """The link to a case in a folder."""
-    paths = sorted((ROOT / folder).rglob("test_*.py"))
-    found = [(path, begin) for path in paths for begin in cases_named(path, name)]
+    found = [(path, begin) for path in sorted((ROOT / folder).rglob("test_*.py")) for begin in cases_named(path, name)]
     if len(found) != 1:
         links.faults.append(f"{row}: {len(found)} cases *{name}* in `{folder}`")
         return f"*{name}*"

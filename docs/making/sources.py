@@ -54,8 +54,7 @@ class Function(typing.NamedTuple):
 
     def clauses(self):
         """The place of each clause that has a name."""
-        lines = enumerate(self.contract.split("\n"), self.place.line)
-        found = ((CLAUSE.match(line), number) for number, line in lines)
+        found = ((CLAUSE.match(line), number) for number, line in enumerate(self.contract.split("\n"), self.place.line))
         return {it.group(1): Place(self.place.file, number) for it, number in found if it}
 
 

@@ -76,8 +76,7 @@ def base(number, salt=8, transaction="N"):
 
 def overlay(number, transaction="N"):
     first, last = f"2406{1 + mixed(number, 12, 15):02}", f"2406{16 + mixed(number, 12, 15):02}"
-    schedule = records.basic(transaction, uid_of(number), first, last, "1111111", OVERLAID, stp="O")
-    return schedule + journey(number, 13)
+    return records.basic(transaction, uid_of(number), first, last, "1111111", OVERLAID, stp="O") + journey(number, 13)
 
 
 def cancellation(number):
@@ -86,8 +85,7 @@ def cancellation(number):
 
 
 def link(number, last="241214"):
-    at = route(number)[-1]
-    return records.association(uid_of(number), uid_of((number + 1) % UIDS), "231210", last, at)
+    return records.association(uid_of(number), uid_of((number + 1) % UIDS), "231210", last, route(number)[-1])
 
 
 def full():

@@ -77,8 +77,7 @@ class Beside:
     def __init__(self, device, session):
         self.device, self.session = device, session
         give(state_of("full"))
-        parts = parts_of(calls_of(device, COMMAND, session.lines()))
-        self.all_looks = [part.count(LOOK) for part in parts]
+        self.all_looks = [part.count(LOOK) for part in parts_of(calls_of(device, COMMAND, session.lines()))]
         self.own = held("STATE")
         assert self.own == state_of("full", "tuesday", "monday", "night")
         self.both = by_docker(self.own, "take", given("last"))[1]
@@ -148,8 +147,7 @@ def test_a_text_meets_a_session(device, session):
         beside.goes_on(found, part.refused(), beside.own if part.is_late() else beside.both)
         return part.saves, part.refused() != ()
 
-    parts = range(len(session.looks))
-    assert set(at_each_call(trial)) == {(part, end) for part in parts for end in (False, True)}
+    assert set(at_each_call(trial)) == {(part, end) for part in range(len(session.looks)) for end in (False, True)}
 
 
 def just_after_a_save(device, line, came, *requests):

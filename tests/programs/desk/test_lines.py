@@ -44,8 +44,7 @@ def test_a_byte_that_is_not_printable(byte, at):
     give(state_of("full"))
     line = GOOD_LINE.encode()
     line = line[:at] + bytes([byte]) + line[at:] + b"\n"
-    wanted = written([NOTHING, docker("files", "STATE"), NOTHING])
-    assert desk("STATE", given=line + b"files\n" + line) == Ended(0, wanted, b"")
+    assert desk("STATE", given=line + b"files\n" + line) == Ended(0, written([NOTHING, docker("files", "STATE"), NOTHING]), b"")
 
 
 def test_each_other_byte_is_read_as_a_words():
@@ -104,8 +103,7 @@ CUT = ["files", GOOD_LINE, "save", "take monday", "x", " ", "x" * 255, "x" * 300
 @each("line", {repr(line) if len(line) < 255 else f"{len(line)} bytes": line for line in CUT})
 def test_a_last_line_without_its_line_feed_asks_for_nothing(line):
     before = give(state_of("full"))
-    wanted = written([docker("files", "STATE"), NOTHING])
-    assert desk("--write", "STATE", given=b"files\n" + line.encode()) == Ended(0, wanted, b"")
+    assert desk("--write", "STATE", given=b"files\n" + line.encode()) == Ended(0, written([docker("files", "STATE"), NOTHING]), b"")
     assert held() == before
     assert desk("--write", "STATE", given=line.encode()) == Ended(0, NOTHING.written(), b"")
 

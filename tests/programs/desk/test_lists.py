@@ -89,8 +89,7 @@ def test_known_again_and_again():
     """Only the first answer takes the time that it takes to count all entries."""
     text = records.extract(records.header("240612"), *(extracts.trip(f"L{n:05}", "1L00") for n in range(20000)))
     give_taken(text)
-    ended = run([*in_seconds(2), DESK, "STATE"], b"known\n" * 10000)
-    assert ended == Ended(0, written(listed([text])[1:] * 10000), b"")
+    assert run([*in_seconds(2), DESK, "STATE"], b"known\n" * 10000) == Ended(0, written(listed([text])[1:] * 10000), b"")
 
 
 def test_a_list_that_no_pipe_holds_at_once():

@@ -69,8 +69,7 @@ ON_SMALL = 'mount -t tmpfs -o size=512k none small && cp STATE small/STATE && ex
 def apart():
     """The words that run a program in a mount namespace of its own, with a file system of 512 KiB in the folder `small`."""
     os.mkdir("small")
-    unshare = ["unshare", "-m" if os.getuid() == 0 else "-rm"]
-    command = [*unshare, "sh", "-c", ON_SMALL, "sh"]
+    command = ["unshare", "-m" if os.getuid() == 0 else "-rm", "sh", "-c", ON_SMALL, "sh"]
     if subprocess.run([*command, "true"], check=False, stderr=subprocess.DEVNULL).returncode:
         pytest.skip("this machine allows no mount")
     return command
@@ -152,8 +151,7 @@ def test_a_signal_at_random_moments_of_a_save(name):
         longest = 1.3 * (time.monotonic() - began)
     for _ in range(60):
         met.add(signalled(which, before, wanted, numbers.uniform(0, longest)))
-        ended = desk("--write", "STATE", given=b"take large\nsave\n")
-        assert ended == Ended(0, DONE.written() * 2, b"")
+        assert desk("--write", "STATE", given=b"take large\nsave\n") == Ended(0, DONE.written() * 2, b"")
         holds_only("STATE", wanted)
     assert (True, True) in met, "no signal met a save"
 

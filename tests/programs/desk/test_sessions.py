@@ -120,6 +120,5 @@ def test_100_random_sessions_each_asked_at_once():
         wanted = written([mirror.answer(*request) for request in requests])
         words = ["--write", "STATE"] if mirror.may_write else ["STATE"]
         status, errors = mirror.end()
-        ended = desk(*words, given=lines.encode())
-        assert ended == Ended(status, wanted, errors), f"session {seed}"
+        assert desk(*words, given=lines.encode()) == Ended(status, wanted, errors), f"session {seed}"
         assert held() == mirror.stored, f"STATE of session {seed}"

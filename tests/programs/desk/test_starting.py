@@ -70,8 +70,7 @@ def test_a_state_that_is_there_but_empty_of_files():
     assert docker("new", "STATE") == DONE
     wanted = [DONE, docker("print", "STATE", "ASHFELD", "2024-06-12")]
     wanted.append(Answer(0, train_text((), "A00001", "2024-06-12")))
-    ended = desk("STATE", given=b"files\nprint ASHFELD 2024-06-12\ntrain A00001 2024-06-12\n")
-    assert ended == Ended(0, written(wanted), b"")
+    assert desk("STATE", given=b"files\nprint ASHFELD 2024-06-12\ntrain A00001 2024-06-12\n") == Ended(0, written(wanted), b"")
 
 
 LINES = b"take monday\nsave\nfiles\n"

@@ -56,8 +56,7 @@ def instead_at(device, number, line):
 @each("line", INSTEAD)
 def test_what_takes_the_place_of_a_pipe(device, line):
     """A command writes only to the pipe that it saw."""
-    found = at_each_call(lambda number: instead_at(device, number, line))
-    assert set(found) == {"came first", "refused", "came last"}
+    assert set(at_each_call(lambda number: instead_at(device, number, line))) == {"came first", "refused", "came last"}
 
 
 # Makes a pipe in the place of the pipe, with the number of the old one if the file system gives it to one of fifty pipes. Reads from the new pipe.

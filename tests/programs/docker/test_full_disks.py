@@ -122,5 +122,4 @@ def test_a_small_file_system_that_is_full():
         pytest.skip("this machine allows no mount")
     give(STATE_OF_BOTH, "wanted_places")
     takes_more("wanted_places", "places")
-    ended = run([*apart, "bash", "-uc", ROOMS, DOCKER])
-    assert ended == Ended(0, 6 * b"4 docker: device failed\n" + b"0 \n", b"")
+    assert run([*apart, "bash", "-uc", ROOMS, DOCKER]) == Ended(0, 6 * b"4 docker: device failed\n" + b"0 \n", b"")

@@ -63,8 +63,7 @@ def test_new_by_a_link_that_leads_nowhere():
 
 
 def test_new_into_a_pipe():
-    ended = docker("new", "/dev/stdout")
-    assert ended == DONE._replace(output=NO_FILES)
+    assert docker("new", "/dev/stdout") == DONE._replace(output=NO_FILES)
     assert NO_FILES == b"DKS2" + bytes(18)
 
 

@@ -81,8 +81,7 @@ COMMANDS = {
 def test_another_command_meets(device, before, words, other):
     """One of the two commands is refused, or the result is as if they ran one after the other."""
     beside = Beside(before, words, other)
-    found = at_each_call(lambda number: beside.at(device, number))
-    assert set(found) == {"other first", "refused", "other refused", "other last"}
+    assert set(at_each_call(lambda number: beside.at(device, number))) == {"other first", "refused", "other refused", "other last"}
 
 
 def state_of_many(hour, files=(FIRST,), entries=()):

@@ -16,8 +16,7 @@ def test_take_of_each_cut_of_a_file():
     for size in range(404):
         line, column = divmod(size, 81)
         fault = {0: f"{line + 1}: NoEnd", 80: f"{line + 2}: NoEnd"}.get(column, f"{line + 1}: Length")
-        ended = docker("take", "office", "stdin", given=ONE[:size].encode())
-        assert ended == file_refused(fault), f"cut to {size}"
+        assert docker("take", "office", "stdin", given=ONE[:size].encode()) == file_refused(fault), f"cut to {size}"
     holds_only("office", STATE_OF_ONE)
 
 
@@ -27,8 +26,7 @@ def test_merge_print_and_files_of_each_cut_of_a_state():
         # It is too short at the last part that begins before the cut.
         wanted = state_refused(max(part for part in (0, 4, 6, 14, 33, 41) if part <= size), "Short")
         for words in ("merge office stdin", "print stdin NOWHERE 2024-06-10", "files stdin"):
-            ended = docker(*words.split(), given=STATE_OF_ONE[:size])
-            assert ended == wanted, f"{words}, cut to {size}"
+            assert docker(*words.split(), given=STATE_OF_ONE[:size]) == wanted, f"{words}, cut to {size}"
     holds_only("office", STATE_OF_REVISED)
 
 

@@ -99,8 +99,7 @@ def full_pipe():
 })
 def test_a_stream_that_is_full_and_does_not_block(full_pipe, stream, words, wanted):
     """The command ends. It doesn't repeat the write."""
-    ended = docker(*words.split(), before=in_seconds(5), **{stream: full_pipe})
-    assert ended == wanted
+    assert docker(*words.split(), before=in_seconds(5), **{stream: full_pipe}) == wanted
 
 
 @alone
@@ -190,8 +189,7 @@ def test_an_output_that_is_taken_in_part():
     """A file may grow to 1,024 bytes, so only the first 24 bytes of the docker fit. The write of the rest fails."""
     give(bytes(1000), "grown")
     with open("grown", "ab") as output:
-        words = ("day", "one", "ASHFELD", "2024-06-10")
-        ended = docker(*words, before=on_disk(1), stdout=output)
+        ended = docker("day", "one", "ASHFELD", "2024-06-10", before=on_disk(1), stdout=output)
     assert ended == DEVICE._replace(output=None)
     assert held("grown") == bytes(1000) + ASHFELD.output[:24]
 

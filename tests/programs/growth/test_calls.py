@@ -77,8 +77,7 @@ def refused_texts(row):
     """What may be printed for a row if a growth is refused: a text for each promise of its call."""
     first, _, *rest = whole_text(row).splitlines()
     for promise in PROMISES.get(call_of(row), [""]):
-        refused = textwrap.indent(f"want of memory\n{promise}".rstrip(), "  ")
-        yield "".join(f"{line}\n" for line in (first, refused, *rest))
+        yield "".join(f"{line}\n" for line in (first, textwrap.indent(f"want of memory\n{promise}".rstrip(), "  "), *rest))
 
 
 @pytest.fixture(scope="session")
@@ -122,8 +121,7 @@ def records_of(calls, library, call):
     found = {}
     for row in rows().values():
         if call_of(row) == call:
-            texts = refused_in_turn(calls, library, row)
-            numbers = enumerate((RECORD.search(text) for text in texts), 1)
+            numbers = enumerate((RECORD.search(text) for text in refused_in_turn(calls, library, row)), 1)
             found[row.split(" ", 2)[2]] = {growth: it.group(1) for growth, it in numbers if it}
     return found
 

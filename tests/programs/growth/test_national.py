@@ -167,8 +167,7 @@ def test_a_desk_prints_takes_prints_and_saves(national):
     given = f"{asked}take {national}/second.cif\n{asked}save\n".encode()
     texts = [docker_of(5, LAST), b"", docker_of(5, LAST, LAST_MORE), b""]
     with copy_of(national / "first.state") as state:
-        ended = desk("--write", state, given=given)
-        assert ended == done(written(Answer(0, text) for text in texts))
+        assert desk("--write", state, given=given) == done(written(Answer(0, text) for text in texts))
         same_text(state, national / "joined.state")
 
 

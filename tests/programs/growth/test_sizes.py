@@ -80,13 +80,11 @@ def last_docker(half):
 
 
 def test_check(large):
-    wanted = accepted(4 * ROWS + STOPS + 5, 2 * ROWS + 1)
-    assert docker("check", large / "first.cif") == wanted
+    assert docker("check", large / "first.cif") == accepted(4 * ROWS + STOPS + 5, 2 * ROWS + 1)
 
 
 def test_day_at_the_last_place(large):
-    place = FIRST.last_place()
-    assert docker("day", large / "first.cif", place, DAY) == last_docker(FIRST)
+    assert docker("day", large / "first.cif", FIRST.last_place(), DAY) == last_docker(FIRST)
 
 
 @each("name", list(HALVES))
@@ -97,8 +95,7 @@ def test_take(large, name):
 
 
 def test_print_at_the_last_place(large):
-    place = FIRST.last_place()
-    assert docker("print", large / "first.state", place, DAY) == last_docker(FIRST)
+    assert docker("print", large / "first.state", FIRST.last_place(), DAY) == last_docker(FIRST)
 
 
 def test_merge(large):
@@ -147,7 +144,6 @@ def test_a_growth_is_refused(large, refusing, before, words, which):
     growth = {"in the middle": count // 2, "last but one": count - 1, "last": count}[which]
     give(before)
     with named(f"growth {growth} of {count}"):
-        ended = docker(*words, before=preloading(refusing, GROWTH=growth))
-        is_out = ran_out(ended, before, whole, stored)
+        is_out = ran_out(docker(*words, before=preloading(refusing, GROWTH=growth)), before, whole, stored)
         holds("the program managed with less memory", is_out or which == "in the middle")
     print(f"{count} growths")

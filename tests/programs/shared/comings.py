@@ -321,8 +321,7 @@ class Coming:
         uses = [call for call in found.after if call.split()[1:2] == [subject.draft]]
         if uses and uses[0].startswith(("rename ", "link ", "unlink ")):
             now = self.subject.there().get(subject.file)
-            wanted = (subject.texts[0], self.stored, self.alone[subject.draft])
-            assert now in wanted, f"neither text, before {found.after[:3]}"
+            assert now in (subject.texts[0], self.stored, self.alone[subject.draft]), f"neither text, before {found.after[:3]}"
             assert subject.told(found.ended) in map(subject.told, (subject.done, subject.refused)), found.ended
             return "an unseen draft"
         if found.has_placed(subject.draft):

@@ -78,8 +78,7 @@ class Desk(contextlib.AbstractContextManager):
 
     def __init__(self, *words, program=(), **options):
         pipes = {"stdin": subprocess.PIPE, "stdout": subprocess.PIPE, "stderr": subprocess.PIPE}
-        command = [*program, DESK, *words]
-        self.process = subprocess.Popen(command, bufsize=0, **(pipes | options))
+        self.process = subprocess.Popen([*program, DESK, *words], bufsize=0, **(pipes | options))
         self.held = b""
 
     def __exit__(self, *_):

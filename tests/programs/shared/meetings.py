@@ -31,8 +31,7 @@ class Met(typing.NamedTuple):
 
 def met(library, number, line, command, given=b""):
     """Runs a program, and this line of the shell just before its call with this number. Returns None if the program makes fewer calls."""
-    settings = {"CALLS": "calls", "MEET_AT": number, "MEET": line}
-    ended = run(["timeout", "10", *preloading(library, **settings), *command], given)
+    ended = run(["timeout", "10", *preloading(library, CALLS="calls", MEET_AT=number, MEET=line), *command], given)
     # The program names some files by their absolute paths.
     noted = held("calls").decode().replace(f"{os.path.realpath('.')}/", "")
     os.remove("calls")

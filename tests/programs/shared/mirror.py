@@ -60,8 +60,7 @@ def empty():
 def state_of(*names, horizon=""):
     """The text of the state that knows these good files and a horizon."""
     text = empty()
-    commands = [("take", given(name)) for name in names]
-    for words in commands + ([("horizon", horizon)] if horizon else []):
+    for words in [("take", given(name)) for name in names] + ([("horizon", horizon)] if horizon else []):
         answer, text = by_docker(text, *words)
         same(f"docker {words}", answer, DONE)
     return text

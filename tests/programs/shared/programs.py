@@ -75,8 +75,7 @@ def on_disk(kilobytes):
 
 def ended_on_disk(kilobytes):
     """The words that let a file grow only to this size. A write beyond it kills the program."""
-    limits = ("prlimit", f"--fsize={kilobytes * 1024}", "--core=0")
-    return ("env", "--default-signal=XFSZ", *limits)
+    return ("env", "--default-signal=XFSZ", "prlimit", f"--fsize={kilobytes * 1024}", "--core=0")
 
 
 def redirected(text):
@@ -90,8 +89,7 @@ CLOSED = ["<&-", ">&-", "2>&-", "<&- >&-", "<&- 2>&-", ">&- 2>&-", "<&- >&- 2>&-
 
 def preloading(library, **settings):
     """The words that run the program with this library and these settings for it."""
-    words = [f"{name}={value}" for name, value in settings.items()]
-    return ("env", f"LD_PRELOAD={library}", *words)
+    return ("env", f"LD_PRELOAD={library}", *(f"{name}={value}" for name, value in settings.items()))
 
 
 def as_nobody():
