@@ -129,4 +129,4 @@ def test_four_desks_that_save_at_once_lose_nothing():
 
 
 # If no lock holds, a desk may take the draft of another that saves for left over, and remove it. The other notices this and refuses to save. So the case above
-# passes even then, and doesn't show that the locks hold. The cases in test_whatever_comes_to_a_desk.py show it, where another locks the draft.
+# passes even then, and doesn't show that the locks hold. The cases in test_desk_meetings.py show it, where another locks the draft.

@@ -1,14 +1,17 @@
-"""Random sessions. Each answer has to be the answer of a `docker` command on a state file."""
+"""Random sessions: each answer has to be the answer of a `docker` command on a state file. Also the session in the manual page of `desk`, which
+`examples/office/desk-session` contains."""
 import itertools
 import os
 import random
+import shlex
 
 import desk_extracts as extracts
 import pytest
-from checks import named
+from checks import named, same
 from desks import DONE, Desk, desk, docker, written
 from mirror import STATES, Mirror
-from programs import Ended, give, held
+from outcomes import done, takes
+from programs import ROOT, Ended, give, held
 
 SESSIONS = 1000
 DATES = [f"2024-06-{day:02}" for day in range(1, 22)] + ["2024-05-20", "1960-01-01", "2059-12-31"]
@@ -122,3 +125,24 @@ def test_100_random_sessions_each_asked_at_once():
         status, errors = mirror.end()
         assert desk(*words, given=lines.encode()) == Ended(status, wanted, errors), f"session {seed}"
         assert held() == mirror.stored, f"STATE of session {seed}"
+
+
+OFFICE = ROOT / "examples" / "office"
+
+
+def session_shown():
+    """The words of the command, its requests, and the answers that the page shows. An answer's header has the number of lines that follow it."""
+    lines = (OFFICE / "desk-session").read_text(encoding="ascii").splitlines(keepends=True)
+    command, requests, answers = lines.pop(0), "", ""
+    while lines:
+        end = 2 + int(lines[1].split()[1])
+        requests += lines[0]
+        answers += "".join(lines[1:end])
+        lines = lines[end:]
+    return shlex.split(command)[2:], requests.encode(), answers.encode()
+
+
+def test_the_session_in_the_manual_page():
+    words, requests, answers = session_shown()
+    takes(words[-1], *(OFFICE / f"{name}.cif" for name in ("full", "monday", "tuesday")))
+    same("the end", desk(*words, given=requests), done(answers))

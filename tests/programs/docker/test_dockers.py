@@ -5,9 +5,10 @@ docker for every timing point. The files are random extracts with records in any
 import lists
 import plans
 import pytest
-from docker_lines import LINES
-from outcomes import DONE, accepted, prints, takes
-from programs import docker, give, held
+from docker_lines import EVENING_AT_COLWELL, LINES
+from given import BAD
+from outcomes import DONE, accepted, file_refused, prints, takes
+from programs import ROOT, docker, give, held
 from tables import each
 
 # Each row has a file, a timing point, a day, and the names of the docker's lines.
@@ -92,3 +93,35 @@ def test_print_of_every_timing_point_after_the_update(files):
     assert docker("horizon", "office", HORIZON) == DONE
     assert held("office") != before
     print_as_day("office", "left", LATER_DAYS)
+
+
+ONE_ACCEPTED = accepted(5, 1)
+ACCEPTED = {
+    "check of one schedule": ("check one", ONE_ACCEPTED),
+    "day at the origin": ("day one ASHFELD 2024-06-10", prints("ASHFELD", "2024-06-10", LINES["LEAVES_0900"])),
+    "day at the terminus": ("day one BRAYTON 2024-06-10", prints("BRAYTON", "2024-06-10", LINES["COMES_0930"])),
+    "day on which no train runs": ("day one ASHFELD 2024-06-15", prints("ASHFELD", "2024-06-15")),
+    "day at a timing point in lower case, which has no train": ("day one ashfeld 2024-06-10", prints("ashfeld", "2024-06-10")),
+    "lines that end in carriage return and line feed": ("check returns", ONE_ACCEPTED),
+    "a last line without its line feed": ("check unended", ONE_ACCEPTED),
+    "a deletion, whose journey is not read": ("check deletion", ONE_ACCEPTED),
+    "a file of several pieces": ("check many", accepted(2502, 2500)),
+    "check of a renaming": ("check renamed", accepted(3, 2)),
+}
+
+
+@each("words, wanted", ACCEPTED)
+def test_accepts(words, wanted):
+    assert docker(*words.split()) == wanted
+
+
+@each("name, _text, fault", BAD)
+@each("words", ["check", "day"])
+def test_refuses(words, name, _text, fault):
+    assert docker(words, name, *(["ASHFELD", "2024-06-10"] if words == "day" else [])) == file_refused(fault)
+
+
+def test_the_example_with_associations():
+    """An evening with a train that runs past midnight, one that another train joins, and one that divides."""
+    example = str(ROOT / "examples/association.cif")
+    assert docker("day", example, "COLWELL", "2024-06-11") == prints("COLWELL", "2024-06-11", *EVENING_AT_COLWELL, name="COLWELL JUNCTION")

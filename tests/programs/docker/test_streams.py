@@ -1,10 +1,10 @@
-"""The job line, standard input, pipes, file names, and outputs that fail."""
+"""The words, the job line, standard input, pipes, file names, and outputs that fail."""
 import os
 import subprocess
 
 import pytest
 from docker_lines import LINES
-from given import FILES_LINE, ONE, STATE_OF_BOTH, STATE_OF_ONE, STATES
+from given import FILES_LINE, ONE, STATES, STATE_OF_BOTH, STATE_OF_ONE
 from outcomes import DEVICE, DONE, USAGE, accepted, done, file_refused, keeps, prints, state_refused, stores
 from programs import Ended, docker, give, held, in_seconds, on_disk, piped, redirected
 from states import under
@@ -222,3 +222,25 @@ def test_input_stays(two_files, words, wanted):
 def test_only_the_job_line_is_read_from_standard_input():
     give(b"check one\n" + FILE, "job_and_more")
     assert left_of("job_and_more") == (ACCEPTED, FILE)
+
+
+NO_JOBS = [
+    "day one ASHFELD 2024-02-30", "day one ASHFELDX 2024-06-10", "day one", "take stdin one", "frobnicate", "check", "check one one",
+    "day one ASHFELD 2024-06-10 one", "day one ASHFELD 20240610", "CHECK", "help", "--help", "-h", "--version", "check -", "check --file", "help check", "new",
+    "new stdin", "new state one", "new -", "take", "take one", "take one one one", "merge", "merge one", "merge stdin one", "merge stdin stdin", "print",
+    "print one", "print one ASHFELD", "print one ASHFELD 2024-13-01", "print one ASH%FELDS 2024-06-10", "print one ASHFELD 2024-6-10",
+    "print one ASHFELD 1959-12-31", "print one ASHFELD 2060-01-01", "files", "files one one", "horizon", "horizon one", "horizon stdin 2024-06-10",
+    "horizon one 2024-06-31", "horizon one 10/06/2024", "migrate", "migrate stdin", "migrate one one", "new --state",
+]
+ODD_WORDS = {
+    "an empty word": ("check", ""),
+    "one empty word": ("",),
+    "a word that is no text": ("check", b"\xff\xfe"),
+    "a further word that is no text": ("check", "one", b"on\xe9"),
+    "a timing point that is no ASCII": ("day", "one", b"\xc3\x84SCH", "2024-06-10"),
+}
+
+
+@each("words", {line: line.split() for line in NO_JOBS} | ODD_WORDS)
+def test_usage(words):
+    assert docker(*words) == USAGE
