@@ -10,7 +10,7 @@ import desk_extracts as extracts
 from checks import soon
 from desks import NOTHING, Desk, desk, docker, ends_well, written
 from mirror import WRITING_LINES, give_large, mirrored, reading, state_of, writing
-from programs import Ended, give, held
+from programs import DESK, DEVICE_LINE, Ended, give, held, redirected, run
 from tables import each
 
 GOOD_LINE = "print ASHFELD 2024-06-12"
@@ -211,7 +211,4 @@ def test_no_answer_to_half_a_line():
 
 def test_a_folder_as_standard_input():
     give(state_of("full"))
-    handle = os.open(".", os.O_RDONLY)
-    ended = desk("STATE", stdin=handle)
-    os.close(handle)
-    assert ended == Ended(4, b"", b"docker: device failed\n")
+    assert run([*redirected("<."), DESK, "STATE"]) == Ended(4, b"", DEVICE_LINE)

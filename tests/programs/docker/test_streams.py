@@ -15,14 +15,6 @@ ASHFELD = prints("ASHFELD", "2024-06-10", LINES["LEAVES_0900"])
 FILE = ONE.encode()
 DAY_OF_STDIN = b"day stdin ASHFELD 2024-06-10"
 NO_END = file_refused("1: NoEnd")
-BAD_JOB_LINES = {
-    "a job line of 256 bytes": DAY_OF_STDIN.ljust(256) + b"\n" + FILE,
-    "no job line": b"",
-    "a job line without its line feed": b"check one",
-    "a job line with a carriage return": b"check one\r\n",
-    "a job line with a byte above 0x7E": b"check on\xe9\n",
-    "a file where the job line should be": FILE,
-}
 
 
 @each("words, text, wanted", {
@@ -36,7 +28,13 @@ BAD_JOB_LINES = {
     "print of standard input": ("print stdin ASHFELD 2024-06-10", STATE_OF_ONE, ASHFELD),
     "files of standard input": ("files stdin", STATE_OF_ONE, done(FILES_LINE)),
     "a file through a pipe": ("day stdin ASHFELD 2024-06-10", FILE, ASHFELD),
-} | {name: ("", text, USAGE) for name, text in BAD_JOB_LINES.items()})
+    "a job line of 256 bytes": ("", DAY_OF_STDIN.ljust(256) + b"\n" + FILE, USAGE),
+    "no job line": ("", b"", USAGE),
+    "a job line without its line feed": ("", b"check one", USAGE),
+    "a job line with a carriage return": ("", b"check one\r\n", USAGE),
+    "a job line with a byte above 0x7E": ("", b"check on\xe9\n", USAGE),
+    "a file where the job line should be": ("", FILE, USAGE),
+})
 def test_standard_input(words, text, wanted):
     assert docker(*words.split(), given=text) == wanted
 
@@ -141,15 +139,6 @@ def test_unreadable(words):
     assert docker(*words) == DEVICE
 
 
-@each("words", {"as standard input": ["check", "stdin"], "in place of the job line": []})
-def test_a_folder(words):
-    source = os.open("folder", os.O_RDONLY)
-    try:
-        assert docker(*words, stdin=source) == DEVICE
-    finally:
-        os.close(source)
-
-
 @each("words, stream, wanted", {
     "a full device under check": ("check one", ">/dev/full", DEVICE),
     "a full device under day": ("day one ASHFELD 2024-06-10", ">/dev/full", DEVICE),
@@ -158,13 +147,15 @@ def test_a_folder(words):
     "a full device under files": ("files state_of_both", ">/dev/full", DEVICE),
     "nor does files of no file": ("files no_files", ">/dev/full", DONE),
     "a full standard error": ("check short", "2>/dev/full", Ended(1, b"", b"")),
+    "a folder as standard input": ("check stdin", "<folder", DEVICE),
+    "a folder in place of the job line": ("", "<folder", DEVICE),
     "standard input that is closed": ("check stdin", "<&-", DEVICE),
     "no job line, for standard input is closed": ("", "<&-", DEVICE),
     "standard output that is closed": ("check one", ">&-", DEVICE),
     "print with standard output closed": ("print state_of_one ASHFELD 2024-06-10", ">&-", DEVICE),
 })
 def test_a_stream_that_is_full_or_closed(words, stream, wanted):
-    """Commands that write to standard output fail; other commands don't."""
+    """Commands that use the stream fail; other commands don't."""
     assert docker(*words.split(), before=redirected(stream)) == wanted
 
 
@@ -178,19 +169,14 @@ def test_no_reader(words):
     """The only reader of the pipe ends before the program starts."""
     reader, writer = os.pipe()
     os.close(reader)
-    try:
-        ended = docker(*words.split(), stdout=writer)
-    finally:
-        os.close(writer)
-    assert ended == DEVICE._replace(output=None)
+    with open(writer, "wb") as output:
+        assert docker(*words.split(), stdout=output) == DEVICE._replace(output=None)
 
 
 def test_an_output_that_is_taken_in_part():
     """A file may grow to 1,024 bytes, so only the first 24 bytes of the docker fit. The write of the rest fails."""
     give(bytes(1000), "grown")
-    with open("grown", "ab") as output:
-        ended = docker("day", "one", "ASHFELD", "2024-06-10", before=on_disk(1), stdout=output)
-    assert ended == DEVICE._replace(output=None)
+    assert docker("day", "one", "ASHFELD", "2024-06-10", before=(*redirected(">>grown"), *on_disk(1))) == DEVICE
     assert held("grown") == bytes(1000) + ASHFELD.output[:24]
 
 

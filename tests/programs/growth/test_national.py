@@ -40,11 +40,8 @@ def place(route, stop):
 
 def journey(route):
     """The locations of a route, which has places of its own, a minute apart."""
-    lines = [origin(place(route, 0), "0900")]
-    for stop in range(1, CALLS - 1):
-        lines.append(passes(place(route, stop), f"09{stop:02}"))
-    lines.append(terminus(place(route, CALLS - 1), f"09{CALLS - 1:02}"))
-    return "".join(lines)
+    between = "".join(passes(place(route, stop), f"09{stop:02}") for stop in range(1, CALLS - 1))
+    return origin(place(route, 0), "0900") + between + terminus(place(route, CALLS - 1), f"09{CALLS - 1:02}")
 
 
 def write(path, reference, numbers):
@@ -61,10 +58,8 @@ def write(path, reference, numbers):
 
 def room_in_memory():
     """The folder of files in memory, if there is room and the user names no other folder."""
-    folder = "/dev/shm"
-    if os.environ.get("TMPDIR") or not os.path.isdir(folder):
-        return None
-    return folder if shutil.disk_usage(folder).free >= FILES else None
+    is_room = not os.environ.get("TMPDIR") and os.path.isdir("/dev/shm") and shutil.disk_usage("/dev/shm").free >= FILES
+    return "/dev/shm" if is_room else None
 
 
 @pytest.fixture(scope="module")
