@@ -6,9 +6,11 @@ import pytest
 from checks import soon
 from desks import DEVICE, DONE, NOTHING, NOT_SAVED, Desk, desk, docker, written
 from mirror import give_large, reading, state_of
-from programs import DESK, DEVICE_LINE, Ended, give, held, in_turn, preloading, renames, run
+from programs import DESK, DEVICE_LINE, Ended, give, held, in_turn, preloading, redirected, renames, run
 from tables import each
 
+# The words that run a desk whose output is a full device.
+FULL = redirected(">/dev/full")
 WELL, UNSAVED_END = Ended(0, b"", b""), Ended(1, b"", NOT_SAVED)
 CHANGES = ("take monday", "merge second.state", "horizon 2024-06-12")
 # The requests, and whether there are unsaved changes at the end.
@@ -93,8 +95,7 @@ BOTH_LINES = DEVICE_LINE + NOT_SAVED
 
 def test_an_output_that_fails_while_changes_are_unsaved():
     before = give(state_of("full"))
-    with open("/dev/full", "wb") as full:
-        assert desk("--write", "STATE", given=b"take monday\nsave\n", stdout=full) == Ended(4, None, BOTH_LINES)
+    assert run([*FULL, DESK, "--write", "STATE"], b"take monday\nsave\n") == Ended(4, b"", BOTH_LINES)
     assert held() == before
 
 
@@ -141,9 +142,8 @@ def test_a_reader_that_goes_away_within_an_answer():
 
 def test_a_full_device_as_output():
     give(state_of("full"))
-    with open("/dev/full", "wb") as full:
-        assert desk("STATE", given=b"files\nfiles\n", stdout=full) == Ended(4, None, DEVICE_LINE)
-        assert desk("STATE", stdout=full) == Ended(0, None, b"")
+    assert run([*FULL, DESK, "STATE"], b"files\nfiles\n") == Ended(4, b"", DEVICE_LINE)
+    assert run([*FULL, DESK, "STATE"]) == WELL
 
 
 @each("size", {f"of {size} bytes": size for size in (1, 5, 6, 7, 40, 100)})
@@ -202,7 +202,7 @@ def test_a_terminal_that_hangs_up():
 
 def test_an_input_that_goes_on_of_a_desk_that_ended():
     give(state_of("full"))
-    with open("/dev/full", "wb") as full, Desk("STATE", stdout=full) as asked:
+    with Desk("STATE", program=FULL) as asked:
         asked.say(b"files\n")
         soon("it goes on", lambda: asked.process.poll() is not None)
         assert asked.process.returncode == 4

@@ -143,6 +143,4 @@ def test_a_file_of_that_name_is_not_opened(word):
 
 @each("word", [*ANSWERS])
 def test_an_output_that_is_full(word):
-    with open("/dev/full", "wb") as full:
-        ended = desk(word, stdout=full)
-    assert (ended.status, ended.errors) == (4, DEVICE_LINE)
+    assert run([*redirected(">/dev/full"), DESK, word]) == Ended(4, b"", DEVICE_LINE)

@@ -22,9 +22,7 @@ def command_of(words):
 def one_by_one(before, *commands):
     """Runs these commands one after another. Returns how the last one ends, and the state after it."""
     give(before, "office")
-    for words in commands:
-        ended = docker(*words.split())
-    return ended, held("office")
+    return [docker(*words.split()) for words in commands][-1], held("office")
 
 
 # Before its first look at STATE a command has read nothing. So a change of STATE before this look has the same effect as a change before the command.
@@ -43,8 +41,7 @@ class Beside:
     def at(self, device, number):
         """Runs the other command at this call. Returns which command was refused; if neither was, which of them counts as the first."""
         give(self.before, "office")
-        other = f"{DOCKER} {self.other} </dev/null 2>/dev/null"
-        found = met(device, number, other, command_of(self.words))
+        found = met(device, number, f"{DOCKER} {self.other} </dev/null 2>/dev/null", command_of(self.words))
         if found is None:
             return None
         assert not os.path.lexists("office.new"), "a draft is left"
@@ -61,8 +58,7 @@ class Beside:
             assert (found.status, now) == (4, self.alone)
             return "other refused"
         # What the other command stored may be a text that this command refuses.
-        refusals = [DEVICE] + [end for end in [self.other_first[0]] if end != DONE]
-        assert found.ended in refusals
+        assert found.ended == DEVICE or found.ended == self.other_first[0] != DONE
         assert now[1] == self.other_alone[1]
         return "refused"
 

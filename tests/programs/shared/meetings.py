@@ -49,25 +49,16 @@ def calls_of(library, command, given=b""):
 
 def at_each_call(trial):
     """Calls `trial` with 1, 2, 3 and so on, until it returns None. Returns all that it returned before."""
-    found = []
-    for number in itertools.count(1):
+    def named_trial(number):
         with named(f"at call {number}"):
-            outcome = trial(number)
-        if outcome is None:
-            return found
-        found.append(outcome)
+            return trial(number)
 
-
-def what_is(name):
-    """The target of a link, the text of a file, or the mode of anything else."""
-    if os.path.islink(name):
-        return os.readlink(name)
-    return held(name) if os.path.isfile(name) else os.stat(name).st_mode
+    return list(itertools.takewhile(lambda outcome: outcome is not None, map(named_trial, itertools.count(1))))
 
 
 def all_that_is_there():
-    """The content of the folder, by name."""
-    return {name: what_is(name) for name in os.listdir()}
+    """The content of the folder, by name: the target of a link, the text of a file, or the mode of anything else."""
+    return {it.name: os.readlink(it) if it.is_symlink() else held(it) if it.is_file() else it.stat().st_mode for it in os.scandir()}
 
 
 # Files that may have the name of a draft: whether a running command has locked the file, and its mode. A draft has a mark until it is in place.
@@ -97,5 +88,4 @@ class Draft(contextlib.AbstractContextManager):
     def is_under(self, name):
         """Checks that the file has this name and is unchanged."""
         now = os.lstat(name)
-        assert (now.st_ino, now.st_mode) == (self.seen.st_ino, self.seen.st_mode)
-        assert held(name) == self.TEXT
+        assert (now.st_ino, now.st_mode, held(name)) == (self.seen.st_ino, self.seen.st_mode, self.TEXT)
