@@ -7,7 +7,7 @@ import pytest
 from comings import TEXTS, TO_DRAFT, TO_STATE, WITH_THIRD, Coming, Subject, make_room
 from desks import DEVICE, DONE, NOT_SAVED, answers_in, written
 from given import STATE_OF_BOTH, STATE_OF_ONE
-from meetings import DRAFTS, Draft, at_each_call, calls_of, met
+from meetings import DRAFTS, at_each_call, calls_of, met, replaces_a_new_draft
 from mirror import by_docker, given, state_of
 from programs import DESK, DOCKER, Ended, give, held
 from tables import each
@@ -209,19 +209,9 @@ def test_a_text_that_is_written_just_after_a_save_in_which_a_look_fails(device, 
 @each("is_locked, mode", DRAFTS)
 def test_what_takes_the_place_of_a_draft_that_is_just_made(device, is_locked, mode):
     """Before the draft was locked, another command removed it as left over by a killed command. The save is refused."""
-    lines = b"take monday\nsave\n"
     give(state_of("full"))
-    calls = calls_of(device, COMMAND, lines)
-    made = calls.index("create STATE.new")
-    last = max(at for at, call in enumerate(calls) if call in ("flock", "statx STATE.new"))
-    for number in range(made + 2, last + 2):
-        before = give(state_of("full"))
-        with Draft(is_locked, mode) as draft:
-            found = met(device, number, "mv -f draft STATE.new", COMMAND, lines)
-            assert found.ended == Ended(1, written([DONE, DEVICE]), NOT_SAVED)
-            draft.is_under("STATE.new")
-            assert held("STATE") == before
-        os.remove("STATE.new")
+    wanted = Ended(1, written([DONE, DEVICE]), NOT_SAVED)
+    replaces_a_new_draft(device, "STATE", (is_locked, mode), COMMAND, b"take monday\nsave\n", wanted)
 
 
 def told(ended):

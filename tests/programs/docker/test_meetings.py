@@ -6,7 +6,7 @@ import stat
 import pytest
 from comings import PLACED, TEXTS, THIRD, TO_STATE, WITH_THIRD, Coming, Subject, make_room
 from given import FIRST, STATE_OF_BOTH, STATE_OF_ONE, STATE_OF_REVISED, STATES, trip
-from meetings import DRAFTS, Draft, at_each_call, calls_of, met
+from meetings import DRAFTS, Draft, at_each_call, calls_of, met, replaces_a_new_draft
 from outcomes import DEVICE, DONE, holds_only
 from programs import DOCKER, docker, give, held
 from states import lines, schedule, state
@@ -140,15 +140,7 @@ def test_a_draft_of_a_command_at_work():
 def test_what_takes_the_place_of_a_draft_that_is_just_made(device, is_locked, mode):
     """Before this draft was locked, another command removed it as left over by a killed command."""
     give(STATE_OF_ONE, "office")
-    calls = calls_of(device, TAKE)
-    made = calls.index("create office.new")
-    for number in range(made + 2, last_of(calls, "flock", DRAFT_LOOK) + 2):
-        give(STATE_OF_ONE, "office")
-        with Draft(is_locked, mode) as draft:
-            found = met(device, number, "mv -f draft office.new", TAKE)
-            assert (found.ended, found.status) == (DEVICE, 0)
-            stays(draft)
-        os.remove("office.new")
+    replaces_a_new_draft(device, "office", (is_locked, mode), TAKE, b"", DEVICE)
 
 
 def calls_with_left_over(device):

@@ -89,3 +89,18 @@ class Draft(contextlib.AbstractContextManager):
         """Checks that the file has this name and is unchanged."""
         now = os.lstat(name)
         assert (now.st_ino, now.st_mode, held(name)) == (self.seen.st_ino, self.seen.st_mode, self.TEXT)
+
+
+def replaces_a_new_draft(device, state, draft, command, given, wanted):
+    """At each call from the making of a draft to its last look or lock, the other draft takes its place. The program has to end like this, and leave everything as
+    it is."""
+    before, new = held(state), f"{state}.new"
+    calls = calls_of(device, command, given)
+    last = max(at for at, call in enumerate(calls) if call in ("flock", f"statx {new}"))
+    for number in range(calls.index(f"create {new}") + 2, last + 2):
+        give(before, state)
+        with Draft(*draft) as other:
+            found = met(device, number, f"mv -f draft {new}", command, given)
+            assert (found.ended, found.status, held(state)) == (wanted, 0, before)
+            other.is_under(new)
+        os.remove(new)

@@ -103,10 +103,8 @@ class Mirror:
                 return self.listed(verb, *words)
             case "take" | "merge" | "horizon":
                 return self.change(verb, words[0])
-            case "renew":
-                return self.renew()
-            case "save":
-                return self.save()
+            case "renew" | "save":
+                return getattr(self, verb)()
 
     def agrees(self, asked, *lines):
         """Asks a desk these lines, and compares its answers."""
