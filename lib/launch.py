@@ -130,7 +130,7 @@ class Record:
     def keeps(self, wanted, kit, began):
         """Records the program, and lists what lib/launch.sh compares with it. The program gets the time at which its sources were first read. So what changes later is
         newer than the program."""
-        names = (os.path.relpath(path, ROOT) if path.is_relative_to(ROOT) else str(path) for path in watched(self.program))
+        names = (path.relative_to(ROOT) if path.is_relative_to(ROOT) else path for path in watched(self.program))
         puts(out(self.program, f"{self.program}.sources"), "".join(f"{name}\0" for name in names))
         puts(self.path, f"{wanted}\n{self.own_now()}\n{kit}")
         os.utime(out(self.program, self.program), ns=(began, began))

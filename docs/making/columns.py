@@ -47,8 +47,7 @@ TAKEN = {(READER, "HEADING"): {"description of the TIPLOC"}}
 
 def columns_of(cell):
     """The columns in a cell: `what 1-7, what 9 (when), ..`."""
-    found = re.findall(r"([^,()]+?) (\d+)(?:-(\d+))?(?: \([^)]*\))?(?:, |$)", cell)
-    return {what: (int(first), int(last or first)) for what, first, last in found}
+    return {what: (int(first), int(last or first)) for what, first, last in re.findall(r"([^,()]+?) (\d+)(?:-(\d+))?(?: \([^)]*\))?(?:, |$)", cell)}
 
 
 def tables():
@@ -90,8 +89,8 @@ def unlike_readers(found):
     told = {}
     for name in {name for name, _ in TABLES}:
         for node in ast.parse(text(name)).body:
-            if isinstance(node, ast.Assign) and (name, ast.unparse(node.targets[0])) in TABLES:
-                told[name, ast.unparse(node.targets[0])] = ast.literal_eval(node.value)
+            if isinstance(node, ast.Assign) and (reader := (name, ast.unparse(node.targets[0]))) in TABLES:
+                told[reader] = ast.literal_eval(node.value)
     for reader, kind in TABLES.items():
         wanted = {what.split(" `")[0]: place for what, place in found[kind].items() if not what.startswith("`")}
         wanted = {what: place for what, place in wanted.items() if what in TAKEN.get(reader, wanted)}

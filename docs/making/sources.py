@@ -244,9 +244,8 @@ def cited_in(text, names, files):
 def contract_of(text, begin):
     """A function's head with its clauses: everything before its body."""
     lines, has_clause = [], False
-    indent = re.match(" *", text[begin:]).group()
     for line in text[begin:].split("\n"):
-        if line == indent + "{":
+        if line.strip() == "{":
             break
         lines.append(line)
         has_clause = has_clause or bool(re.match(r"\s+(?:requires|ensures)\b", line))
