@@ -38,10 +38,6 @@ def described():
     return HEAD + "\n".join(lines) + "\n}\n"
 
 
-def run(*words, given):
-    return subprocess.run(words, input=given, check=True, capture_output=True, text=True).stdout
-
-
 def titles(svg):
     """The crates and lines of a picture."""
     return set(html.unescape(it) for it in re.findall(r"<title>(.*?)</title>", svg))
@@ -51,6 +47,6 @@ def made():
     if not (shutil.which("tred") and shutil.which("dot")):
         print("docs/crates.svg stays as it is: the package graphviz isn't installed", file=sys.stderr)
         return {}
-    drawn = run("dot", "-Tsvg", given=run("tred", given=described()))
+    drawn = subprocess.run(["bash", "-o", "pipefail", "-c", "tred | dot -Tsvg"], input=described(), check=True, capture_output=True, text=True).stdout
     kept = read(PAGE) if PAGE.is_file() else ""
     return {PAGE: kept if titles(kept) == titles(drawn) else drawn}

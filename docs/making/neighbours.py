@@ -22,15 +22,11 @@ def neighbours(crate, cited, contracts):
     return "\n".join([HEADING, "", *lines, ""])
 
 
-def first_sentence(text):
-    """The first sentence of a README, after its title, as a cell of a table."""
-    return text.split("\n\n")[1].split(". ")[0].rstrip(".\n")
-
-
 def with_table(readmes):
-    """ARCHITECTURE.md with a table of crates made from the READMEs."""
+    """ARCHITECTURE.md with a table of crates made from the first sentences of the READMEs, after their titles."""
     after = read(PAGE).partition(MARK)[2].lstrip().split("\n\n", 1)[1]
-    rows = "".join(f"| [`{crate}`](../crates/{crate}/README.md) | {first_sentence(text)} |\n" for crate, text in readmes.items())
+    first = {crate: text.split("\n\n")[1].split(". ")[0].rstrip(".\n") for crate, text in readmes.items()}
+    rows = "".join(f"| [`{crate}`](../crates/{crate}/README.md) | {sentence} |\n" for crate, sentence in first.items())
     return f"{by_hand(PAGE, MARK)}{MARK}\n| Crate | What it is |\n|---|---|\n{rows}\n{after}"
 
 

@@ -68,9 +68,8 @@ class Part(typing.NamedTuple):
 
     def refused(self):
         """The numbers of the requests that are refused if STATE changes now."""
-        if self.is_late() or self.calls.count(LOOK) < self.session.looks[self.saves]:
-            return ()
-        return self.session.refused[self.saves]
+        is_early = self.calls.count(LOOK) < self.session.looks[self.saves]
+        return () if is_early or self.is_late() else self.session.refused[self.saves]
 
 
 class Beside:

@@ -152,8 +152,7 @@ def test_an_output_that_takes_a_part(size):
     wanted = written([docker("files", "STATE"), docker("print", "STATE", "ASHFELD", "2024-06-12")])
     with open("output", "wb") as output:
         ended = run(["prlimit", f"--fsize={size}", DESK, "STATE"], b"files\nprint ASHFELD 2024-06-12\n", stdout=output, restore_signals=False)
-    assert ended == Ended(4, None, DEVICE_LINE)
-    assert held("output") == wanted[:size]
+    assert (ended, held("output")) == (Ended(4, None, DEVICE_LINE), wanted[:size])
 
 
 @pytest.fixture

@@ -70,8 +70,7 @@ def follow(ended, refusals, requests=REQUESTS, most=1):
     """Follows a session to its end. At most `most` requests may be refused with these answers."""
     followed = Followed(requests, answers_in(ended.output), refusals)
     assert len(followed.refused) <= most, f"requests {followed.refused} were refused"
-    assert (ended.status, ended.errors) == followed.mirror.end()
-    assert held() == followed.mirror.stored
+    assert (ended.status, ended.errors, held()) == (*followed.mirror.end(), followed.mirror.stored)
     return followed
 
 
@@ -80,8 +79,7 @@ def is_refused_start(ended, before):
     assert not os.path.lexists("STATE.new"), "a draft is left"
     if ended.output:
         return False
-    assert ended == Ended(3, b"", MEMORY_LINE)
-    assert held() == before
+    assert (ended, held()) == (Ended(3, b"", MEMORY_LINE), before)
     return True
 
 
@@ -194,10 +192,8 @@ def draft_of(call):
 def afterwards(stored):
     """The same session over what is left has the same result, and leaves no draft."""
     ended = desk("--write", "STATE", given=LINES)
-    statuses = [answer.status for answer in answers_in(ended.output)]
-    assert statuses == [0] * 12 + [1, 2] + [0] * 4
-    assert (ended.status, ended.errors) == (0, b"")
-    assert held() == stored[-1]
+    assert [answer.status for answer in answers_in(ended.output)] == [0] * 12 + [1, 2] + [0] * 4
+    assert (ended.status, ended.errors, held()) == (0, b"", stored[-1])
     assert not os.path.lexists("STATE.new"), "a draft is left afterwards"
 
 
@@ -265,5 +261,4 @@ def test_each_read_and_each_write_is_interrupted_once(device):
     ended = desk_on(device, INTERRUPT=1, TOLD="met", WRONG="wrong")
     assert os.path.exists("met"), "nothing was interrupted"
     assert not os.path.exists("wrong"), "what may not be"
-    assert ended == Ended(0, whole[0], b"")
-    assert held() == whole[1][-1]
+    assert (ended, held()) == (Ended(0, whole[0], b""), whole[1][-1])

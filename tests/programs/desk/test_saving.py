@@ -35,9 +35,7 @@ def test_save_keeps_the_permissions_of_state_and_its_link():
     os.symlink("office", "STATE")
     with writing("full") as asked:
         asked.does("take monday", "save")
-    assert os.readlink("STATE") == "office"
-    assert stat.S_IMODE(os.stat("office").st_mode) == 0o640
-    assert held("office") == state_of("full", "monday")
+    assert (os.readlink("STATE"), stat.S_IMODE(os.stat("office").st_mode), held("office")) == ("office", 0o640, state_of("full", "monday"))
 
 
 def limit_files(process, size):

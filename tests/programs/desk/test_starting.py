@@ -28,8 +28,7 @@ def unread_by(*words):
 @each("words", {str(words): words for words in REFUSED_WORDS})
 def test_words_that_are_refused(words):
     before = give(state_of("full"))
-    assert unread_by(*words) == (Ended(2, b"", USAGE), SAVING)
-    assert held() == before
+    assert (*unread_by(*words), held()) == (Ended(2, b"", USAGE), SAVING, before)
 
 
 @each("name", ["./stdin", "a state", "write", "print", "Fröhlich", "./-x", " "])

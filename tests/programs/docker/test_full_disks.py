@@ -91,8 +91,7 @@ def test_a_link_of_the_name_of_a_draft():
     give(STATE_OF_ONE, "office")
     os.symlink("state_of_one", "office.new")
     assert docker("take", "office", "revised") == DEVICE
-    assert os.readlink("office.new") == "state_of_one"
-    assert held("office") == STATE_OF_ONE
+    assert (os.readlink("office.new"), held("office")) == ("state_of_one", STATE_OF_ONE)
 
 
 # A file system of 64 KiB, mounted for this command only. It is full, then has little room, then is read-only, and finally has all its room.

@@ -25,8 +25,7 @@ def test_take_by_a_link():
     os.chmod("office", 0o640)
     os.symlink("office", "linked")
     stores(STATE_OF_BOTH, "take", "linked", "revised")
-    assert os.readlink("linked") == "office"
-    assert mode_of("office") == 0o640
+    assert (os.readlink("linked"), mode_of("office")) == ("office", 0o640)
 
 
 MASKS = {"022": 0o644, "077": 0o600, "000": 0o666}

@@ -177,8 +177,7 @@ def test_a_link_to_a_draft_that_takes_the_place_of_what_is_left_over(device):
             found = met(device, number, "ln -fs draft office.new", TAKE)
             assert (found.ended, found.status) == (DEVICE, 0)
             draft.is_under("draft")
-        assert os.readlink("office.new") == "draft"
-        assert held("office") == STATE_OF_ONE
+        assert (os.readlink("office.new"), held("office")) == ("draft", STATE_OF_ONE)
         os.remove("office.new")
 
 

@@ -28,10 +28,7 @@ def test_zeros_without_end():
     assert docker("check", "/dev/zero", before=LITTLE) == LENGTH
 
 
-@each("words, wanted", {
-    "zeros without end on standard input": (["check", "stdin"], LENGTH),
-    "zeros without end in place of the job line": ([], USAGE),
-})
+@each("words, wanted", {"zeros without end on standard input": (["check", "stdin"], LENGTH), "zeros without end in place of the job line": ([], USAGE)})
 def test_endless_zeros(words, wanted):
     with open("/dev/zero", "rb") as zeros:
         assert docker(*words, before=LITTLE, stdin=zeros) == wanted

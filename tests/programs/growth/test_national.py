@@ -145,10 +145,7 @@ def test_migrate(national):
     old.unlink()
 
 
-@each("name, other", {
-    "the update into the extract": ("first", "second"),
-    "the extract into the update": ("second", "first"),
-})
+@each("name, other", {"the update into the extract": ("first", "second"), "the extract into the update": ("second", "first")})
 def test_merge(national, name, other):
     """A merge either way results in the same state."""
     with copy_of(national / f"{name}.state") as state:

@@ -130,10 +130,7 @@ def test_migrate(large):
     holds_only("STATE", held(large / "first.state"))
 
 
-@each("before, words", {
-    "take": ("first.ledger", "take STATE {}/first.cif"),
-    "merge": ("first.state", "merge STATE {}/second.state"),
-})
+@each("before, words", {"take": ("first.ledger", "take STATE {}/first.cif"), "merge": ("first.state", "merge STATE {}/second.state")})
 @each("which", ["in the middle", "last but one", "last"])
 def test_a_growth_is_refused(large, refusing, before, words, which):
     words, before = words.format(large).split(), held(large / before)

@@ -35,9 +35,7 @@ class Plan(typing.NamedTuple):
 
 def half_minutes(field):
     """The time in a field of five characters; None if it is blank."""
-    if not field.strip():
-        return None
-    return 2 * (60 * int(field[:2]) + int(field[2:4])) + (field[4] == "H")
+    return 2 * (60 * int(field[:2]) + int(field[2:4])) + (field[4] == "H") if field.strip() else None
 
 
 def times_of(line):

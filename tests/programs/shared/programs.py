@@ -94,9 +94,7 @@ def preloading(library, **settings):
 
 def as_nobody():
     """The words that run the program as a user that may not write anywhere, if this user may do so."""
-    if os.getuid():
-        return ()
-    return ("setpriv", "--reuid=65534", "--regid=65534", "--clear-groups")
+    return () if os.getuid() else ("setpriv", "--reuid=65534", "--regid=65534", "--clear-groups")
 
 
 def builds():
