@@ -123,28 +123,21 @@ def words_of(name):
     return re.findall("[a-z0-9]+", name.lower().replace("'", ""))
 
 
-def functions_of(path):
-    """The tests in a file, each by the words of its name."""
-    for it in re.finditer(r"^def test_(\w+)\(", read(path), re.M):
-        yield words_of(it.group(1).replace("_", " ")), it.start()
-
-
-def cases_named(path, name):
-    """The place of the test or the table row with this name in a file. A row may follow its test and a colon."""
+def count_of(path, name):
+    """How many tests or table rows of a file have this name. A row may follow its test and a colon."""
     test, _, row = name.partition(": ")
-    tests = [begin for words, begin in functions_of(path) if words == words_of(name)]
-    if tests or row and words_of(test) not in [words for words, _ in functions_of(path)]:
-        return tests
-    return [it.start() for it in re.finditer(re.escape(f'"{row or name}"'), read(path))]
+    functions = [words_of(it) for it in re.findall(r"^def test_(\w+)\(", read(path), re.M)]
+    count = functions.count(words_of(name))
+    return count if count or row and words_of(test) not in functions else read(path).count(f'"{row or name}"')
 
 
 def case_of(folder, name, row, links):
     """The link to a case in a folder."""
-    found = [(path, begin) for path in sorted((ROOT / folder).rglob("test_*.py")) for begin in cases_named(path, name)]
+    found = [path for path in sorted((ROOT / folder).rglob("test_*.py")) for _ in range(count_of(path, name))]
     if len(found) != 1:
         links.faults.append(f"{row}: {len(found)} cases *{name}* in `{folder}`")
         return f"*{name}*"
-    return f"[*{name}*](../{found[0][0].relative_to(ROOT)})"
+    return f"[*{name}*](../{found[0].relative_to(ROOT)})"
 
 
 def promises(cell, row, links):

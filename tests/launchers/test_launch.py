@@ -328,9 +328,8 @@ def test_a_crate_that_fails(tree):
 def test_an_interrupt_ends_all(tree, name):
     processes = tree.folder / "processes"
     # A background job of a shell ignores interrupts, and so would the launcher that it starts.
-    heed = lambda: [signal.signal(it, signal.SIG_DFL) for it in (signal.SIGINT, signal.SIGHUP)]  # noqa: E731
-    words = {"env": tree.environment(TAKES="600"), "stderr": subprocess.DEVNULL, "start_new_session": True, "preexec_fn": heed}
-    with subprocess.Popen([tree.folder / "docker"], **words) as started:
+    words = ["env", "--default-signal=INT,HUP", tree.folder / "docker"]
+    with subprocess.Popen(words, env=tree.environment(TAKES="600"), stderr=subprocess.DEVNULL, start_new_session=True) as started:
         until = time.monotonic() + 60
         while not processes.exists() and time.monotonic() < until:
             time.sleep(0.1)

@@ -134,15 +134,6 @@ def test_each_call_fails(device, words, before, after, wanted, error):
     assert Tried(words, before, after, wanted).at_each_call(device, "FAIL_AT", error) > 9
 
 
-def statuses(device, call, error, before, words):
-    """How a command ends if the first call with this name fails, if the second one fails, and so on."""
-    def trial(number):
-        put_back(before)
-        return docker(*words.split(), before=preloading(device, CALL=call, FAIL_AT=number, ERROR=error, TOLD="met")).status
-
-    return [status for _, status, met in in_turn(trial) if met]
-
-
 # The program first looks for each standard stream, then opens STATE, the file and the draft. The draft gets its permissions before it is put in place. Its mark
 # is removed last; if that fails, the state is stored all the same.
 @each("call, error, before, words, wanted", {
@@ -159,7 +150,12 @@ def statuses(device, call, error, before, words):
     "take, if permissions are not given": ("fchmod", "EIO", STATE_OF_ONE, "take office revised", [4, 0]),
 })
 def test_statuses_as_one_call_fails(device, call, error, before, words, wanted):
-    assert statuses(device, call, error, before, words) == wanted
+    """How a command ends if the first call with this name fails, if the second one fails, and so on."""
+    def trial(number):
+        put_back(before)
+        return docker(*words.split(), before=preloading(device, CALL=call, FAIL_AT=number, ERROR=error, TOLD="met")).status
+
+    assert [status for _, status, met in in_turn(trial) if met] == wanted
 
 
 # A read or a write that a signal interrupts is repeated: each is interrupted once. What a write doesn't write is written by the next one: each write of more than

@@ -5,7 +5,7 @@ import subprocess
 
 import pytest
 from given import STATE_OF_BOTH, STATE_OF_ONE
-from outcomes import DEVICE, DONE, holds_only, keeps, stores, takes, takes_more
+from outcomes import DEVICE, DONE, keeps, stores, takes, takes_more
 from programs import DOCKER, Ended, docker, ended_on_disk, give, held, on_disk, redirected, run
 from tables import alone, each
 
@@ -20,24 +20,19 @@ def test_a_disk_that_becomes_full(kilobytes, words):
     keeps(DEVICE, *words.split(), before=on_disk(kilobytes))
 
 
-def full_disk(*words):
-    """How a command ends on a disk without room. Its standard error is a file on that disk."""
-    with open("faults", "wb") as faults:
-        ended = docker(*words, before=on_disk(0), stderr=faults)
-    return ended, held("faults")
+# The words that run the program on a disk without room. Its standard error is a file on that disk, so the line that reports the fault can't be written either.
+NO_ROOM = (*redirected("2>faults"), *on_disk(0))
 
 
 def test_take_on_a_full_disk():
-    """The line that reports the fault can't be written to its file either."""
     give(STATE_OF_BOTH, "office")
-    assert full_disk("take", "office", "places") == (Ended(4, b"", None), b"")
-    holds_only("office", STATE_OF_BOTH)
+    keeps(Ended(4, b"", b""), "take", "office", "places", before=NO_ROOM)
+    assert held("faults") == b""
 
 
 def test_new_on_a_full_disk():
-    assert full_disk("new", "not_made") == (Ended(4, b"", None), b"")
-    assert not os.path.lexists("not_made")
-    assert not os.path.lexists("not_made.new")
+    assert docker("new", "not_made", before=NO_ROOM) == Ended(4, b"", b"")
+    assert (held("faults"), os.path.lexists("not_made"), os.path.lexists("not_made.new")) == (b"", False, False)
 
 
 def test_a_full_disk_with_standard_error_closed():
