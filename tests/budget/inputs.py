@@ -98,17 +98,11 @@ def update(date, reference, turn):
         new = place_of(number).replace("X", "Y") if number % 2 else ""
         parts.append(records.place("TA", place_of(number), f"PLACE {number}, AGAIN", new))
     parts += [link(number, "240720") for number in range(turn, UIDS, 70)]
-    for number in range(turn, UIDS, 20):
-        match number // 20 % 4:
-            case 0:
-                parts.append(base(number, 15, "R"))
-            case 1:
-                parts.append(records.basic("D", uid_of(number), "231210"))
-            case 2:
-                parts.append(cancellation(number + 1))
-            case _:
-                parts.append(base(UIDS + number, 8))
-    return records.extract(*parts)
+    changes = (
+        lambda number: base(number, 15, "R"), lambda number: records.basic("D", uid_of(number), "231210"),
+        lambda number: cancellation(number + 1), lambda number: base(UIDS + number, 8),
+    )
+    return records.extract(*parts, *(changes[number // 20 % 4](number) for number in range(turn, UIDS, 20)))
 
 
 def endless():
