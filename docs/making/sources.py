@@ -254,12 +254,6 @@ def contract_of(text, begin):
     return "\n".join(lines)
 
 
-def is_open(head, owner, text):
-    """Whether a function can be called from outside its file. A function of a trait can be called if the trait is visible there."""
-    of_trait = owner[0] and re.search(rf"^pub trait {owner[0]}\b", text, re.M)
-    return bool(of_trait or re.match(r"\s*pub (?:const )?fn ", head))
-
-
 def exported(crate):
     """The names that a crate's lib.rt exports, and its public modules."""
     path = ROOT / "crates" / crate / "src" / "lib.rt"
@@ -280,7 +274,9 @@ def functions():
             module = "::".join(path.relative_to(ROOT / "crates" / crate / "src").with_suffix("").parts)
             for begin, _, owner, name in bodies().functions_of(text):
                 head = contract_of(text, begin)
-                is_public = is_open(head, owner, text) and (module in modules or (owner[0] or name) in names)
+                # A function of a trait can be called from outside its file if the trait is visible there.
+                is_open = re.match(r"\s*pub (?:const )?fn ", head) or owner[0] and re.search(rf"^pub trait {owner[0]}\b", text, re.M)
+                is_public = bool(is_open) and (module in modules or (owner[0] or name) in names)
                 is_test = bool(re.search(r"#\[test\]\s*(?:#\[[^\]]*\]\s*)*$", text[:begin]))
                 found.append(Function(crate, module, owner, name, at(path, text.count("\n", 0, begin) + 1), head, is_public, is_test))
     return found

@@ -1,5 +1,4 @@
 """Each memory growth of a session is refused in turn. Each of its system calls fails in turn, or the session is killed there."""
-import contextlib
 import copy
 import os
 import pathlib
@@ -99,17 +98,6 @@ def test_each_growth_of_a_session_is_refused_in_turn(refusing):
         assert verb in met, f"no growth of {verb} was refused"
 
 
-@contextlib.contextmanager
-def large_given(count):
-    """A file with this number of schedules, in the folder of the given files."""
-    give_large(count)
-    shutil.copy("large", given("large"))
-    try:
-        yield
-    finally:
-        os.remove(given("large"))
-
-
 def ran_out(room):
     """How often memory ran out in a session whose address space has this many KB."""
     before = start()
@@ -123,11 +111,15 @@ def ran_out(room):
 @pytest.mark.timeout(600)
 def test_small_address_spaces_an_eighth_of_a_megabyte_apart():
     counts, room = [], 4096
-    with large_given(8000):
+    give_large(8000)
+    shutil.copy("large", given("large"))
+    try:
         # The loop ends once eight address spaces in a row have been large enough.
         while len(counts) < 8 or any(counts[-8:]):
             counts.append(ran_out(room))
             room += 128
+    finally:
+        os.remove(given("large"))
     assert any(counts), "memory never ran out"
 
 

@@ -130,8 +130,8 @@ def test_100_random_sessions_each_asked_at_once():
 OFFICE = ROOT / "examples" / "office"
 
 
-def session_shown():
-    """The words of the command, its requests, and the answers that the page shows. An answer's header has the number of lines that follow it."""
+def test_the_session_in_the_manual_page():
+    """The session has the words of the command, and each request with its answer. An answer's header has the number of lines that follow it."""
     lines = (OFFICE / "desk-session").read_text(encoding="ascii").splitlines(keepends=True)
     command, requests, answers = lines.pop(0), "", ""
     while lines:
@@ -139,10 +139,6 @@ def session_shown():
         requests += lines[0]
         answers += "".join(lines[1:end])
         lines = lines[end:]
-    return shlex.split(command)[2:], requests.encode(), answers.encode()
-
-
-def test_the_session_in_the_manual_page():
-    words, requests, answers = session_shown()
+    words = shlex.split(command)[2:]
     takes(words[-1], *(OFFICE / f"{name}.cif" for name in ("full", "monday", "tuesday")))
-    same("the end", desk(*words, given=requests), done(answers))
+    same("the end", desk(*words, given=requests.encode()), done(answers.encode()))

@@ -176,13 +176,6 @@ def taken_from(pipe):
         return b""
 
 
-def release():
-    """Ends the process that holds a lock, if there is one."""
-    if os.path.exists("../holder"):
-        os.kill(int(held("../holder")), signal.SIGKILL)
-        os.remove("../holder")
-
-
 class Coming:
     """One act of another program, done to one subject. `alone` is the content of the folder if only
     the act is done, and `last` is the content if the act comes after the program."""
@@ -214,7 +207,10 @@ class Coming:
             try:
                 found = met(self.device, number, subject.line(self.act), subject.command, subject.given)
             finally:
-                release()
+                # Ends the process that holds a lock, if there is one.
+                if os.path.exists("../holder"):
+                    os.kill(int(held("../holder")), signal.SIGKILL)
+                    os.remove("../holder")
             self.is_in_pipe = taken_from(pipe)
         assert found is not None, "there is no such call"
         return {"the lock": self.draft_locked, "the draft": self.draft_changed}.get(self.act.changes, self.state_changed)(found)
