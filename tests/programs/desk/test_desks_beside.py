@@ -14,7 +14,7 @@ def test_two_desks_on_one_state():
         first.does("take monday")
         second.does("take night")
         first.does("save")
-        assert second.ask("save") == DEVICE
+        second.gives(DEVICE, "save")
         assert held() == state_of("full", "monday")
         second.does("renew")
         assert held() == state_of("full", "monday")
@@ -39,8 +39,7 @@ def test_beside_a_docker(words):
         assert docker(*words) == DONE
         there = held()
         for _ in range(2):
-            assert asked.ask("save") == DEVICE
-            assert held() == there
+            assert (asked.ask("save"), held()) == (DEVICE, there)
         asked.does("renew", "save")
         assert held() == joined(state_of("full", "night"), there)[1]
 
@@ -62,8 +61,7 @@ def test_a_state_that_is(way):
     with writing("full") as asked:
         asked.does("take night", "save", "take monday")
         way(state_of("full", "tuesday"))
-        assert asked.ask("save") == DEVICE
-        assert held() == state_of("full", "tuesday")
+        assert (asked.ask("save"), held()) == (DEVICE, state_of("full", "tuesday"))
         asked.does("renew", "save")
         assert held() == state_of("full", "night", "monday", "tuesday")
 
@@ -88,9 +86,7 @@ def test_a_link_that_leads_to_another_state_meanwhile():
         asked.does("take night")
         os.remove("STATE")
         os.symlink("second", "STATE")
-        assert asked.ask("save") == DEVICE
-        assert held("first") == before
-        assert held("second") == state_of("tuesday")
+        assert (asked.ask("save"), held("first"), held("second")) == (DEVICE, before, state_of("tuesday"))
         ends_well(asked, 1, NOT_SAVED)
 
 

@@ -43,8 +43,7 @@ def test_changes_whose_save_was_refused_are_unsaved():
     with Desk("--write", "STATE") as asked:
         asked.does("take monday")
         assert docker("take", "STATE", "night") == DONE
-        assert asked.ask("save") == DEVICE
-        assert asked.closed() == UNSAVED_END
+        assert (asked.ask("save"), asked.closed()) == (DEVICE, UNSAVED_END)
 
 
 # A renewal finds out whether STATE holds everything that the desk knows.

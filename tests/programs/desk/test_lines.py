@@ -110,8 +110,7 @@ def test_a_last_line_without_its_line_feed_asks_for_nothing(line):
 
 def test_no_line():
     give(state_of("full"))
-    assert desk("STATE", given=b"") == Ended(0, b"", b"")
-    assert desk("--write", "STATE", given=b"") == Ended(0, b"", b"")
+    assert desk("STATE") == desk("--write", "STATE") == Ended(0, b"", b"")
 
 
 # One line of each kind. The tests below mix them.

@@ -51,7 +51,7 @@ def test_a_disk_that_is_full_at(size):
         asked.does("take large")
         limit_files(asked.process, size)
         for _ in range(2):
-            assert asked.ask("save") == DEVICE
+            asked.gives(DEVICE, "save")
             holds_only("STATE", before)
         files = asked.ask("files")
         assert asked.ask("print ASHFELD 2024-06-14").text.count(b" L0") == 800
@@ -81,9 +81,7 @@ def test_a_small_file_system_that_is_full():
         asked.does("take large")
         folder = f"/proc/{asked.process.pid}/root{os.getcwd()}/small"
         subprocess.run(["dd", "if=/dev/zero", f"of={folder}/filler"], check=False, stderr=subprocess.DEVNULL)
-        assert asked.ask("save") == DEVICE
-        assert sorted(os.listdir(folder)) == ["STATE", "filler"]
-        assert held(f"{folder}/STATE") == before
+        assert (asked.ask("save"), sorted(os.listdir(folder)), held(f"{folder}/STATE")) == (DEVICE, ["STATE", "filler"], before)
         assert asked.ask("print ASHFELD 2024-06-14").text.count(b" L0") == 800
         os.remove(f"{folder}/filler")
         asked.does("save")
@@ -95,8 +93,7 @@ def test_a_file_that_has_the_drafts_name_and_is_no_draft():
     with writing("full") as asked:
         asked.does("take monday")
         give(b"mine", "STATE.new")
-        assert asked.ask("save") == DEVICE
-        assert (held("STATE.new"), held()) == (b"mine", state_of("full"))
+        assert (asked.ask("save"), held("STATE.new"), held()) == (DEVICE, b"mine", state_of("full"))
         os.remove("STATE.new")
         asked.does("save")
         holds_only("STATE", state_of("full", "monday"))
@@ -128,8 +125,7 @@ def signalled(which, before, wanted, delay):
         assert asked.ended().status == -which
     now = held()
     assert now in (before, wanted), "STATE is neither as it was nor as it is to be"
-    is_left = os.path.lexists("STATE.new")
-    if is_left:
+    if is_left := os.path.lexists("STATE.new"):
         mode = os.lstat("STATE.new").st_mode
         assert stat.S_ISREG(mode) and mode & stat.S_ISVTX, "a draft without its mark"
         assert now == before, "a draft beside what is stored"

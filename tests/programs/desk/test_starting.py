@@ -67,8 +67,7 @@ def test_a_state_that_cannot_be_read(name):
 
 def test_a_state_that_is_there_but_empty_of_files():
     assert docker("new", "STATE") == DONE
-    wanted = [DONE, docker("print", "STATE", "ASHFELD", "2024-06-12")]
-    wanted.append(Answer(0, train_text((), "A00001", "2024-06-12")))
+    wanted = [DONE, docker("print", "STATE", "ASHFELD", "2024-06-12"), Answer(0, train_text((), "A00001", "2024-06-12"))]
     assert desk("STATE", given=b"files\nprint ASHFELD 2024-06-12\ntrain A00001 2024-06-12\n") == Ended(0, written(wanted), b"")
 
 
@@ -82,8 +81,7 @@ def without(streams, *words, given=b""):
 
 def test_standard_input_that_is_closed():
     before = give(state_of("full"))
-    assert without("<&-", "--write", "STATE") == Ended(4, b"", DEVICE_LINE)
-    assert held() == before
+    assert (without("<&-", "--write", "STATE"), held()) == (Ended(4, b"", DEVICE_LINE), before)
 
 
 def test_standard_output_that_is_closed():

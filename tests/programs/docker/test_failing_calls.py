@@ -67,11 +67,6 @@ class Tried:
             self.drafts += 1
             assert self.drafts <= 2
 
-    def look_at_end(self, ended):
-        """Checks a command that was killed at one of its calls."""
-        assert ended.status == -signal.SIGKILL
-        assert is_as(self.before) or is_as(self.after)
-
     def look_afterwards(self):
         """The same command succeeds when it is run again; but what is migrated can't be migrated again."""
         if self.words[0] == "migrate" and is_as(self.after):
@@ -94,7 +89,8 @@ class Tried:
                 return number - 1
             with named(f"call {number}, {call}"):
                 if how == "END_AT":
-                    self.look_at_end(ended)
+                    assert ended.status == -signal.SIGKILL
+                    assert is_as(self.before) or is_as(self.after)
                 else:
                     self.look_at_failure(ended, error, call)
                 self.look_afterwards()

@@ -118,8 +118,7 @@ def unlocked(given):
 
 
 def test_new_in_a_folder_that_is_read_only(stranger, locked):
-    assert run([*stranger, "new", "locked/state"]) == DEVICE
-    assert os.listdir("locked") == ["office"]
+    assert (run([*stranger, "new", "locked/state"]), os.listdir("locked")) == (DEVICE, ["office"])
 
 
 def test_take_in_a_folder_that_is_read_only(stranger, locked):

@@ -73,8 +73,7 @@ def test_a_file_through_a_pipe_byte_by_byte():
 @each("line", {"a file through a pipe byte by byte": BY_BYTES, "a compressed file": "gzip -c one | gzip -dc"})
 def test_take_of(line):
     give(STATES["no_files"], "office")
-    assert piped(line, "take", "office", "stdin") == DONE
-    assert held("office") == STATE_OF_ONE
+    assert (piped(line, "take", "office", "stdin"), held("office")) == (DONE, STATE_OF_ONE)
 
 
 @pytest.fixture

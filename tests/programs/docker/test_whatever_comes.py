@@ -174,6 +174,5 @@ def test_a_pipe_at_which_a_look_fails(device):
 def test_new_without_hard_links(device, name):
     os.symlink("office", "leading")
     before = preloading(device, CALL="link", FAIL_AT=1, TOLD="met")
-    assert run([*before, DOCKER, "new", name]) == DONE
-    assert held("met") == b"link"
+    assert (run([*before, DOCKER, "new", name]), held("met")) == (DONE, b"link")
     holds_only("office", NO_FILES)

@@ -56,16 +56,11 @@ def write(path, reference, numbers):
         file.write(TRAILER)
 
 
-def room_in_memory():
-    """The folder of files in memory, if there is room and the user names no other folder."""
-    is_room = not os.environ.get("TMPDIR") and os.path.isdir("/dev/shm") and shutil.disk_usage("/dev/shm").free >= FILES
-    return "/dev/shm" if is_room else None
-
-
 @pytest.fixture(scope="module")
 def national():
     """A folder with two extracts, the states that take them, and the state that knows both."""
-    with (pytest.MonkeyPatch.context() as patch, tempfile.TemporaryDirectory(dir=room_in_memory()) as made):
+    is_room = not os.environ.get("TMPDIR") and os.path.isdir("/dev/shm") and shutil.disk_usage("/dev/shm").free >= FILES
+    with (pytest.MonkeyPatch.context() as patch, tempfile.TemporaryDirectory(dir="/dev/shm" if is_room else None) as made):
         # A command may take six times as long as in other tests.
         patch.setattr(checks, "PATIENCE", 120)
         folder = pathlib.Path(made)
