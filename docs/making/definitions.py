@@ -41,15 +41,11 @@ def laws():
     return page
 
 
-def without_words():
-    """The definitions that RULES.md or a public clause cites, and that no line explains where they stand."""
+def made():
+    # The definitions that RULES.md or a public clause cites have to have a meaning.
     calls = (it for it in sources.functions() if it.is_public and not sources.is_for_tests(it.crate))
     found = sources.in_rules().union(*(sources.cited_by(it) for it in calls))
-    return sorted(f"{it.place.file}:{it.place.line}: no line above {it.name} says what it means" for it in found if not it.meaning)
-
-
-def made():
-    if bare := without_words():
+    if bare := sorted(f"{it.place.file}:{it.place.line}: no line above {it.name} says what it means" for it in found if not it.meaning):
         raise Fault("\n".join(bare))
     about = "The definitions are in folders. A definition cites only definitions in its own folder and in the folders listed before that folder."
     model = ["## The definitions of `docker_model`", "", about, "", *table("Name", rows(MODEL, sources.definitions()))]

@@ -104,7 +104,7 @@ def docker_of(stop, *numbers):
 
 def at(stop):
     """The words for the docker of a place on the last route."""
-    return place(ROUTES - 1, stop), DAY
+    return f"{place(ROUTES - 1, stop)} {DAY}"
 
 
 @each("name", ["first", "second"])
@@ -115,17 +115,14 @@ def test_new_and_take(national, name):
     state.unlink()
 
 
-def test_check(national):
-    records = SCHEDULES * (CALLS + 1) + 2
-    assert docker("check", national / "first.cif") == accepted(records, SCHEDULES)
-
-
-def test_day(national):
-    assert docker("day", national / "first.cif", *at(9)) == done(docker_of(9, LAST))
-
-
-def test_print(national):
-    assert docker("print", national / "first.state", *at(14)) == done(docker_of(14, LAST))
+@each("words, wanted", {
+    "check": ("check {}/first.cif", accepted(SCHEDULES * (CALLS + 1) + 2, SCHEDULES)),
+    "day": (f"day {{}}/first.cif {at(9)}", done(docker_of(9, LAST))),
+    "print": (f"print {{}}/first.state {at(14)}", done(docker_of(14, LAST))),
+    "files": ("files {}/joined.state", done(b"2024-06-09 2100 DFROC1A U DFROC1Z\n2024-06-09 2100 DFROC1B U DFROC1Z\n")),
+})
+def test_reads(national, words, wanted):
+    assert docker(*words.format(national).split()) == wanted
 
 
 def test_migrate(national):
@@ -150,7 +147,7 @@ def test_merge(national, name, other):
 
 def test_a_desk_prints_takes_prints_and_saves(national):
     """A desk over the state of the first file learns what the other state knows."""
-    asked = f"print {' '.join(at(5))}\n"
+    asked = f"print {at(5)}\n"
     given = f"{asked}take {national}/second.cif\n{asked}save\n".encode()
     texts = [docker_of(5, LAST), b"", docker_of(5, LAST, LAST_MORE), b""]
     with copy_of(national / "first.state") as state:
@@ -164,12 +161,7 @@ def test_take_of_a_known_file_changes_nothing(national):
         same_text(state, national / "joined.state")
 
 
-def test_files(national):
-    lines = "".join(f"2024-06-09 2100 DFROC1{letter} U DFROC1Z\n" for letter in "AB")
-    assert docker("files", national / "joined.state") == done(lines.encode())
-
-
 def test_print_under_a_horizon(national):
     with copy_of(national / "joined.state") as state:
         assert docker("horizon", state, HORIZON) == DONE
-        assert docker("print", state, *at(3)) == done(docker_of(3, LAST, LAST_MORE))
+        assert docker("print", state, *at(3).split()) == done(docker_of(3, LAST, LAST_MORE))

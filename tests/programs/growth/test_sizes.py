@@ -83,19 +83,11 @@ def test_check(large):
     assert docker("check", large / "first.cif") == accepted(4 * ROWS + STOPS + 5, 2 * ROWS + 1)
 
 
-def test_day_at_the_last_place(large):
-    assert docker("day", large / "first.cif", FIRST.last_place(), DAY) == last_docker(FIRST)
-
-
 @each("name", list(HALVES))
 def test_take(large, name):
     give(held(large / f"{name}.ledger"))
     assert docker("take", "STATE", large / f"{name}.cif") == DONE
     holds_only("STATE", held(large / f"{name}.state"))
-
-
-def test_print_at_the_last_place(large):
-    assert docker("print", large / "first.state", FIRST.last_place(), DAY) == last_docker(FIRST)
 
 
 def test_merge(large):
@@ -104,13 +96,17 @@ def test_merge(large):
     holds_only("STATE", held(large / "joined.state"))
 
 
-@each("place, wanted", {
-    "the last place of the first file": (FIRST.last_place(), last_docker(FIRST)),
-    "the last place of the second file": (SECOND.last_place(), last_docker(SECOND)),
-    "a place in the schedule of 200 lines": ("L000198", prints("L000198", DAY, event("1010", "P", "Z00000", "BEYOND", "MEETING"))),
+@each("words, place, wanted", {
+    "day at the last place": ("day {}/first.cif", FIRST.last_place(), last_docker(FIRST)),
+    "print at the last place": ("print {}/first.state", FIRST.last_place(), last_docker(FIRST)),
+    "print from the joined state at the last place of the first file": ("print {}/joined.state", FIRST.last_place(), last_docker(FIRST)),
+    "print from the joined state at the last place of the second file": ("print {}/joined.state", SECOND.last_place(), last_docker(SECOND)),
+    "print from the joined state at a place in the schedule of 200 lines": (
+        "print {}/joined.state", "L000198", prints("L000198", DAY, event("1010", "P", "Z00000", "BEYOND", "MEETING")),
+    ),
 })
-def test_print_from_the_joined_state(large, place, wanted):
-    assert docker("print", large / "joined.state", place, DAY) == wanted
+def test_a_docker(large, words, place, wanted):
+    assert docker(*words.format(large).split(), place, DAY) == wanted
 
 
 def test_files_of_the_joined_state(large):
