@@ -76,8 +76,7 @@ def test_each_change_is_seen_at_once_is_in_state_after_save_and_not_before():
             mirror.agrees(asked, change, "files", "print ASHFELD 2024-06-16", "train A00001 2024-06-16")
         assert held() == mirror.stored
         mirror.agrees(asked, "save")
-        assert held() == mirror.stored
-        assert mirror.stored != state_of("full"), "the changes changed something"
+        assert held() == mirror.stored != state_of("full"), "the changes changed something"
 
 
 def test_renew_joins_what_state_holds_and_loses_nothing():

@@ -22,12 +22,11 @@ OVERLAY = records.basic("N", "C10001", "240612", "240612", "0010000", "1Z99", "O
 LINK = records.association("C10001", "C10002", "240610", "240616", "BRAYTON", "JJ", "S")
 OTHER = records.basic("N", "C10002", "240610", "240616", "1111111", "2B20")
 WORKED = records.extract(records.header("240609"), LINK, BASIC, EXTRA, ORIGIN, CHANGE, CALL, END, OVERLAY, ORIGIN, CALL, END, OTHER, ORIGIN, CALL, END)
-BLANK = " " * 80
 
 
 def line(front, start, number, *found):
     """A detailed line of these fields. A record that is None stands for spaces."""
-    text = " ".join([f"{front:56}", start, f"{number:>10}", *(record[:80] if record else BLANK for record in found)])
+    text = " ".join([f"{front:56}", start, f"{number:>10}", *(record[:80] if record else " " * 80 for record in found)])
     assert len(text) == DETAILED_WIDTH
     return text
 

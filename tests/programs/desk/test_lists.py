@@ -12,8 +12,6 @@ from mirror import give_taken, given, mirrored, reading, state_of
 from programs import DESK, Ended, give, in_seconds, run
 from tables import by_itself, each
 
-NAMES = sorted(extracts.GOOD)
-
 
 def listed(files, horizon=lists.FIRST_DAY):
     """The expected answers to both requests, for these files and this horizon."""
@@ -45,7 +43,7 @@ def day(date):
     return datetime.date.fromisoformat(date)
 
 
-@each("names", {"no file": (), "an update": ("monday",), "a full extract": ("full",), "a later full extract": ("full", "second"), "all files": tuple(NAMES)})
+@each("names", {"no file": (), "an update": ("monday",), "a full extract": ("full",), "a later full extract": ("full", "second"), "all files": tuple(extracts.GOOD)})
 def test_the_lists_of_files(names):
     give(state_of(*names))
     assert asked() == listed(extracts.GOOD[name] for name in names)
@@ -93,8 +91,7 @@ def test_known_again_and_again():
 
 
 def test_a_list_that_no_pipe_holds_at_once():
-    codes = [f"P{n:05}" for n in range(5000)]
-    places = "".join(records.place("TI", code, f"PLACE {code}") for code in codes)
+    places = "".join(records.place("TI", f"P{n:05}", f"PLACE P{n:05}") for n in range(5000))
     trips = "".join(extracts.trip(f"L{n:05}", "1L00") for n in range(12))
     text = records.extract(records.header("240612"), places, trips)
     give_taken(text)

@@ -34,8 +34,7 @@ def test_the_text_of(text, size):
     "print of a revision": (STATE_OF_BOTH, "print office ASHFELD 2024-06-10", prints("ASHFELD", "2024-06-10", LINES["LEAVES_0905"])),
     "files of a revision": (STATE_OF_BOTH, "files office", done(FILES_LINE + REVISED_FILES_LINE)),
     "print of a late full extract": (
-        STATES["state_of_three"], "print office ASHFELD 2024-06-10",
-        prints("ASHFELD", "2024-06-10", LINES["LEAVES_1000"], LINES["LEAVES_1100"]),
+        STATES["state_of_three"], "print office ASHFELD 2024-06-10", prints("ASHFELD", "2024-06-10", LINES["LEAVES_1000"], LINES["LEAVES_1100"]),
     ),
     "the heading of the new TIPLOC": (STATES["state_of_renamed"], "print office ASHFLDN 2024-06-10", prints("ASHFLDN", "2024-06-10", name="ASHFIELD NEW")),
     "the heading of the old TIPLOC": (STATES["state_of_renamed"], "print office ASHFELD 2024-06-10", prints("ASHFELD", "2024-06-10")),

@@ -83,17 +83,15 @@ def test_check(large):
     assert docker("check", large / "first.cif") == accepted(4 * ROWS + STOPS + 5, 2 * ROWS + 1)
 
 
-@each("name", list(HALVES))
-def test_take(large, name):
-    give(held(large / f"{name}.ledger"))
-    assert docker("take", "STATE", large / f"{name}.cif") == DONE
-    holds_only("STATE", held(large / f"{name}.state"))
-
-
-def test_merge(large):
-    give(held(large / "first.state"))
-    assert docker("merge", "STATE", large / "second.state") == DONE
-    holds_only("STATE", held(large / "joined.state"))
+@each("before, words, after", {
+    "take of the first file": ("first.ledger", "take STATE {}/first.cif", "first.state"),
+    "take of the second file": ("second.ledger", "take STATE {}/second.cif", "second.state"),
+    "merge": ("first.state", "merge STATE {}/second.state", "joined.state"),
+})
+def test_stores(large, before, words, after):
+    give(held(large / before))
+    assert docker(*words.format(large).split()) == DONE
+    holds_only("STATE", held(large / after))
 
 
 @each("words, place, wanted", {
