@@ -122,6 +122,8 @@ def test_a_state_that_is_refused_is_not_merged(text, offset, cause):
 @each("bad, offset, cause", BAD_STATES)
 def test_renew_refuses_a_state_that_is_none_now(bad, offset, cause):
     with writing("full") as asked:
+        # After this answer the desk has read STATE, so it doesn't begin with the bad one.
+        assert asked.ask("files").status == 0
         good = held()
         give(bad)
         changes_nothing(asked, Answer(1, state_refused(offset, cause).errors), "renew")
