@@ -278,7 +278,7 @@ class Proving:
         out(check.crate, "proved").write_text(self.sums[check.crate] + "\n", encoding="utf-8")
 
     def generates(self):
-        """Generates machine code, by a first run of the program, with the words in its `args`. A word that names a file in its `data` becomes that file's path."""
+        """Generates machine code, by a first run of the program with the words in its `args`. A word that names a file in its `data` becomes its path."""
         folder = ROOT / "crates" / self.program
         given = folder / "stdin"
         words = [f"data/{word}" if (folder / "data" / word).is_file() else word for word in map(str.strip, text_of(folder / "args").splitlines())]

@@ -1,5 +1,5 @@
-"""Writes two lists. DECISIONS.md has its decisions at its head, from its headings. CONTRIBUTING.md has the names of a struct, an enum or a trait that mean two things:
-those that sources of two crates define, outside tests."""
+"""Writes two lists. DECISIONS.md has its decisions at its head, from its headings. CONTRIBUTING.md has the names of a struct, an enum or a trait that mean two
+things: those that sources of two crates define, outside tests."""
 import collections
 import re
 

@@ -87,7 +87,7 @@ def test_a_step_that_fails(tree, name):
 
 
 @pytest.mark.parametrize("old, new, why", [
-    ("b: refused, as it must be", "b: refused, as it must be (a name is gone)", "b: refused only for a name that a proof file cites; change a value and keep the names"),
+    ("b: refused, as it must be", "b: refused, as it must be (a)", "b: refused only for a name that a proof file cites; change a value and keep the names"),
     ("b: refused, as it must be", "b: BAD EDIT: no such line", "b: not applied or not compiled, so the prover was never asked"),
     ("rt: must-fail", "rt: other", "no line of a must-fail edit was read"),
 ])

@@ -43,7 +43,7 @@ def day(date):
     return datetime.date.fromisoformat(date)
 
 
-@each("names", {"no file": (), "an update": ("monday",), "a full extract": ("full",), "a later full extract": ("full", "second"), "all files": tuple(extracts.GOOD)})
+@each("names", {"no file": (), "an update": ["monday"], "a full extract": ["full"], "a later full extract": ["full", "second"], "all files": [*extracts.GOOD]})
 def test_the_lists_of_files(names):
     give(state_of(*names))
     assert asked() == listed(extracts.GOOD[name] for name in names)

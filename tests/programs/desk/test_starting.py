@@ -1,5 +1,5 @@
-"""How a desk starts: its words, a STATE that is refused, and streams that are closed. Also what `desk --help` and `desk --version` print, and that they do nothing
-else."""
+"""How a desk starts: its words, a STATE that is refused, and streams that are closed. Also what `desk --help` and `desk --version` print, and that they do
+nothing else."""
 import os
 
 from desks import DONE, HELP, USAGE, VERSION, Answer, Desk, desk, docker, written

@@ -154,8 +154,8 @@ def test_statuses_as_one_call_fails(device, call, error, before, words, wanted):
     assert [status for _, status, met in in_turn(trial) if met] == wanted
 
 
-# A read or a write that a signal interrupts is repeated: each is interrupted once. What a write doesn't write is written by the next one: each write of more than
-# one byte writes only half of them.
+# A read or a write that a signal interrupts is repeated: each is interrupted once. What a write doesn't write is written by the next one: each write of more
+# than one byte writes only half of them.
 
 
 @pytest.fixture

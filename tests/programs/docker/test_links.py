@@ -74,7 +74,7 @@ def test_new_into_a_named_pipe():
 
 
 @each("state", {
-    "on a full device": "/dev/full", "in place of a folder": "folder", "if nothing can be made": "/proc/state", "in a folder that is not there": "nowhere/state",
+    "on a full device": "/dev/full", "in place of a folder": "folder", "if nothing can be made": "/proc/state", "in a folder that is not there": "no/state",
 })
 def test_new(state):
     assert docker("new", state) == DEVICE

@@ -1,5 +1,5 @@
-"""Files and states that are refused, and good ones that are cut at each byte. STATE stays unchanged. Also the order of the work: all files are opened before any is
-read, and the state is read first."""
+"""Files and states that are refused, and good ones that are cut at each byte. STATE stays unchanged. Also the order of the work: all files are opened before
+any is read, and the state is read first."""
 import os
 
 from given import BAD_STATES, FAULTS, ONE, STATES, STATE_OF_ONE, STATE_OF_REVISED
@@ -7,6 +7,7 @@ from outcomes import DEVICE, file_refused, holds_only, keeps, state_refused
 from programs import docker, give
 from tables import each
 
+BAD_FILES = ("short", "no_trailer", "empty", "headless", "late", "midnights", "after")
 MARK_REFUSED, SHORT_REFUSED = state_refused(0, "Mark"), state_refused(41, "Short")
 OLD, CUT = STATES["old_state"], STATE_OF_ONE[:100]
 
@@ -45,7 +46,7 @@ def test_read_of(words, text, offset, cause):
 
 
 @each("before, words, wanted", {
-    **{file: (STATE_OF_ONE, f"take office {file}", file_refused(FAULTS[file])) for file in ("short", "no_trailer", "empty", "headless", "late", "midnights", "after")},
+    **{file: (STATE_OF_ONE, f"take office {file}", file_refused(FAULTS[file])) for file in BAD_FILES},
     "take of a file that is not there": (STATE_OF_ONE, "take office missing", DEVICE),
     "merge of a state that is not there": (STATE_OF_ONE, "merge office missing", DEVICE),
     "a second file that is missing, after a bad state": (OLD, "take office missing", DEVICE),

@@ -1,5 +1,5 @@
-"""`new`, `take`, `merge`, `print`, `files`, `horizon` and `migrate`: what a state holds, in whatever order it learned of its files. Also states with a horizon, and
-states in the older format."""
+"""`new`, `take`, `merge`, `print`, `files`, `horizon` and `migrate`: what a state holds, in whatever order it learned of its files. Also states with a horizon,
+and states in the older format."""
 import itertools
 
 from docker_lines import LINES

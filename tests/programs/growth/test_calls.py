@@ -22,8 +22,8 @@ RECORD = re.compile(r"^  out of memory at record (\d+)$", re.M)
 # The limit is for the calls. It doesn't include the time for building their program.
 pytestmark = pytest.mark.timeout(120, func_only=True)
 
-# What calls promise if they run out of memory: the lines that are printed after the failed call and before the answer of the second call, with the calls. A call
-# may have several promises. N is any number.
+# What calls promise if they run out of memory: the lines that are printed after the failed call and before the answer of the second call, with the calls. A
+# call may have several promises. N is any number.
 PROMISES = {
     "out of memory at record N": "FileParser read_pieces",
     "each later call answers the same": "FileParser::feed StateParser::feed",

@@ -194,7 +194,7 @@ class Coming:
         assert subject.there() == self.undisturbed
 
     def numbers(self):
-        """The numbers of the calls at which the act is tried: all calls, unless the act makes a pipe, for which the program would wait if it read STATE later."""
+        """The numbers of the calls at which the act is tried: all, unless the act makes a pipe, for which the program would wait if it read STATE later."""
         is_read = self.act.changes == "a pipe" and self.subject.reads
         read = [at + 1 for at, call in enumerate(self.calls) if call == f"open {self.subject.name}" and is_read]
         return range(max(read, default=0) + 1, len(self.calls) + 1)

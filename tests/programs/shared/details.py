@@ -134,7 +134,8 @@ def rows_of_train(plan, place, day, uid, start):
         if at[2:9] != place or start + event.midnights * ONE_DAY != day:
             continue
         platform, track, path, public = columns_at(at, event.kind)
-        text = front(event.time, event.kind, identity_at(lines, event), uid, stp, at) + f"{platform:3} {track:3} {path:3} {public if public != '0000' else '':4} {ends}"
+        text = front(event.time, event.kind, identity_at(lines, event), uid, stp, at)
+        text += f"{platform:3} {track:3} {path:3} {public if public != '0000' else '':4} {ends}"
         rank = (event.time, ORDER.index(event.kind), uid, start, event.number, "")
         yield rank, text + origin(start, event, lines, None)
 

@@ -92,8 +92,7 @@ class Draft(contextlib.AbstractContextManager):
 
 
 def replaces_a_new_draft(device, state, draft, command, given, wanted):
-    """At each call from the making of a draft to its last look or lock, the other draft takes its place. The program has to end like this, and leave everything as
-    it is."""
+    """At each call from the making of a draft to its last look or lock, another draft takes its place. The program has to end like this, and leave all as it is."""
     before, new = held(state), f"{state}.new"
     calls = calls_of(device, command, given)
     last = max(at for at, call in enumerate(calls) if call in ("flock", f"statx {new}"))
