@@ -198,11 +198,9 @@ def test_a_text_that_is_written_just_after_a_save_in_which_a_look_fails(device, 
         give(state_of("full"))
         found = met(device, placed + 2, "cat came >STATE", COMMAND, lines)
         what = f"look {number} of {len(looks)}, before {found.after[:3]}"
-        assert (found.status, held("failed")) == (0, b"statx"), what
+        assert (found.status, held("failed"), held("STATE")) == (0, b"statx", came), what
         os.remove("failed")
-        assert held("STATE") == came, what
-        assert answers_in(found.ended.output)[-1] == DEVICE, what
-        assert (found.ended.status, found.ended.errors) == (1, NOT_SAVED), what
+        assert (found.ended.status, answers_in(found.ended.output)[-1], found.ended.errors) == (1, DEVICE, NOT_SAVED), what
 
 
 @each("is_locked, mode", DRAFTS)

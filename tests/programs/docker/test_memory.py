@@ -74,8 +74,8 @@ SIZES = [int(4096 * 1.25 ** step) for step in range(19)]
     "check in little memory": ("check large", False),
 })
 def test_until_it_is_enough(large, words, is_changed):
-    """With each size, either the status is 3 and nothing is written, or the whole command is done.
-    `check` keeps nothing of a file, so the smallest size may be enough for it."""
+    """With each size, either the status is 3 and nothing is written, or the whole command is done. `check` keeps nothing of a file, so the smallest size may be
+    enough for it."""
     wanted, refused = docker(*words.split()) if not is_changed else DONE, 0
     for size in SIZES:
         give(STATE_OF_BOTH, "office")
