@@ -172,7 +172,7 @@ def disturbed(device, setting):
     "a docker that is written partly": ("PARTLY", "print state_of_one ASHFELD 2024-06-10", "", ASHFELD),
     "the line of a fault that is written partly": ("PARTLY", "check short", "", file_refused("2: Length")),
 })
-def test_disturbed(disturbed, words, text, wanted):
+def test_interrupted(disturbed, words, text, wanted):
     assert docker(*words.split(), before=disturbed, given=text.encode()) == wanted
 
 
