@@ -133,10 +133,6 @@ class Tree:
         """The words with which `rt` was called for these crates."""
         return [(self.folder / f"words-{crate}").read_text(encoding="utf-8").strip() for crate in crates]
 
-    def kept(self):
-        """The crates whose results are kept in the checkout."""
-        return {path.read_text(encoding="utf-8").strip() for path in self.folder.glob("crates/*/out/incremental/kept")}
-
     def copies(self):
         return list(self.folder.glob("crates/*/out/proving/lane-*"))
 
@@ -302,7 +298,8 @@ def test_what_is_proved_in_a_copy_is_kept(tree):
     (old / "old.rt").touch()
     tree.launch(status=70, FAILING="docker_excerpt")
     ended = tree.crates("end")
-    assert (tree.kept(), tree.copies()) == (ended, [])
+    kept = {path.read_text(encoding="utf-8").strip() for path in tree.folder.glob("crates/*/out/incremental/kept")}
+    assert (kept, tree.copies()) == (ended, [])
     tree.launch()
     assert "docker_excerpt" in tree.crates("begin")
     assert (tree.crates("begin"), tree.copies()) == (below("docker") - ended, [])

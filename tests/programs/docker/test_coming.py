@@ -25,10 +25,6 @@ def make_pipes():
     os.mkfifo("other")
 
 
-# What takes the place of a pipe.
-INSTEAD = {"another pipe": "mv -f other pipe", "a text": "mv -f came pipe"}
-
-
 def instead_at(device, number, line):
     """Something takes the place of a pipe at this call. Returns what happened."""
     make_pipes()
@@ -52,7 +48,7 @@ def instead_at(device, number, line):
 
 
 @pytest.mark.timeout(120)
-@each("line", INSTEAD)
+@each("line", {"another pipe": "mv -f other pipe", "a text": "mv -f came pipe"})
 def test_what_takes_the_place_of_a_pipe(device, line):
     """A command writes only to the pipe that it saw."""
     assert set(at_each_call(lambda number: instead_at(device, number, line))) == {"came first", "refused", "came last"}

@@ -8,15 +8,13 @@ import stat
 import pytest
 from checks import named
 from docker_lines import LINES
-from given import ONE, STATE_OF_BOTH, STATE_OF_ONE, STATE_OF_REVISED, STATES
+from given import FILES_LINE, ONE, REVISED_FILES_LINE, STATE_OF_BOTH, STATE_OF_ONE, STATE_OF_REVISED, STATES
 from outcomes import DEVICE, DONE, MEMORY, accepted, done, file_refused, prints, stores
 from programs import DOCKER, docker, give, held, in_turn, preloading, untried
 from tables import each
 
 ACCEPTED = accepted(5, 1)
 ASHFELD = prints("ASHFELD", "2024-06-10", LINES["LEAVES_0900"])
-REVISED = prints("ASHFELD", "2024-06-10", LINES["LEAVES_0905"])
-FILES_OF_BOTH = done(b"2024-06-09 2100 DFROC1A U DFROC1Z\n2024-06-10 2100 DFROC1B U DFROC1A\n")
 TO_JUNE = STATES["state_of_both_to_june"]
 # Only these calls, by which the program looks at a file or opens it, may say that memory ran out.
 MAY_WANT_MEMORY = {"open", "statx", "realpath", "readlink", "fchmod"}
@@ -120,8 +118,8 @@ def test_large_states_at_each_call(device, large, how, words, before, after):
     "a new": ("new office", None, STATES["no_files"], DONE),
     "a horizon": ("horizon office 2024-06-14", STATE_OF_BOTH, TO_JUNE, DONE),
     "a migrate": ("migrate office", STATES["old_state_of_both"], STATE_OF_BOTH, DONE),
-    "a print": ("print office ASHFELD 2024-06-10", STATE_OF_BOTH, STATE_OF_BOTH, REVISED),
-    "a files": ("files office", STATE_OF_BOTH, STATE_OF_BOTH, FILES_OF_BOTH),
+    "a print": ("print office ASHFELD 2024-06-10", STATE_OF_BOTH, STATE_OF_BOTH, prints("ASHFELD", "2024-06-10", LINES["LEAVES_0905"])),
+    "a files": ("files office", STATE_OF_BOTH, STATE_OF_BOTH, done(FILES_LINE + REVISED_FILES_LINE)),
     "a check": ("check one", None, None, ACCEPTED),
     "a day": ("day one ASHFELD 2024-06-10", None, None, ASHFELD),
 })
