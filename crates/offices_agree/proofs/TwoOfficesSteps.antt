@@ -25,15 +25,15 @@ use Rattle.docker_program.specs.SourceNames.{SourceNames, file_and_input, first_
 use Rattle.docker_program.specs.Sources.{SourcesRead, with_files_read, with_look_at}
 use Rattle.docker_program.specs.Program.{Performs, Tells, ending_status}
 use Rattle.docker_program.specs.Commands.{HoldsKnown, IsDone, IsKnownText, Prints, PrintsKnown, Run, Stores, of_file}
-use Rattle.docker_program.specs.TwoOffices.{HaveNotFailed, KnowBoth, LearnBoth}
+use Rattle.offices_agree.specs.TwoOffices.{HaveNotFailed, KnowBoth, LearnBoth}
 use Rattle.docker_program.proofs.CommandLemmas.{prints_known, stores_known}
 use Rattle.docker_program.proofs.EndingLemmas.{run_done}
 use Rattle.cif_laws.proofs.lists.Membership.{Contains-cons, Contains-single, cons-Contains, cons-Contains-first}
 use Rattle.jiff_core.specs.Calendar.{days_from_civil, day_count, days_of_years, days_of_months}
 use Rattle.docker_model.specs.run.Knowledge.{HaveSameFiles}
 use Rattle.docker_program.proofs.VersionLemmas.{plain_known_docker}
-use Rattle.docker_program.proofs.TwoOfficesFiles.{full_file, full_is, full_text, place, update_file, update_is, update_text}
-use Rattle.docker_program.proofs.TwoOfficesDocker.{both, both_distinct, text_of_both, the_docker}
+use Rattle.offices_agree.proofs.TwoOfficesFiles.{full_file, full_is, full_text, place, update_file, update_is, update_text}
+use Rattle.offices_agree.proofs.TwoOfficesDocker.{both, both_distinct, text_of_both, the_docker}
 
 -- ---- no device has failed
 

@@ -1,8 +1,8 @@
 use Rattle.std.proofs.Common.{◌≡◌, ℕ, List, [], ◌∷◌, ◌++◌, Some, ◌∙◌, ap}
 use Rattle.docker_host.specs.History.{Event, placed}
 use Rattle.docker_host.specs.Host.{HostView}
-use Rattle.docker_program.proofs.TwoOfficesSteps.{both_print, full_name, on_shelf, sinks_agree, update_name}
-use Rattle.docker_program.proofs.two_offices.two_offices_agree.Goals as goal
+use Rattle.offices_agree.proofs.TwoOfficesSteps.{both_print, full_name, on_shelf, sinks_agree, update_name}
+use Rattle.offices_agree.proofs.two_offices.two_offices_agree.Goals as goal
 
 -- src/two_offices.rt:62:1
 pub returns : goal.returns

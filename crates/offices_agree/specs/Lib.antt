@@ -1,0 +1,3 @@
+pub mod WorkedFiles
+pub mod TwoOffices
+pub mod DeskAndOffice
