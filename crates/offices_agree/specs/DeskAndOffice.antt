@@ -1,5 +1,5 @@
 -- What a desk on the state of `north` does, and what the commands before and after its session do.
-use Rattle.std.specs.Prelude.{◌≡◌, ℕ, List, [], ◌∷◌, ◌++◌, codes, get_or}
+use Rattle.std.specs.Prelude.{◌≡◌, ℕ, List, [], ◌∷◌, ◌++◌, codes, slice_index}
 use Rattle.docker_model.specs.run.Run.{Known, nothing, united}
 use Rattle.docker_model.specs.state.StateText.{dks_2}
 use Rattle.cif_device.specs.Device.{Takes}
@@ -24,7 +24,7 @@ LearnApart old new = (full update : List (List ℕ)) → HoldsFile (text_under o
 
 -- each of the three answers begins with the digit 0, its status
 abbrev pub AreDone : List ℕ → Type 0
-AreDone answers = (get_or answers 0 0 ≡ 48) × (get_or answers 6 0 ≡ 48) × (get_or answers 12 0 ≡ 48)
+AreDone answers = (slice_index answers 0 ≡ 48) × (slice_index answers 6 ≡ 48) × (slice_index answers 12 ≡ 48)
 
 -- the desk merged the state of `south`, saved its state, and printed the docker of ASHFELD for 10
 -- June 2024. `one` and `two` are what `north` and `south` knew before. No call of the folder failed

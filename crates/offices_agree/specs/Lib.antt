@@ -1,3 +1,2 @@
-pub mod WorkedFiles
 pub mod TwoOffices
 pub mod DeskAndOffice

@@ -1,10 +1,9 @@
 //! The files of the examples, and commands on a shelf, a folder in memory.
-ghost use Rattle.std.specs.Prelude.{◌≡◌, IfOk, OnOk, true};
+ghost use Rattle.std.specs.Prelude.{◌≡◌, IfOk, OnOk, Some, true, codes};
 ghost use Rattle.docker_cmd.specs.Words.{texts};
-ghost use Rattle.docker_host.specs.Shelf.{IsShelfHistory};
+ghost use Rattle.docker_host.specs.Shelf.{IsShelfHistory, text_under};
 ghost use Rattle.docker_program.specs.Program.{Performs};
 ghost use Rattle.offices_agree.specs.TwoOffices.{HaveNotFailed};
-ghost use Rattle.offices_agree.specs.WorkedFiles.{HasFiles};
 
 use cif_line::{Bytes, Kept};
 use docker_host::{Host, Shelf};
@@ -43,7 +42,10 @@ pub(crate) const MEMORY: u8 = 3;
 
 /// Returns a shelf with the two files.
 pub(crate) fn shelf_of_files(alloc: Global) -> Result<Shelf, u8>
-    ensures files { IfOk result (λ folder. HasFiles folder.events) }
+    ensures full { IfOk result (λ folder.
+        text_under folder.events (codes "full.cif") ≡ Some FULL.now) }
+    ensures update { IfOk result (λ folder.
+        text_under folder.events (codes "update.cif") ≡ Some UPDATE.now) }
     ensures sound { IfOk result (λ folder. folder.failures ≡ 0) }
 {
     let mut folder = Shelf::new(alloc, ROOM);

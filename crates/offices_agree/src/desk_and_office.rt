@@ -1,6 +1,5 @@
 //! A desk on the state of one office, and commands of another office. Both print the same docker.
-ghost use Rattle.std.specs.Prelude.{◌≡◌, ◌++◌, OnOk, IfOk, codes};
-ghost use Rattle.docker_model.specs.run.Run.{Known};
+ghost use Rattle.std.specs.Prelude.{◌≡◌, ◌++◌, OnOk, IfOk, codes, slice_index};
 ghost use Rattle.offices_agree.specs.TwoOffices.{HaveNotFailed};
 ghost use Rattle.offices_agree.specs.DeskAndOffice.{AreDone, LearnApart, ServesNorth, ShowsSouth};
 
@@ -9,9 +8,6 @@ use cif_line::{Bytes, Kept};
 use docker_desk::serve;
 use docker_host::{Host, SessionHost, Shelf, Streams};
 use std::alloc::Global;
-
-/// The input of the desk.
-const REQUESTS: &str = "merge south\nsave\nprint ASHFELD 2024-06-10\n";
 
 /// What the desk and the other office printed.
 #[derive(Drop)]
@@ -46,7 +42,7 @@ fn take_apart(alloc: Global, host: &mut Host<Bytes<'_>, Shelf, Kept, Kept>) -> R
 
 /// Returns the status with which the answer at this place begins.
 fn status_at(answers: &[u8], place: usize) -> u8
-    ensures { result ≡ 0 → get_or answers.now place 0 ≡ 48 }
+    ensures { result ≡ 0 → slice_index answers.now place ≡ 48 }
 {
     match answers.get(place) {
         Some(b'0') => 0,
@@ -87,8 +83,9 @@ fn serve_north(alloc: Global, folder: Shelf) -> Result<Served, u8>
     let (Ok(answers), Ok(faults)) = (Kept::new(alloc, SCREEN), Kept::new(alloc, 0)) else {
         return Err(MEMORY);
     };
+    let requests = "merge south\nsave\nprint ASHFELD 2024-06-10\n";
     let mut host = SessionHost {
-        streams: Streams::new(Bytes::new(REQUESTS.as_bytes(), 1), answers),
+        streams: Streams::new(Bytes::new(requests.as_bytes(), 1), answers),
         folder,
         faults,
     };
@@ -97,7 +94,9 @@ fn serve_north(alloc: Global, folder: Shelf) -> Result<Served, u8>
     // its name.
     host.folder.tell();
     let SessionHost {
-        streams, folder, ..
+        streams,
+        folder,
+        ..
     } = host;
     let (_, answers) = streams.into_parts();
     if status != 0 {
