@@ -1,5 +1,5 @@
 -- The commands before and after the session of the desk, and what the desk and the office print.
-use Rattle.std.proofs.Common.{◌≡◌, ℕ, List, [], ◌∷◌, ◌++◌, length, Some, refl, sym, ◌∙◌, ap, subst, arith, codes}
+use Rattle.std.proofs.Common.{◌≡◌, ℕ, List, [], ◌∷◌, ◌++◌, Some, refl, sym, ◌∙◌, ap, subst, arith, codes}
 use Rattle.std.specs.Prelude.{Option, decimal}
 use Rattle.std.proofs.lemmas.Fmt.{decimal_digit, decimal-digits_of}
 use Rattle.docker_model.specs.state.StateText.{dks_2}
@@ -9,9 +9,8 @@ use Rattle.cif_device.specs.Device.{Takes}
 use Rattle.docker_host.specs.Folder.{FolderView}
 use Rattle.docker_host.specs.History.{Bytes, Event}
 use Rattle.docker_host.specs.Host.{HostView}
-use Rattle.docker_host.specs.Shelf.{IsShelfHistory, text_under}
+use Rattle.docker_host.specs.Shelf.{text_under}
 use Rattle.docker_program.specs.Commands.{HoldsKnown, PrintsKnown, of_file}
-use Rattle.docker_program.specs.Program.{Performs}
 use Rattle.docker_program.proofs.VersionLemmas.{plain_known_docker}
 use Rattle.docker_desk.specs.Answers.{answer_text}
 use Rattle.offices_agree.specs.DeskAndOffice.{IsServedNorth, IsShownSouth, KnowApart, LearnApart, ServesNorth, ShowsSouth}
@@ -111,8 +110,8 @@ hundreds = decimal-digits_of 228 (omega arith) (omega arith)
 told_docker : answer_text 0 the_docker ≡ codes "0 4 228\n" ++ the_docker
 told_docker = λ i. decimal_digit 0 (omega arith) i ++ codes " " ++ decimal_digit 4 (omega arith) i ++ codes " " ++ hundreds i ++ codes "\n" ++ the_docker
 
--- `a` is the host before the first commands and `b` the host after them, `x` and `y` are the folder before and after the session, and `c` and `d` are the
--- host before and after the last commands
+-- what the desk answers and what `south` prints. `a` and `b` are the host before and after the first commands, and `c` and `d` before and after the last. `x`
+-- and `y` are the folder before and after the session
 pub both_agree : (a b c d : HostView) (x y : FolderView) (answers : List ℕ) → text_under a.history full_name ≡ Some full_text
     → text_under a.history update_name ≡ Some update_text → LearnApart a b → x.events ≡ b.history → ServesNorth x y answers
     → c.history ≡ y.events → c.output ≡ Some [] → ShowsSouth c d
@@ -132,7 +131,7 @@ both_agree a b c d x y answers full update learn same serves also fresh shows = 
     known_south : Known
     known_south = united (united nothing (of_file update_file)) (of_file update_file)
 
-    served : IsServedNorth x y answers known_north known_south
+    served : IsServedNorth y answers known_north known_south
     served = serves known_north known_south
         (subst (λ (h : List Event). HoldsKnown dks_2 (text_under h north) known_north) (sym same) knows.north)
         (subst (λ (h : List Event). HoldsKnown dks_2 (text_under h south) known_south) (sym same) knows.south)

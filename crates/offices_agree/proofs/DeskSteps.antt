@@ -1,21 +1,19 @@
 -- What a session of the desk on `north` leaves in its folder, and what it answers.
-use Rattle.std.proofs.Common.{◌≡◌, ◌≢◌, ℕ, ◌≤◌, ◌<◌, Bool, true, false, List, [], ◌∷◌, ◌++◌, length, refl, sym, ◌∙◌, ap, subst, arith, append-nil}
-use Rattle.std.proofs.Common.{Some, None, Ok, Err, ◌⊎◌, inl, inr, codes}
-use Rattle.std.specs.Prelude.{Option, Result, ⊤, decimal, slice_index, find}
+use Rattle.std.proofs.Common.{◌≡◌, ℕ, ◌<◌, Bool, true, false, List, [], ◌∷◌, ◌++◌, length, refl, sym, ◌∙◌, ap, subst, arith, append-nil}
+use Rattle.std.proofs.Common.{Some, None, Ok, Err, inl, inr, codes}
+use Rattle.std.specs.Prelude.{Option, Result, ⊤, decimal, slice_index}
 use Rattle.std.proofs.lemmas.Fmt.{decimal_digit}
 use Rattle.std.proofs.lemmas.List.Sums.{AllPass-from_list_all}
 use Rattle.docker_model.specs.records.Record.{is_printable}
-use Rattle.docker_model.specs.records.Date.{date_number}
 use Rattle.docker_model.specs.state.Lapse.{IsDayRefused}
 use Rattle.docker_model.specs.state.State.{State}
 use Rattle.docker_model.specs.state.StateText.{dks_2, state_text}
 use Rattle.docker_model.specs.run.Run.{Known, united}
-use Rattle.cif_device.specs.Device.{Takes}
-use Rattle.cif_line.proofs.DateFields.{digits_in, digits_in-day_text}
+use Rattle.cif_line.proofs.DateFields.{digits_in-day_text}
 use Rattle.docker_host.specs.Folder.{FolderView}
 use Rattle.docker_host.specs.History.{Bytes, Event, Text, closed, drafted, looked, opened, placed}
 use Rattle.docker_host.specs.SessionHost.{SessionHostView}
-use Rattle.docker_host.specs.Shelf.{IsShelfHistory, after_events, no_texts, text_under}
+use Rattle.docker_host.specs.Shelf.{IsShelfHistory, no_texts, text_under}
 use Rattle.docker_bytes.specs.SourceRead.{JoinsState}
 use Rattle.docker_office.specs.declared.fault.OfficeFault.{OfficeFault}
 use Rattle.docker_office.specs.declared.fault.OfficeFault.TheVariants as office
@@ -40,8 +38,6 @@ use Rattle.docker_desk.specs.SessionViews.{SessionView, Setting, Step, setting}
 use Rattle.docker_desk.specs.Doing.{AreSteps, AsksOf, DoesAsked, DoesRequest, IsStep, Joins, Saves, answer_of, desk_by}
 use Rattle.docker_desk.specs.Answering.{EndsSession, answers_text, lines_of}
 use Rattle.docker_desk.specs.Serving.{BeginsAt, IsServed, Serves, ending_status, session_words}
-use Rattle.docker_desk.specs.Help.{word_of}
-use Rattle.docker_desk.specs.declared.help.Question.{Question}
 use Rattle.docker_desk.specs.declared.ending.Ending.{Ending}
 use Rattle.docker_desk.specs.declared.ending.Ending.TheVariants.{Ended, InputFailed, InputEndless, OutputFailed}
 use Rattle.docker_desk.proofs.ReadingLemmas.{one_reading}
@@ -143,8 +139,8 @@ with_verb line v request first is = subst (λ (u : Verb). IsWith u (after_word l
 -- the first byte of an answer is the digit of its status
 first_digit : (status : ℕ) (text more : List ℕ) → status < 10 → slice_index (answer_text status text ++ more) 0 ≡ 48 + status
 first_digit status text more small =
-    ap (λ (digits : List ℕ). slice_index (digits ++ codes " " ++ decimal (line_count text) ++ codes " " ++ decimal (length text) ++ codes "\n" ++ text ++ more) 0)
-    (decimal_digit status small)
+    ap (λ (digits : List ℕ). slice_index (digits ++ codes " " ++ decimal (line_count text) ++ codes " " ++ decimal (length text)
+    ++ codes "\n" ++ text ++ more) 0) (decimal_digit status small)
 
 -- the status of a fault is a digit other than 0
 fault_status : (fault : OfficeFault) → (0 < status_of (Office fault)) × (status_of (Office fault) < 10)
@@ -463,68 +459,65 @@ all_steps first last (x ∷ y ∷ z ∷ w ∷ steps) taken lines are whole done 
 
 -- ---- what the session leaves
 
--- a session on a shelf that ended with status 0
+-- a session ended with status 0, so the desk has answered its input
+pub was_served : (old new : SessionHostView) (status : ℕ) → status ≡ 0 → Serves desk_words true old new status → IsServed desk_words true old new 0
+was_served old new status none (inl asked) = let same = asked.words_are in let never : ⊥ = cc in absurd never
+was_served old new status none (inr (unasked, inl misused)) = let two = misused.status_is in absurd (omega (arith, none, two))
+was_served old new status none (inr (unasked, inr (inl refused))) =
+    let some = fault_status refused.fault in
+    let is = refused.status_is in
+    let never : ⊥ = omega (arith, none, is, some.0) in
+    absurd never
+was_served old new status none (inr (unasked, inr (inr served))) = subst (λ (s : ℕ). IsServed desk_words true old new s) none served
+
+some_text : (one two : List ℕ) → ◌≡◌ {A = Option (List ℕ)} (Some one) (Some two) → one ≡ two
+some_text one two equal = cc
+
+-- the session on the shelf
 module _ (old new : SessionHostView) (taken : List ℕ) (input : old.streams.input ≡ Some session_input) (output : old.streams.output ≡ Some [])
-    (told : new.streams.output ≡ Some taken) (met : IsShelfHistory new.history) (done : AreDone taken) where
-  abbrev Leaves : Type 0
-  Leaves = (known heard : Known) → HoldsKnown dks_2 (text_under old.history north) known → HoldsKnown dks_2 (text_under old.history south) heard
-      → IsServedNorth (record { events = old.history; failures = old.folder_failures }) (record { events = new.history; failures = new.folder_failures }) taken
-      known heard
+    (told : new.streams.output ≡ Some taken) (done : AreDone taken) (served : IsServed desk_words true old new 0) where
+  named : (served.name ≡ north) × (served.may_write ≡ true)
+  named = named_so served.name served.may_write served.words_are.words_are
 
-  served_leaves : IsServed desk_words true old new 0 → Leaves
-  served_leaves served known heard holds also = record {
-    north = subst (λ (h : List Event). HoldsKnown dks_2 (text_under h north) (united known heard)) (sym served.history)
-        (holds_all old.history served.first three.one three.two served.last begins three.merges three.saves three.same met_there known heard holds also);
-    docker = three.docker;
-    is = prints_all old.history served.first three.one three.two served.last begins three.merges three.saves three.same met_there known heard holds also
-        three.docker three.prints;
-    told = three.told;
-    sound = served.failures ∙ three.sound ∙ served.none;
-  }
-    where
-      named : (served.name ≡ north) × (served.may_write ≡ true)
-      named = named_so served.name served.may_write served.words_are.words_are
+  begins_there : BeginsAt north old.history served.first
+  begins_there = subst (λ (n : Text). BeginsAt n old.history served.first) named.0 served.begins
 
-      begins : BeginsAt north old.history served.first
-      begins = subst (λ (n : Text). BeginsAt n old.history served.first) named.0 served.begins
+  ended : served.ending ≡ Ended
+  ended = ended_well served.ending _ (sym served.ends.status_is)
 
-      ended : served.ending ≡ Ended
-      ended = ended_well served.ending _ (sym served.ends.status_is)
+  ends_so : EndsSession Ended (Some session_input) served.answers.steps (Some []) (Some taken)
+  ends_so =
+      subst (λ (b : Bytes). EndsSession Ended (Some session_input) served.answers.steps (Some []) b) told
+      (subst (λ (b : Bytes). EndsSession Ended (Some session_input) served.answers.steps b new.streams.output) output
+      (subst (λ (b : Bytes). EndsSession Ended b served.answers.steps old.streams.output new.streams.output) input
+      (subst (λ (e : Ending). EndsSession e old.streams.input served.answers.steps old.streams.output new.streams.output) ended served.answers.ends)))
 
-      ends : EndsSession Ended (Some session_input) served.answers.steps (Some []) (Some taken)
-      ends =
-          subst (λ (b : Bytes). EndsSession Ended (Some session_input) served.answers.steps (Some []) b) told
-          (subst (λ (b : Bytes). EndsSession Ended (Some session_input) served.answers.steps b new.streams.output) output
-          (subst (λ (b : Bytes). EndsSession Ended b served.answers.steps old.streams.output new.streams.output) input
-          (subst (λ (e : Ending). EndsSession e old.streams.input served.answers.steps old.streams.output new.streams.output) ended served.answers.ends)))
+  steps_are : AreSteps the_setting served.first served.answers.steps served.last
+  steps_are =
+      subst (λ (n : Text). AreSteps (setting n true true) served.first served.answers.steps served.last) named.0
+      (subst (λ (w : Bool). AreSteps (setting served.name w true) served.first served.answers.steps served.last) named.1 served.answers.are)
 
-      unsome : (one two : List ℕ) → ◌≡◌ {A = Option (List ℕ)} (Some one) (Some two) → one ≡ two
-      unsome one two equal = cc
+  three : AreThree the_setting served.first served.last taken
+  three =
+      all_steps served.first served.last served.answers.steps taken
+      (one_reading session_input (lines_of served.answers.steps) three_lines ends_so.0 lines_are) steps_are
+      (some_text taken (answers_text served.answers.steps) ends_so.1) done
 
-      steps_are : AreSteps the_setting served.first served.answers.steps served.last
-      steps_are =
-          subst (λ (n : Text). AreSteps (setting n true true) served.first served.answers.steps served.last) named.0
-          (subst (λ (w : Bool). AreSteps (setting served.name w true) served.first served.answers.steps served.last) named.1 served.answers.are)
+  -- no call of the folder failed
+  pub session_sound : new.folder_failures ≡ old.folder_failures
+  session_sound = served.failures ∙ three.sound ∙ served.none
 
-      three : AreThree the_setting served.first served.last taken
-      three =
-          all_steps served.first served.last served.answers.steps taken
-          (one_reading session_input (lines_of served.answers.steps) three_lines ends.0 lines_are) steps_are
-          (unsome taken (answers_text served.answers.steps) ends.1) done
-
-      met_there : IsShelfHistory served.last.history
-      met_there = subst IsShelfHistory served.history met
-
-  pub session_leaves : (status : ℕ) → status ≡ 0 → Serves desk_words true old new status → Leaves
-  session_leaves status none (inl asked) = let never : ⊥ = not_one asked.question in absurd never
-    where
-      not_one : (question : Question) → ⊥
-      not_one question = let same = asked.words_are in cc
-  session_leaves status none (inr (unasked, inl misused)) = let two = misused.status_is in absurd (omega (arith, none, two))
-  session_leaves status none (inr (unasked, inr (inl refused))) =
-      let some = fault_status refused.fault in
-      let is = refused.status_is in
-      let never : ⊥ = omega (arith, none, is, some.0) in
-      absurd never
-  session_leaves status none (inr (unasked, inr (inr served))) =
-      served_leaves (subst (λ (s : ℕ). IsServed desk_words true old new s) none served)
+  -- `north` knows what both knew before, and the desk printed the docker
+  pub session_leaves : (folder : FolderView) → folder.events ≡ new.history → IsShelfHistory new.history → (known heard : Known)
+      → HoldsKnown dks_2 (text_under old.history north) known → HoldsKnown dks_2 (text_under old.history south) heard
+      → IsServedNorth folder taken known heard
+  session_leaves folder same met known heard holds also =
+      let there : IsShelfHistory served.last.history = subst IsShelfHistory served.history met in
+      record {
+        north = subst (λ (h : List Event). HoldsKnown dks_2 (text_under h north) (united known heard)) (sym served.history ∙ sym same)
+            (holds_all old.history served.first three.one three.two served.last begins_there three.merges three.saves three.same there known heard holds also);
+        docker = three.docker;
+        is = prints_all old.history served.first three.one three.two served.last begins_there three.merges three.saves three.same there known heard holds also
+            three.docker three.prints;
+        told = three.told;
+      }

@@ -1,5 +1,5 @@
 -- What a desk on the state of `north` does, and what the commands before and after its session do.
-use Rattle.std.specs.Prelude.{◌≡◌, ℕ, List, [], ◌∷◌, ◌++◌, codes, slice_index}
+use Rattle.std.specs.Prelude.{◌≡◌, ℕ, List, ◌++◌, codes, slice_index}
 use Rattle.docker_model.specs.run.Run.{Known, nothing, united}
 use Rattle.docker_model.specs.state.StateText.{dks_2}
 use Rattle.cif_device.specs.Device.{Takes}
@@ -27,18 +27,17 @@ abbrev pub AreDone : List ℕ → Type 0
 AreDone answers = (slice_index answers 0 ≡ 48) × (slice_index answers 6 ≡ 48) × (slice_index answers 12 ≡ 48)
 
 -- the desk merged the state of `south`, saved its state, and printed the docker of ASHFELD for 10
--- June 2024. `one` and `two` are what `north` and `south` knew before. No call of the folder failed
-pub record IsServedNorth (old new : FolderView) (answers : List ℕ) (one two : Known) : Type 0 where
+-- June 2024. `one` and `two` are what `north` and `south` knew before
+pub record IsServedNorth (new : FolderView) (answers : List ℕ) (one two : Known) : Type 0 where
   pub north : HoldsKnown dks_2 (text_under new.events (codes "north")) (united one two)
   pub docker : List ℕ
   pub is : PrintsKnown (united one two) (codes "ASHFELD") 23537 docker
   pub told : answers ≡ codes "0 0 0\n" ++ codes "0 0 0\n" ++ answer_text 0 docker
-  pub sound : new.failures ≡ old.failures
 
 -- if `north` and `south` held states, the desk merged, saved and printed
 abbrev pub ServesNorth : FolderView → FolderView → List ℕ → Type 0
 ServesNorth old new answers = (one two : Known) → HoldsKnown dks_2 (text_under old.events (codes "north")) one
-    → HoldsKnown dks_2 (text_under old.events (codes "south")) two → IsServedNorth old new answers one two
+    → HoldsKnown dks_2 (text_under old.events (codes "south")) two → IsServedNorth new answers one two
 
 -- `south` began with an empty state, merged the state of `north`, and printed the docker of ASHFELD
 -- for 10 June 2024. `known` is what `north` knew

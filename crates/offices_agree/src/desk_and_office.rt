@@ -78,7 +78,9 @@ fn all_done(answers: &[u8]) -> Result<(), u8>
 /// session doesn't end with status 0.
 fn serve_north(alloc: Global, folder: Shelf) -> Result<Served, u8>
     requires sound { folder.failures ≡ 0 }
-    ensures { IfOk result (λ served. ServesNorth folder served.folder served.answers.taken) }
+    ensures serves { IfOk result (λ served.
+        ServesNorth folder served.folder served.answers.taken) }
+    ensures sound { IfOk result (λ served. served.folder.failures ≡ 0) }
 {
     let (Ok(answers), Ok(faults)) = (Kept::new(alloc, SCREEN), Kept::new(alloc, 0)) else {
         return Err(MEMORY);
