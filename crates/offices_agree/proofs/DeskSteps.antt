@@ -1,5 +1,5 @@
 -- What a session of the desk on `north` leaves in its folder, and what it answers.
-use Rattle.std.proofs.Common.{◌≡◌, ℕ, ◌<◌, Bool, true, false, List, [], ◌∷◌, ◌++◌, length, refl, sym, ◌∙◌, ap, subst, arith, append-nil}
+use Rattle.std.proofs.Common.{◌≡◌, ℕ, ◌+◌, ◌<◌, Bool, true, false, List, [], ◌∷◌, ◌++◌, length, refl, sym, ◌∙◌, ap, subst, arith, append-nil}
 use Rattle.std.proofs.Common.{Some, None, Ok, Err, inl, inr, codes}
 use Rattle.std.specs.Prelude.{Option, Result, ⊤, decimal, slice_index}
 use Rattle.std.proofs.lemmas.Fmt.{decimal_digit}
@@ -33,14 +33,13 @@ use Rattle.docker_desk.specs.declared.requests.Verb.{Verb}
 use Rattle.docker_desk.specs.declared.requests.Verb.TheVariants as verb
 use Rattle.docker_desk.specs.Desk.{DeskView, EndsReceiving, EndsSaving, IsDockerAnswer}
 use Rattle.docker_desk.specs.Reading.{Reading, StopsInState, opening_of}
-use Rattle.docker_desk.specs.Replies.{AnswerView, answer_bytes, answer_status, done_with, no_request, refused_for}
+use Rattle.docker_desk.specs.Replies.{AnswerView, answer_body, answer_bytes, answer_status, done_with, no_request, refused_for}
 use Rattle.docker_desk.specs.SessionViews.{SessionView, Setting, Step, setting}
 use Rattle.docker_desk.specs.Doing.{AreSteps, AsksOf, DoesAsked, DoesRequest, IsStep, Joins, Saves, answer_of, desk_by}
 use Rattle.docker_desk.specs.Answering.{EndsSession, answers_text, lines_of}
 use Rattle.docker_desk.specs.Serving.{BeginsAt, IsServed, Serves, ending_status, session_words}
 use Rattle.docker_desk.specs.declared.ending.Ending.{Ending}
 use Rattle.docker_desk.specs.declared.ending.Ending.TheVariants.{Ended, InputFailed, InputEndless, OutputFailed}
-use Rattle.docker_desk.proofs.ReadingLemmas.{one_reading}
 use Rattle.offices_agree.specs.DeskAndOffice.{AreDone, IsServedNorth}
 use Rattle.offices_agree.proofs.TwoOfficesFiles.{place}
 use Rattle.offices_agree.proofs.TwoOfficesSteps.{after_append, date_is, met_behind, met_front, north, one_place, south}
@@ -80,6 +79,10 @@ lines_are = (
   ),
 )
 
+-- a text divides into lines in only one way
+abbrev pub HasOneReading : Type 0
+HasOneReading = (text : List ℕ) (lines others : List LineView) → AreLines text lines → AreLines text others → lines ≡ others
+
 -- ---- the requests of the lines
 
 named_back : (v : Verb) → verb_named (name_of v) ≡ Some v
@@ -110,10 +113,10 @@ IsWith _ rest request = ⊤
 is_with : (rest : List ℕ) (request : RequestView) → HasRest request rest → IsWith (verb_of request) rest request
 is_with rest (merge_request other) has = ap merge_request has.same
 is_with rest save_request has = refl
-is_with rest (print_request place day) has = (place, (day, (refl, has)))
-is_with rest (permanent_request place day) has = tt
-is_with rest (detail_request place day) has = tt
-is_with rest (permanent_detail_request place day) has = tt
+is_with rest (print_request there day) has = (there, (day, (refl, has)))
+is_with rest (permanent_request there day) has = tt
+is_with rest (detail_request there day) has = tt
+is_with rest (permanent_detail_request there day) has = tt
 is_with rest (train_request uid day) has = tt
 is_with rest (trains_request identity day) has = tt
 is_with rest files_request has = tt
@@ -128,11 +131,9 @@ with_verb : (line : List ℕ) (v : Verb) (request : RequestView) → first_word 
     → IsWith v (after_word line) request
 with_verb line v request first is = subst (λ (u : Verb). IsWith u (after_word line) request) same (is_with (after_word line) request is.rest)
   where
-    both : Some (verb_of request) ≡ Some v
-    both = sym (named_back (verb_of request)) ∙ ap verb_named (sym is.name ∙ first) ∙ named_back v
-
     same : verb_of request ≡ v
-    same = cc
+    same =
+        let both : Some (verb_of request) ≡ Some v = sym (named_back (verb_of request)) ∙ ap verb_named (sym is.name ∙ first) ∙ named_back v in cc
 
 -- ---- the answers
 
@@ -159,10 +160,10 @@ done_by : (answer : AnswerView) (more : List ℕ) → slice_index (answer_bytes 
 done_by (done_with text) more first = (text, refl)
 done_by (refused_for fault) more first =
     let few = fault_status fault in
-    let digit = first_digit (status_of (Office fault)) _ more few.1 in
+    let digit = first_digit (status_of (Office fault)) (answer_body (refused_for fault)) more few.1 in
     let never : ⊥ = omega (arith, first, digit, few.0) in
     absurd never
-done_by no_request more first = let digit = first_digit 2 _ more (omega arith) in let never : ⊥ = omega (arith, first, digit) in absurd never
+done_by no_request more first = let digit = first_digit 2 (answer_body no_request) more (omega arith) in let never : ⊥ = omega (arith, first, digit) in absurd never
 
 -- an answer with status 0 and no text
 pub empty_told : answer_bytes (done_with []) ≡ codes "0 0 0\n"
@@ -171,7 +172,7 @@ empty_told = ap (λ (zero : List ℕ). zero ++ codes " " ++ zero ++ codes " " ++
 -- ---- the three steps
 
 -- `merge` joined the desk's state with the state that the named file held
-record IsMerged (other : Text) (before after : SessionView) : Type 0 where
+pub record IsMerged (other : Text) (before after : SessionView) : Type 0 where
   pub held : Bytes
   pub left : Bytes
   pub history : after.history ≡ before.history ++ opened other held ∷ closed left ∷ []
@@ -189,7 +190,7 @@ merged other text before after does = by does.result does.opens.read does.told d
     by (Err fault) read told asked ends = let never : ⊥ = cc in absurd never
 
 -- `save` replaced the state's file with the text of the desk's state
-record IsStoredSo (name : Text) (before after : SessionView) : Type 0 where
+pub record IsStoredSo (name : Text) (before after : SessionView) : Type 0 where
   pub history : after.history
       ≡ before.history ++ drafted name before.look ∷ placed name (Some (state_text dks_2 before.desk.state)) ∷ looked name ∷ []
   pub state : after.desk.state ≡ before.desk.state
@@ -245,13 +246,13 @@ not_refused known state day is allowed refused = allowed (subst (λ (h : ℕ). I
 -- what the steps change: the history, the desk's state and the failure count
 module _ (old : List Event) (first one two three : SessionView) (begins : BeginsAt north old first) (merges : IsMerged south first one)
     (saves : IsStoredSo north one two) (same : three ≡ two) (met : IsShelfHistory three.history) where
-  opening : List Event
+  abbrev opening : List Event
   opening = looked north ∷ opened north begins.held ∷ closed begins.left ∷ []
 
-  merging : List Event
+  abbrev merging : List Event
   merging = opened south merges.held ∷ closed merges.left ∷ []
 
-  storing : List Event
+  abbrev storing : List Event
   storing = drafted north one.look ∷ placed north (Some (state_text dks_2 one.desk.state)) ∷ looked north ∷ []
 
   history_is : three.history ≡ old ++ opening ++ merging ++ storing
@@ -287,7 +288,7 @@ module _ (old : List Event) (first one two three : SessionView) (begins : Begins
         merges.joins.join
 
     pub holds_all : HoldsKnown dks_2 (text_under three.history north) (united known heard)
-    holds_all = (state_text dks_2 one.desk.state, (text_is, known_text (united known heard) one.desk.state (state_text dks_2 one.desk.state) knows refl))
+    holds_all = (state_text dks_2 one.desk.state, text_is, known_text (united known heard) one.desk.state (state_text dks_2 one.desk.state) knows refl)
 
     pub prints_all : (text : List ℕ) → IsDockerAnswer two.desk.state place 23537 (done_with text) → PrintsKnown (united known heard) place 23537 text
     prints_all text is =
@@ -355,14 +356,14 @@ module _ (taken : List ℕ) (a b c : AnswerView) (whole : taken ≡ answer_bytes
       ∙ ap (λ (t : List ℕ). t ++ (answer_bytes b ++ (answer_bytes c ++ []))) empty_told
 
   second_done : a ≡ done_with [] → IsDone b
-  second_done same = done_by b (answer_bytes c ++ []) (ap (λ (t : List ℕ). slice_index t 6) (sym (after_one same)) ∙ done.1.0)
+  second_done same = done_by b (answer_bytes c ++ []) (ap (λ (t : List ℕ). slice_index t 6) (sym (after_one same)) ∙ done.1)
 
   after_two : a ≡ done_with [] → b ≡ done_with [] → taken ≡ codes "0 0 0\n" ++ (codes "0 0 0\n" ++ (answer_bytes c ++ []))
   after_two same also = after_one same ∙ ap (λ (it : AnswerView). codes "0 0 0\n" ++ (answer_bytes it ++ (answer_bytes c ++ []))) also
       ∙ ap (λ (t : List ℕ). codes "0 0 0\n" ++ (t ++ (answer_bytes c ++ []))) empty_told
 
   third_done : a ≡ done_with [] → b ≡ done_with [] → IsDone c
-  third_done same also = done_by c [] (ap (λ (t : List ℕ). slice_index t 12) (sym (after_two same also)) ∙ done.1.1)
+  third_done same also = done_by c [] (ap (λ (t : List ℕ). slice_index t 12) (sym (after_two same also)) ∙ done.2)
 
   after_three : (docker : List ℕ) → a ≡ done_with [] → b ≡ done_with [] → c ≡ done_with docker
       → taken ≡ codes "0 0 0\n" ++ codes "0 0 0\n" ++ answer_text 0 docker
@@ -475,7 +476,7 @@ some_text one two equal = cc
 
 -- the session on the shelf
 module _ (old new : SessionHostView) (taken : List ℕ) (input : old.streams.input ≡ Some session_input) (output : old.streams.output ≡ Some [])
-    (told : new.streams.output ≡ Some taken) (done : AreDone taken) (served : IsServed desk_words true old new 0) where
+    (told : new.streams.output ≡ Some taken) (done : AreDone taken) (one_reading : HasOneReading) (served : IsServed desk_words true old new 0) where
   named : (served.name ≡ north) × (served.may_write ≡ true)
   named = named_so served.name served.may_write served.words_are.words_are
 
@@ -521,3 +522,23 @@ module _ (old new : SessionHostView) (taken : List ℕ) (input : old.streams.inp
             three.docker three.prints;
         told = three.told;
       }
+
+-- what the session leaves and answers, for a host `seen` that equals the new host
+pub served_told : (old seen new : SessionHostView) (status : ℕ) (taken : List ℕ) (folder : FolderView) (events : List Event)
+    → Serves desk_words true old new status → seen ≡ new → status ≡ 0 → old.streams.input ≡ Some session_input → old.streams.output ≡ Some []
+    → IsShelfHistory seen.history → seen.streams.output ≡ Some taken → AreDone taken → HasOneReading → folder.events ≡ seen.history → events ≡ old.history
+    → (known heard : Known) → HoldsKnown dks_2 (text_under events north) known → HoldsKnown dks_2 (text_under events south) heard
+    → IsServedNorth folder taken known heard
+served_told old seen new status taken folder events serves same none input output met told done one_reading left before known heard holds also =
+    session_leaves old seen taken input output told done one_reading
+    (subst (λ (h : SessionHostView). IsServed desk_words true old h 0) (sym same) (was_served old new status none serves)) folder left met known heard
+    (subst (λ (h : List Event). HoldsKnown dks_2 (text_under h north) known) before holds)
+    (subst (λ (h : List Event). HoldsKnown dks_2 (text_under h south) heard) before also)
+
+-- the folder didn't fail in the session
+pub served_sound : (old seen new : SessionHostView) (status : ℕ) (taken : List ℕ) → Serves desk_words true old new status → seen ≡ new → status ≡ 0
+    → old.streams.input ≡ Some session_input → old.streams.output ≡ Some [] → seen.streams.output ≡ Some taken → AreDone taken → HasOneReading
+    → old.folder_failures ≡ 0 → seen.folder_failures ≡ 0
+served_sound old seen new status taken serves same none input output told done one_reading sound =
+    session_sound old seen taken input output told done one_reading
+    (subst (λ (h : SessionHostView). IsServed desk_words true old h 0) (sym same) (was_served old new status none serves)) ∙ sound

@@ -5,6 +5,7 @@ ghost use Rattle.offices_agree.specs.DeskAndOffice.{AreDone, LearnApart, ServesN
 
 use crate::commands::{MEMORY, SCREEN, enter, shelf_of_files};
 use cif_line::{Bytes, Kept};
+use docker_desk::laws::an_input_has_one_reading;
 use docker_desk::serve;
 use docker_host::{Host, SessionHost, Shelf, Streams};
 use std::alloc::Global;
@@ -92,9 +93,10 @@ fn serve_north(alloc: Global, folder: Shelf) -> Result<Served, u8>
         faults,
     };
     let status = serve(alloc, &["--write", "north"], &mut host);
-    // This call is made only for its contract: each file held the text that was last placed under
-    // its name.
+    // These calls are made only for their contracts: each file held the text that was last placed
+    // under its name, and the input has only one division into lines.
     host.folder.tell();
+    an_input_has_one_reading();
     let SessionHost {
         streams,
         folder,
