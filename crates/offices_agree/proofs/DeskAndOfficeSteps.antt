@@ -114,12 +114,12 @@ told_docker = λ i. decimal_digit 0 (omega arith) i ++ codes " " ++ decimal_digi
 -- and `y` are the folder before and after the session
 pub both_agree : (a b c d : HostView) (x y : FolderView) (answers : List ℕ) → text_under a.history full_name ≡ Some full_text
     → text_under a.history update_name ≡ Some update_text → LearnApart a b → x.events ≡ b.history → ServesNorth x y answers
-    → c.history ≡ y.events → c.output ≡ Some [] → ShowsSouth c d
+    → c.history ≡ y.events → a.output ≡ Some [] → c.output ≡ b.output → ShowsSouth c d
     → (answers ≡ codes "0 0 0\n" ++ codes "0 0 0\n" ++ codes "0 4 228\n" ++ the_docker) × (d.output ≡ Some the_docker)
-both_agree a b c d x y answers full update learn same serves also fresh shows = (
+both_agree a b c d x y answers full update learn same serves also empty kept shows = (
   served.told ∙ ap (λ (t : List ℕ). codes "0 0 0\n" ++ codes "0 0 0\n" ++ answer_text 0 t) desk_is
       ∙ ap (λ (t : List ℕ). codes "0 0 0\n" ++ codes "0 0 0\n" ++ t) told_docker,
-  subst (λ (o : Bytes). Takes o shown.docker d.output) fresh shown.takes ∙ ap Some south_is,
+  subst (λ (o : Bytes). Takes o shown.docker d.output) (kept ∙ knows.unprinted ∙ empty) shown.takes ∙ ap Some south_is,
 )
   where
     knows : KnowApart a b full_file update_file

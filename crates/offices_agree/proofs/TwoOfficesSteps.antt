@@ -588,15 +588,6 @@ both_print a k m n p full update empty learn to_m same fresh to_p = (
     second : IsPrinted n p knows.south.known place 23537
     second = print_shows south place (codes "2024-06-10") 23537 knows.south.known n p refl refl date_is to_p.1 south_n to_p.0
 
--- the two files on a new shelf
-pub on_shelf : (events : List Event) (full update : List ℕ) → events ≡ placed full_name (Some full) ∷ placed update_name (Some update) ∷ []
-    → full ≡ full_text → update ≡ update_text
-    → (text_under events full_name ≡ Some full_text) × (text_under events update_name ≡ Some update_text)
-on_shelf events full update put one two = (
-  ap (λ (es : List Event). text_under es full_name) put ∙ ap Some one,
-  ap (λ (es : List Event). text_under es update_name) put ∙ ap Some two,
-)
-
 -- both sinks have taken the docker
 pub sinks_agree : (one two : List ℕ) (first second : Bytes) → Some one ≡ first → Some two ≡ second → (first ≡ Some the_docker) × (second ≡ Some the_docker)
     → (one ≡ two) × (one ≡ the_docker)
