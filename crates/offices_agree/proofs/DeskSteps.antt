@@ -163,7 +163,8 @@ done_by (refused_for fault) more first =
     let digit = first_digit (status_of (Office fault)) (answer_body (refused_for fault)) more few.1 in
     let never : ⊥ = omega (arith, first, digit, few.0) in
     absurd never
-done_by no_request more first = let digit = first_digit 2 (answer_body no_request) more (omega arith) in let never : ⊥ = omega (arith, first, digit) in absurd never
+done_by no_request more first =
+    let digit = first_digit 2 (answer_body no_request) more (omega arith) in let never : ⊥ = omega (arith, first, digit) in absurd never
 
 -- an answer with status 0 and no text
 pub empty_told : answer_bytes (done_with []) ≡ codes "0 0 0\n"

@@ -1,4 +1,4 @@
-use Rattle.std.proofs.Common.{rules, tests, ◌≡◌, List, ℕ, Some, refl, sym, ◌∙◌, ap, subst}
+use Rattle.std.proofs.Common.{rules, tests, Some, refl, sym, ◌∙◌, ap, subst}
 use Rattle.docker_host.specs.Streams.{StreamsView}
 use Rattle.offices_agree.specs.DeskAndOffice.{AreDone}
 use Rattle.offices_agree.proofs.DeskSteps.{served_sound, served_told}
@@ -10,7 +10,8 @@ returns-clause-serves c =
     (search (rules, tests))
     (ap (λ (streams : StreamsView). streams.input) c.new-4.ensures ∙ ap Some (c.new-3.ensures.left ∙ c.as_bytes.ensures.value))
     (ap (λ (streams : StreamsView). streams.output) c.new-4.ensures ∙ ap Some c.in-Ok-Ok.ensures.empty)
-    c.tell.ensures.texts (sym c.into_parts-answers.ensures.output) (subst AreDone c.bytes.ensures.bytes c.in_ok-all_done.ensures) c.an_input_has_one_reading.ensures refl refl
+    c.tell.ensures.texts (sym c.into_parts-answers.ensures.output)
+    (subst AreDone c.bytes.ensures.bytes c.in_ok-all_done.ensures) c.an_input_has_one_reading.ensures refl refl
 
 pub returns-clause-sound : goal.returns-clause-sound
 returns-clause-sound c =
@@ -18,4 +19,5 @@ returns-clause-sound c =
     (search (rules, tests))
     (ap (λ (streams : StreamsView). streams.input) c.new-4.ensures ∙ ap Some (c.new-3.ensures.left ∙ c.as_bytes.ensures.value))
     (ap (λ (streams : StreamsView). streams.output) c.new-4.ensures ∙ ap Some c.in-Ok-Ok.ensures.empty)
-    (sym c.into_parts-answers.ensures.output) (subst AreDone c.bytes.ensures.bytes c.in_ok-all_done.ensures) c.an_input_has_one_reading.ensures c.requires.sound
+    (sym c.into_parts-answers.ensures.output)
+    (subst AreDone c.bytes.ensures.bytes c.in_ok-all_done.ensures) c.an_input_has_one_reading.ensures c.requires.sound
