@@ -2,7 +2,6 @@
 
 Progress goes to standard error, and the report on each crate to crates/PROGRAM/out/proving/CRATE.log. Status 70 says that the program couldn't be built."""
 import contextlib
-import dataclasses
 import hashlib
 import os
 import pathlib
@@ -12,6 +11,7 @@ import signal
 import subprocess
 import sys
 import time
+import typing
 
 ROOT = pathlib.Path(__file__).resolve().parent.parent
 # How many kilobytes of memory the check of one crate may need, and each job of a check.
@@ -41,6 +41,11 @@ def say(text):
 
 def processors():
     return len(os.sched_getaffinity(0))
+
+
+def rt(word):
+    """What `rt` prints for this word."""
+    return subprocess.run(["rt", word], check=True, capture_output=True, text=True).stdout
 
 
 def free_memory():
@@ -84,9 +89,14 @@ def watched(program):
             yield ROOT / "crates" / crate
         yield from (path for folder in folders if folder.is_dir() for path in (folder, *(it for it in folder.rglob("*") if it.is_dir())))
         yield from sources(crate)
-    if rt := shutil.which("rt"):
-        kit = pathlib.Path(rt).resolve().parent
-        yield from {pathlib.Path(rt), *(it for it in (kit / "rt", kit / "rattle", kit.parent / "KIT-ID") if it.exists())}
+    if command := shutil.which("rt"):
+        kit = pathlib.Path(command).resolve().parent
+        yield from {pathlib.Path(command), *(it for it in (kit / "rt", kit / "rattle", kit.parent / "KIT-ID") if it.exists())}
+
+
+def text_of(path):
+    """The text of a file, or nothing if there is no file."""
+    return path.read_text(encoding="utf-8") if path.is_file() else ""
 
 
 def puts(path, text):
@@ -101,12 +111,7 @@ class Record:
 
     def __init__(self, program):
         self.program, self.path = program, out(program, f"{program}.built")
-        text = self.path.read_text(encoding="utf-8") if self.path.is_file() else ""
-        self.sum, self.own, self.kit = (text.split("\n", 2) + ["", "", ""])[:3]
-
-    def kit_now(self):
-        """The version of the kit. Without a kit it is the one with which the program was built."""
-        return subprocess.run(["rt", "version"], check=True, capture_output=True, text=True).stdout if shutil.which("rt") else self.kit
+        self.sum, self.own, self.kit = (text_of(self.path).split("\n", 2) + ["", "", ""])[:3]
 
     def own_now(self):
         return hashlib.sha256(out(self.program, self.program).read_bytes()).hexdigest()
@@ -125,7 +130,7 @@ class Record:
     def keeps(self, wanted, kit, began):
         """Records the program, and lists what lib/launch.sh compares with it. The program gets the time at which its sources were first read. So what changes later is
         newer than the program."""
-        names = (os.path.relpath(path, ROOT) if path.is_relative_to(ROOT) else str(path) for path in watched(self.program))
+        names = (path.relative_to(ROOT) if path.is_relative_to(ROOT) else path for path in watched(self.program))
         puts(out(self.program, f"{self.program}.sources"), "".join(f"{name}\0" for name in names))
         puts(self.path, f"{wanted}\n{self.own_now()}\n{kit}")
         os.utime(out(self.program, self.program), ns=(began, began))
@@ -146,8 +151,7 @@ def checksums(kit, cites):
 # ---- The checks
 
 
-@dataclasses.dataclass
-class Check:
+class Check(typing.NamedTuple):
     """A check that is running: its crate, its lane, its process, and when it began."""
 
     crate: str
@@ -164,18 +168,13 @@ class Proving:
         self.program, self.logs, self.began = program, out(program, "proving"), time.monotonic()
         self.lanes, self.running, self.proved_in = [ROOT], [], {}
         self.cites, self.sums = plan(program), sums
-        self.proved = {crate for crate in self.cites if self.was_proved(crate)}
+        # What an earlier launch has proved as it is now.
+        self.proved = {crate for crate in self.cites if text_of(out(crate, "proved")).strip() == sums[crate]}
         self.waiting = [crate for crate in self.cites if crate not in self.proved]
-
-    def was_proved(self, crate):
-        """Whether an earlier launch has proved this crate as it is now."""
-        kept = out(crate, "proved")
-        return kept.is_file() and kept.read_text(encoding="utf-8").strip() == self.sums[crate]
 
     def shares_work(self):
         """Whether a check in a copy begins with what checks in the checkout have proved. `rt` shares this work among the copies through a folder next to the kit."""
-        page = subprocess.run(["rt", "doc"], check=True, capture_output=True, text=True).stdout.strip()
-        shared = pathlib.Path(page).parent.parent / "rattle-kept"
+        shared = pathlib.Path(rt("doc").strip()).parent.parent / "rattle-kept"
         try:
             shared.mkdir(mode=0o700, exist_ok=True)
             return shared.stat().st_uid == os.getuid()
@@ -212,11 +211,6 @@ class Proving:
             process = subprocess.Popen(["rt", *words], cwd=self.lanes[lane] / "crates" / crate, stdin=given, stdout=log, stderr=subprocess.STDOUT, start_new_session=True)
         self.running.append(Check(crate, lane, process, time.monotonic()))
 
-    def has_memory(self):
-        """Whether there is memory for one more check."""
-        young = sum(time.monotonic() - it.began < YOUNG for it in self.running)
-        return free_memory() >= (1 + young) * MEMORY_OF_A_CHECK
-
     def next_crate(self):
         """The first crate that waits for no other crate."""
         return next((crate for crate in self.waiting if self.proved.issuperset(self.cites[crate])), None)
@@ -231,8 +225,8 @@ class Proving:
     def begins_more(self):
         """Starts checks until the lanes are full, memory is short or no crate can start. If no check is running, it starts one in any case."""
         while free := sorted(set(range(len(self.lanes))) - {it.lane for it in self.running}):
-            crate = self.next_crate()
-            if crate is None or self.running and not self.has_memory():
+            crate, young = self.next_crate(), sum(time.monotonic() - it.began < YOUNG for it in self.running)
+            if crate is None or self.running and free_memory() < (1 + young) * MEMORY_OF_A_CHECK:
                 return
             self.waiting.remove(crate)
             words = [] if self.running or self.next_crate() else self.words_for(crate)
@@ -249,10 +243,6 @@ class Proving:
             time.sleep(0.02)
         return None
 
-    def so_far(self):
-        seconds = int(time.monotonic() - self.began)
-        return f"{seconds} s" if seconds < 60 else f"{seconds // 60} min"
-
     def proves(self):
         """Proves the crates. A crate starts when the crates that it cites are proved. After a failure no other crate starts, and the running checks are completed."""
         self.makes_lanes()
@@ -267,7 +257,9 @@ class Proving:
                 continue
             if it.process.returncode == 0:
                 self.keeps(it)
-                say(f"{it.crate} is proved ({len(self.proved)} of {total}, {time.monotonic() - it.began:.0f} s; {self.so_far()} so far)")
+                now = time.monotonic()
+                so_far = f"{now - self.began:.0f} s" if now - self.began < 60 else f"{(now - self.began) // 60:.0f} min"
+                say(f"{it.crate} is proved ({len(self.proved)} of {total}, {now - it.began:.0f} s; {so_far} so far)")
                 continue
             is_failed = True
             say(f"{it.crate} isn't proved: see {self.logs}/{it.crate}.log")
@@ -286,10 +278,12 @@ class Proving:
         out(check.crate, "proved").write_text(self.sums[check.crate] + "\n", encoding="utf-8")
 
     def generates(self):
-        """Generates machine code, by a first run of the program."""
-        given = ROOT / "crates" / self.program / "stdin"
+        """Generates machine code, by a first run of the program with the words in its `args`. A word that names a file in its `data` becomes its path."""
+        folder = ROOT / "crates" / self.program
+        given = folder / "stdin"
+        words = [f"data/{word}" if (folder / "data" / word).is_file() else word for word in map(str.strip, text_of(folder / "args").splitlines())]
         with open(given if given.is_file() else os.devnull, "rb") as text:
-            self.begins(self.program, 0, "run", "--", *first_words(self.program), given=text)
+            self.begins(self.program, 0, "run", "--", *words, given=text)
         if self.running.pop().process.wait():
             raise NotBuilt(f"the program isn't built: see {self.logs}/{self.program}.log")
 
@@ -301,13 +295,6 @@ class Proving:
             it.process.wait()
         self.removes_copies()
         say("stopped; what is proved is kept")
-
-
-def first_words(program):
-    """The words for a program's first run, from its `args`. A word that names a file in its `data` becomes that file's path."""
-    folder = ROOT / "crates" / program
-    lines = (folder / "args").read_text(encoding="utf-8").splitlines() if (folder / "args").is_file() else []
-    return [f"data/{word}" if (folder / "data" / word).is_file() else word for word in map(str.strip, lines)]
 
 
 def raises(number, _):
@@ -349,7 +336,8 @@ def time_now(program):
 def main():
     program = sys.argv[1]
     record, began = Record(program), time_now(program)
-    kit = record.kit_now()
+    # Without a kit, its version is the one with which the program was built.
+    kit = rt("version") if shutil.which("rt") else record.kit
     sums = checksums(kit, plan(program))
     try:
         if not record.is_built(sums[program]):

@@ -68,13 +68,7 @@ def called(item):
 @functools.cache
 def reached(item):
     """An item, what it may call, what these may call, and so on."""
-    seen, left = set(), [item]
-    while left:
-        it = left.pop()
-        if it not in seen:
-            seen.add(it)
-            left += called(it)
-    return frozenset(seen)
+    return frozenset(sources.closure([item], called))
 
 
 def named(file, name):

@@ -14,6 +14,8 @@ DETAILED = "crates/docker_model/specs/docker/DetailedText.antt"
 SCREEN = "office/screen/lines.py"
 READER = "office/dockers.py"
 NAMES = "office/screen/names.py"
+# A column in a cell: `what 1-7, what 9 (when), ..`.
+COLUMN = re.compile(r"([^,()]+?) (\d+)(?:-(\d+))?(?: \([^)]*\))?(?:, |$)")
 # Each piece of a definition, with its name in FORMATS.md.
 PIECES = {
     "place": "TIPLOC", "day_text day": "date `YYYY-MM-DD`", "description_in (live (tiploc_key place))": "description of the TIPLOC",
@@ -45,15 +47,10 @@ TABLES = {
 TAKEN = {(READER, "HEADING"): {"description of the TIPLOC"}}
 
 
-def columns_of(cell):
-    """The columns in a cell: `what 1-7, what 9 (when), ..`."""
-    found = re.findall(r"([^,()]+?) (\d+)(?:-(\d+))?(?: \([^)]*\))?(?:, |$)", cell)
-    return {what: (int(first), int(last or first)) for what, first, last in found}
-
-
 def tables():
     """The columns of each kind of line, from the tables in FORMATS.md."""
-    found = {kind: columns_of(columns) for kind, columns in table(section(FORMATS, "A docker"), "Line", "Columns")}
+    listed = {kind: COLUMN.findall(cell) for kind, cell in table(section(FORMATS, "A docker"), "Line", "Columns")}
+    found = {kind: {what: (int(first), int(last or first)) for what, first, last in columns} for kind, columns in listed.items()}
     for kind, heading in (("file", "What `files` writes"), ("place", "What `places` writes"), ("detail", "What `detail` and `permanent-detail` write")):
         rows = table(section(FORMATS, heading), "Columns", "")
         found[kind] = {re.split(r",| have ", what)[0]: tuple(int(it) for it in (place.split("-") * 2)[:2]) for place, what in rows}
@@ -90,8 +87,8 @@ def unlike_readers(found):
     told = {}
     for name in {name for name, _ in TABLES}:
         for node in ast.parse(text(name)).body:
-            if isinstance(node, ast.Assign) and (name, ast.unparse(node.targets[0])) in TABLES:
-                told[name, ast.unparse(node.targets[0])] = ast.literal_eval(node.value)
+            if isinstance(node, ast.Assign) and (reader := (name, ast.unparse(node.targets[0]))) in TABLES:
+                told[reader] = ast.literal_eval(node.value)
     for reader, kind in TABLES.items():
         wanted = {what.split(" `")[0]: place for what, place in found[kind].items() if not what.startswith("`")}
         wanted = {what: place for what, place in wanted.items() if what in TAKEN.get(reader, wanted)}

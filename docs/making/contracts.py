@@ -26,14 +26,10 @@ def begin_of(function):
     return sum(len(line) + 1 for line in read(ROOT / function.place.file).split("\n")[: function.place.line - 1])
 
 
-def has_clauses(function):
-    return bool(re.search(r"^\s+(?:requires|ensures)\b", function.contract, re.M))
-
-
 def rows_of(crate, path, functions):
     """The rows of a source: its file, its functions, and the implementations that promise the clauses of a trait."""
     names, _ = sources.exported(crate)
-    own = [it for it in functions if it.is_public or it.owner[1] and it.owner[0] in names and has_clauses(it)]
+    own = [it for it in functions if it.is_public or it.owner[1] and it.owner[0] in names and re.search(r"^\s+(?:requires|ensures)\b", it.contract, re.M)]
     rows = [(f"`{it.path()}`", sources.first_sentence(comment_above(read(path), begin_of(it)))) for it in own]
     shown, others = {it.owner for it in own}, []
     for it in IMPL.finditer(read(path)):

@@ -11,12 +11,6 @@ MODEL = "docker_model"
 LAW = re.compile(r"pub fn (\w+)\(\)")
 
 
-def first_of(path):
-    """The first sentence at the head of a file."""
-    lines = itertools.takewhile(lambda line: line.startswith("--"), read(path).split("\n"))
-    return first_sentence(" ".join(line[2:].strip() for line in lines))
-
-
 def file_row(path, folder, about):
     """The row of a file, with a link. The rows of its names follow."""
     return f"| [{path.relative_to(folder).with_suffix('')}](../{path.relative_to(ROOT)}) | {about} |"
@@ -31,13 +25,9 @@ def rows(crate, found):
     folder = ROOT / "crates" / crate / "specs"
     of = [it for it in found if it.crate == crate]
     for path in dict.fromkeys(it.file for it in of):
-        yield file_row(path, folder, first_of(path))
+        head = itertools.takewhile(lambda line: line.startswith("--"), read(path).split("\n"))
+        yield file_row(path, folder, first_sentence(" ".join(line[2:].strip() for line in head)))
         yield from (f"| `{it.name}` | {first_sentence(it.meaning)} |" for it in of if it.file == path)
-
-
-def model():
-    return ["## The definitions of `docker_model`", "", "The definitions are in folders. A definition cites only definitions in its own folder and in the folders listed before that folder.", "",
-            *table("Name", rows(MODEL, sources.definitions()))]
 
 
 def laws():
@@ -51,14 +41,12 @@ def laws():
     return page
 
 
-def without_words():
-    """The definitions that RULES.md or a public clause cites, and that no line explains where they stand."""
+def made():
+    # The definitions that RULES.md or a public clause cites have to have a meaning.
     calls = (it for it in sources.functions() if it.is_public and not sources.is_for_tests(it.crate))
     found = sources.in_rules().union(*(sources.cited_by(it) for it in calls))
-    return sorted(f"{it.place.file}:{it.place.line}: no line above {it.name} says what it means" for it in found if not it.meaning)
-
-
-def made():
-    if bare := without_words():
+    if bare := sorted(f"{it.place.file}:{it.place.line}: no line above {it.name} says what it means" for it in found if not it.meaning):
         raise Fault("\n".join(bare))
-    return sources.after_mark(PAGE, sources.by_hand(PAGE), [*model(), *laws()])
+    about = "The definitions are in folders. A definition cites only definitions in its own folder and in the folders listed before that folder."
+    model = ["## The definitions of `docker_model`", "", about, "", *table("Name", rows(MODEL, sources.definitions()))]
+    return sources.after_mark(PAGE, sources.by_hand(PAGE), [*model, *laws()])

@@ -29,19 +29,6 @@ def kind(crate):
     return "programs" if (ROOT / "crates" / crate / "src" / "main.rt").is_file() else "code"
 
 
-def described():
-    """The graph in the language of `dot`, with a line of boxes that explain the colours."""
-    lines = [f'"{name}" [fillcolor="{colour}", color=white]' for name, colour in KINDS.items()]
-    for crate, cited in crates().items():
-        lines.append(f'{crate} [fillcolor="{KINDS[kind(crate)]}"]')
-        lines += [f"{crate} -> {it}" for it in cited if it in crates()]
-    return HEAD + "\n".join(lines) + "\n}\n"
-
-
-def run(*words, given):
-    return subprocess.run(words, input=given, check=True, capture_output=True, text=True).stdout
-
-
 def titles(svg):
     """The crates and lines of a picture."""
     return set(html.unescape(it) for it in re.findall(r"<title>(.*?)</title>", svg))
@@ -51,6 +38,11 @@ def made():
     if not (shutil.which("tred") and shutil.which("dot")):
         print("docs/crates.svg stays as it is: the package graphviz isn't installed", file=sys.stderr)
         return {}
-    drawn = run("dot", "-Tsvg", given=run("tred", given=described()))
+    # The graph in the language of `dot`, with a line of boxes that explain the colours.
+    lines = [f'"{name}" [fillcolor="{colour}", color=white]' for name, colour in KINDS.items()]
+    for crate, cited in crates().items():
+        lines += [f'{crate} [fillcolor="{KINDS[kind(crate)]}"]', *(f"{crate} -> {it}" for it in cited if it in crates())]
+    described = HEAD + "\n".join(lines) + "\n}\n"
+    drawn = subprocess.run(["bash", "-o", "pipefail", "-c", "tred | dot -Tsvg"], input=described, check=True, capture_output=True, text=True).stdout
     kept = read(PAGE) if PAGE.is_file() else ""
     return {PAGE: kept if titles(kept) == titles(drawn) else drawn}

@@ -30,8 +30,12 @@ CALLED = {
     "the section *The package* describes": "SERVICES describes",
     "*The requests of a desk* in FORMATS": "REQUESTS",
 }
-SESSION = """At a terminal, after the examples in the page of `docker`. What is typed is in bold. Of the lines of `train` only the first 71 columns are
-shown:"""
+# What requests write that the page of desk describes, each with its section in FORMATS.md.
+PRINTED = (
+    (r"What \fBtrain\fR writes", "The schedule of a UID on a day"),
+    (r"What \fBdetail\fR and \fBpermanent\-detail\fR write", "What `detail` and `permanent-detail` write"),
+)
+ESCAPES = str.maketrans({"\\": r"\e", "-": r"\-", "~": r"\(ti", "^": r"\(ha"})
 
 
 # Reads the pages.
@@ -58,9 +62,7 @@ def as_in_code(page, listed, source, wanted):
 
 
 def escaped(text):
-    for character, name in (("\\", r"\e"), ("-", r"\-"), ("~", r"\(ti"), ("^", r"\(ha")):
-        text = text.replace(character, name)
-    return text
+    return text.translate(ESCAPES)
 
 
 def bold(code):
@@ -157,17 +159,22 @@ def examples():
     return text
 
 
+def printed(title, heading):
+    """What FORMATS.md says of a printed text. The columns of its lines, or of each kind of line, come after the first paragraph."""
+    about, columns = section(FORMATS, heading), ""
+    if "\n| Line |" in about:
+        columns = "".join(f".PP\n{line[0].upper()}{line[1:]}:\n.RS 2\n{listed(columns_of(cell))}.RE\n" for line, cell in table(about, "Line", "Columns"))
+    elif "\n| Columns |" in about:
+        columns = f".RS 2\n{listed(table(about, 'Columns', ''))}.RE\n"
+    first, *others = paragraphs(about)
+    return f".SS {title}\n{lines_of(first)}{columns}{prose(*others)}"
+
+
 def output():
-    """The printed lines, column by column."""
-    docker, files = section(FORMATS, "A docker"), section(FORMATS, "What `files` writes")
-    text = ".SS A docker\n" + lines_of(paragraphs(docker)[0])
-    for line, columns in table(docker, "Line", "Columns"):
-        text += f".PP\n{line[0].upper()}{line[1:]}:\n.RS 2\n{listed(columns_of(columns))}.RE\n"
-    text += prose(*paragraphs(docker)[1:])
-    text += ".SS The list of files\n" + lines_of(paragraphs(files)[0]) + ".RS 2\n" + listed(table(files, "Columns", "")) + ".RE\n"
+    """The printed lines, column by column, and the gaps in a list of files."""
     gaps = section(MANUAL, "Gaps between files")
-    text += prose(*paragraphs(gaps)) + verbatim(codes(gaps)[0])
-    return text + ".SS The line of \\fBcheck\\fR\n" + lines_of(paragraphs(section(FORMATS, "What `check` writes"))[0])
+    files = printed("The list of files", "What `files` writes") + prose(*paragraphs(gaps)) + verbatim(codes(gaps)[0])
+    return printed("A docker", "A docker") + files + printed(r"The line of \fBcheck\fR", "What `check` writes")
 
 
 def cause(fault):
@@ -212,11 +219,6 @@ def exit_statuses(text):
     return "".join(item(rf"\fB{status}\fR", f"{sentence(means)} On standard error: {line}.") for status, means, line in rows if status != "70")
 
 
-def limits():
-    """What isn't read, and what commands cost."""
-    return prose(*paragraphs(section(MANUAL, "What it doesn't read, and what it costs")))
-
-
 def docker():
     commands, undone = section(MANUAL, "The commands"), section(MANUAL, "What can't be undone")
     about = paragraphs(read("README.md"))[0]
@@ -237,7 +239,7 @@ def docker():
         ("FILES", item(r"\fISTATE\fR", " ".join(paragraphs(section(MANUAL, "How STATE is written")))) + item(r"\fISTATE\fB.new\fR", marked(FORMATS, "draft"))),
         ("EXIT STATUS", exit_statuses(commands)),
         ("DIAGNOSTICS", faults()),
-        ("LIMITS", limits()),
+        ("LIMITS", prose(*paragraphs(section(MANUAL, "What it doesn't read, and what it costs")))),
         ("CAVEATS", prose(*caveats) + verbatim(codes(undone)[0]) + prose(guard)),
         ("SEE ALSO", ".BR \\*[program]\\-desk (1),\n.BR station\\-office (1),\n.BR flock (1)\n" + prose(marked(MANUAL, "formats"))),
     )
@@ -269,44 +271,23 @@ def session():
         end = at + 2 + int(lines[at + 1].split()[1])
         shown += (line[:71] for line in lines[at:end])
         at = end
-    return verbatim(shown, typed)
-
-
-def train_output():
-    """The output of `train`, column by column."""
-    train = section(FORMATS, "The schedule of a UID on a day")
-    text = lines_of("OUTPUT in the page of `docker` has what `print` and `files` write.") + ".SS What \\fBtrain\\fR writes\n" + lines_of(paragraphs(train)[0])
-    for line, columns in table(train, "Line", "Columns"):
-        text += f".PP\n{line[0].upper()}{line[1:]}:\n.RS 2\n{listed(columns_of(columns))}.RE\n"
-    return text + prose(*paragraphs(train)[1:]) + detail_output()
-
-
-def detail_output():
-    """The output of `detail` and `permanent-detail`, column by column."""
-    detail = section(FORMATS, "What `detail` and `permanent-detail` write")
-    text = ".SS What \\fBdetail\\fR and \\fBpermanent\\-detail\\fR write\n" + lines_of(paragraphs(detail)[0])
-    return text + ".RS 2\n" + listed(table(detail, "Columns", "")) + ".RE\n" + prose(*paragraphs(detail)[1:])
-
-
-def desk_answers():
-    """The description of an answer. The last sentence is followed by the usage line."""
-    *before, last = paragraphs(section(FORMATS, "The answers of a desk"))
-    return [*before, f"{last} the usage line."]
+    before = "At a terminal, after the examples in the page of `docker`. What is typed is in bold. Of the lines of `train` only the first 71 columns are shown:"
+    return prose(before) + verbatim(shown, typed)
 
 
 def desk():
-    ends = section(MANUAL, "How it ends", "###")
+    *answers, last = paragraphs(section(FORMATS, "The answers of a desk"))
     return page(
         *("docker-desk", "station dockers of one state, a request a line", "MANUAL.md, FORMATS.md, examples/office and office/causes"),
         ("SYNOPSIS", "\n.br\n".join(rf"\fB\*[program]\-desk\fR {given}" for given in (r"\fB[\-\-write]\fR \fISTATE\fR", r"\fB\-\-help\fR", r"\fB\-\-version\fR")) + "\n"),
         ("DESCRIPTION", prose(*part("What it is"))),
         ("REQUESTS", requests()),
-        ("ANSWERS", prose(*desk_answers(), part("How it ends")[0])),
-        ("OUTPUT", train_output()),
-        ("EXAMPLES", prose(SESSION) + session() + prose(*part("Many dockers from one process")) + verbatim(codes(section(MANUAL, "Many dockers from one process", "###"))[0])),
+        ("ANSWERS", prose(*answers, f"{last} the usage line.", part("How it ends")[0])),
+        ("OUTPUT", lines_of("OUTPUT in the page of `docker` has what `print` and `files` write.") + "".join(printed(*it) for it in PRINTED)),
+        ("EXAMPLES", session() + prose(*part("Many dockers from one process")) + verbatim(codes(section(MANUAL, "Many dockers from one process", "###"))[0])),
         ("SAVING", prose(*part("Saving"))),
         ("FILES", item(r"\fISTATE\fR", part("Its files")[1]) + item(r"\fISTATE\fB.new\fR", marked(FORMATS, "draft"))),
-        ("EXIT STATUS", exit_statuses(ends) + prose(part("How it ends")[-1])),
+        ("EXIT STATUS", exit_statuses(section(MANUAL, "How it ends", "###")) + prose(part("How it ends")[-1])),
         ("SEE ALSO", ".BR \\*[program] (1),\n.BR station\\-office (1)\n" + prose(marked(MANUAL, "formats"))),
     )
 

@@ -28,11 +28,6 @@ def marked(name, mark):
     return "\n\n".join(found)
 
 
-def unmarked(it):
-    """A text without its marks."""
-    return re.sub(r"<!--.*?-->\n?", "", it)
-
-
 def cells(line):
     return [cell.strip() for cell in re.split(r"(?<!\\)\|", line.removeprefix("|").removesuffix("|"))]
 
@@ -50,8 +45,8 @@ def table(page, *columns):
 
 
 def paragraphs(page):
-    """The paragraphs of prose, without tables, lists, code and quotations."""
-    plain = re.sub(r"^```.*?^```$", "\n", unmarked(page), flags=re.M | re.S)
+    """The paragraphs of prose, without marks, tables, lists, code and quotations."""
+    plain = re.sub(r"^```.*?^```$", "\n", re.sub(r"<!--.*?-->\n?", "", page), flags=re.M | re.S)
     return [" ".join(found.split()) for found in re.split(r"\n{2,}", plain) if found.strip() and found.strip()[0] not in "|>#-"]
 
 

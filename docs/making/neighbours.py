@@ -22,22 +22,14 @@ def neighbours(crate, cited, contracts):
     return "\n".join([HEADING, "", *lines, ""])
 
 
-def first_sentence(text):
-    """The first sentence of a README, after its title, as a cell of a table."""
-    return text.split("\n\n")[1].split(". ")[0].rstrip(".\n")
-
-
-def with_table(readmes):
-    """ARCHITECTURE.md with a table of crates made from the READMEs."""
-    after = read(PAGE).partition(MARK)[2].lstrip().split("\n\n", 1)[1]
-    rows = "".join(f"| [`{crate}`](../crates/{crate}/README.md) | {first_sentence(text)} |\n" for crate, text in readmes.items())
-    return f"{by_hand(PAGE, MARK)}{MARK}\n| Crate | What it is |\n|---|---|\n{rows}\n{after}"
-
-
 def made():
-    readmes, contracts = {}, read(DOCS / "CONTRACTS.md").splitlines()
+    readmes, rows, contracts = {}, "", read(DOCS / "CONTRACTS.md").splitlines()
     for crate in crates():
         page = ROOT / "crates" / crate / "README.md"
         text = read(page) if page.is_file() else f"# `{crate}`\n"
-        readmes[crate] = f"{text.split(HEADING)[0].rstrip()}\n\n{neighbours(crate, crates(), contracts)}"
-    return {ROOT / "crates" / crate / "README.md": text for crate, text in readmes.items()} | {PAGE: with_table(readmes)}
+        readmes[page] = f"{text.split(HEADING)[0].rstrip()}\n\n{neighbours(crate, crates(), contracts)}"
+        # The first sentence of the README, after its title.
+        sentence = readmes[page].split("\n\n")[1].split(". ")[0].rstrip(".\n")
+        rows += f"| [`{crate}`](../crates/{crate}/README.md) | {sentence} |\n"
+    after = read(PAGE).partition(MARK)[2].lstrip().split("\n\n", 1)[1]
+    return readmes | {PAGE: f"{by_hand(PAGE, MARK)}{MARK}\n| Crate | What it is |\n|---|---|\n{rows}\n{after}"}

@@ -28,10 +28,7 @@ def whole(found):
 
 def clauses(found):
     """The head of a function with its clauses."""
-    lines = textwrap.dedent(found.contract).rstrip().split("\n")
-    if lines[-1] == "{}":
-        lines.pop()
-    return "\n".join(lines).rstrip(";").removesuffix("{}").removesuffix(" {").rstrip()
+    return textwrap.dedent(found.contract).rstrip().rstrip(";").removesuffix("{}").removesuffix(" {").rstrip()
 
 
 def quotation(it):

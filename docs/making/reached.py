@@ -30,19 +30,9 @@ def names_in(path):
     return sources.constructors_in(path) | sources.defined_in(path) | names, files
 
 
-def reached(found):
-    """These definitions, the definitions that they cite, those that these cite, and so on."""
-    seen, left = set(), list(found)
-    while left:
-        definition = left.pop()
-        if definition and definition not in seen:
-            seen.add(definition)
-            left += sources.cited_in(text_of(definition), *names_in(definition.file))
-    return seen
-
-
 def lost():
     """A line for each definition on which no promise rests."""
-    found = reached(sources.in_rules().union(*(sources.cited_by(it) for it in sources.functions() if is_promise(it))))
+    promised = sources.in_rules().union(*(sources.cited_by(it) for it in sources.functions() if is_promise(it)))
+    found = sources.closure(promised, lambda it: filter(None, sources.cited_in(text_of(it), *names_in(it.file))))
     left = (it for it in sources.definitions() if it.crate == MODEL and it not in found)
     return [f"{it.place.file}:{it.place.line}: no rule and no public clause rests on {it.name}" for it in left]

@@ -9,16 +9,12 @@ import functools
 import re
 
 from making import calls, sources
-from making.sources import DOCS, ROOT, Fault, at, read
+from making.sources import DOCS, ROOT, Fault, at, names, read
 
 PAGE = DOCS / "RULES.md"
 HEAD = ("Rule", "Definition", "Promised by", "Code", "Test", "Wrong body")
 TYPE = re.compile(r"^ *pub(?:\(\w+\))? (?:struct|enum|trait) (\w+)", re.M)
 IMPL = re.compile(r"^impl(?:<[^{]*?>)? (\w+)(?:<[^{]*?>)? for (?:\w+::)*(\w+)", re.M)
-
-
-def names(cell):
-    return re.findall(r"`([^`]+)`", cell)
 
 
 # ---- The index of names
@@ -51,32 +47,27 @@ def known():
                     if pattern is TYPE:
                         add("definition", crate, it.group(1), place)
         for edit in sorted((ROOT / "crates" / crate / "must-fail").glob("*.edit")):
-            add_bodies(crate, edit, lambda name, place: add("wrong body", crate, name, place))
+            begins = [(line[2:], number) for number, line in enumerate(read(edit).splitlines(), 1) if line.startswith("# ")]
+            for name, number in begins or [(edit.stem, 1)]:
+                add("wrong body", crate, name, at(edit, number))
     return found
 
 
-def add_bodies(crate, edit, add):
-    """The wrong bodies in a file, each with the line at which it begins."""
-    lines = read(edit).splitlines()
-    begins = [number for number, line in enumerate(lines, 1) if line.startswith("# ")]
-    for number in begins:
-        add(lines[number - 1][2:], at(edit, number))
-    if not begins:
-        add(edit.stem, at(edit, 1))
+def places(kind, name):
+    """The places to which a name may lead. A definition is preferred to a type with its name, and a public call to a private one."""
+    found = known()[kind].get(name, [])
+    if kind == "definition":
+        return [it for it in found if it.file.endswith(".antt")] or found
+    return [it for it in found if kind == "call" and getattr(it, "is_public", True)] or found
 
 
 def one(kind, name, row, links):
-    """The place to which a name leads. A definition is preferred to a type with its name, and a public call to a private one."""
-    found = known()[kind].get(name, [])
-    if kind == "definition":
-        found = [it for it in found if it.file.endswith(".antt")] or found
-    if kind == "call":
-        found = [it for it in found if getattr(it, "is_public", True)] or found
-    if len(found) != 1:
-        why = f"{len(found)} of the name" if found else "none of the name"
-        links.faults.append(f"{row}: {kind} `{name}`: there are {why}" if found else f"{row}: no {kind} `{name}`")
-        return None
-    return found[0]
+    """The only place to which a name leads."""
+    found = places(kind, name)
+    if len(found) == 1:
+        return found[0]
+    links.faults.append(f"{row}: {kind} `{name}`: there are {len(found) or 'none'} of the name")
+    return None
 
 
 def file_of(found):
@@ -109,11 +100,6 @@ class Links:
             raise Fault("\n".join(f"docs/{page.name}: {it}" for it in dict.fromkeys(self.faults)))
 
 
-def plain(cell):
-    """A cell without its links."""
-    return re.sub(r"\[([^\]]+)\](?:\[[^\]]+\]|\([^)]+\))?", r"\1", cell)
-
-
 def linked(cell, kind, row, links):
     """A cell with a link for each name."""
     def link(found):
@@ -137,29 +123,21 @@ def words_of(name):
     return re.findall("[a-z0-9]+", name.lower().replace("'", ""))
 
 
-def functions_of(path):
-    """The tests in a file, each by the words of its name."""
-    for it in re.finditer(r"^def test_(\w+)\(", read(path), re.M):
-        yield words_of(it.group(1).replace("_", " ")), it.start()
-
-
-def cases_named(path, name):
-    """The place of the test or the table row with this name in a file. A row may follow its test and a colon."""
+def count_of(path, name):
+    """How many tests or table rows of a file have this name. A row may follow its test and a colon."""
     test, _, row = name.partition(": ")
-    tests = [begin for words, begin in functions_of(path) if words == words_of(name)]
-    if tests or row and words_of(test) not in [words for words, _ in functions_of(path)]:
-        return tests
-    return [it.start() for it in re.finditer(re.escape(f'"{row or name}"'), read(path))]
+    functions = [words_of(it) for it in re.findall(r"^def test_(\w+)\(", read(path), re.M)]
+    count = functions.count(words_of(name))
+    return count if count or row and words_of(test) not in functions else read(path).count(f'"{row or name}"')
 
 
 def case_of(folder, name, row, links):
     """The link to a case in a folder."""
-    paths = sorted((ROOT / folder).rglob("test_*.py"))
-    found = [(path, begin) for path in paths for begin in cases_named(path, name)]
+    found = [path for path in sorted((ROOT / folder).rglob("test_*.py")) for _ in range(count_of(path, name))]
     if len(found) != 1:
         links.faults.append(f"{row}: {len(found)} cases *{name}* in `{folder}`")
         return f"*{name}*"
-    return f"[*{name}*](../{found[0][0].relative_to(ROOT)})"
+    return f"[*{name}*](../{found[0].relative_to(ROOT)})"
 
 
 def promises(cell, row, links):
@@ -206,12 +184,12 @@ def code(cell, bodies, row, links):
 
 
 def linked_row(cells, links):
-    """A row with its links."""
+    """A row with its links. The links that it already has are left out."""
     row = cells[0]
     if len(cells) != len(HEAD):
         links.faults.append(f"{row}: {len(cells)} columns")
         return cells
-    _, definition, promised, files, test, wrong = (plain(it) for it in cells)
+    _, definition, promised, files, test, wrong = (re.sub(r"\[([^\]]+)\](?:\[[^\]]+\]|\([^)]+\))?", r"\1", it) for it in cells)
     where = [one("wrong body", name, row, links) for name in names(wrong)]
     bodies = [body_at(it) for it in where if it]
     return [row, linked(definition, "definition", row, links), promises(promised, row, links), code(files, bodies, row, links),

@@ -1,12 +1,12 @@
 """Finds the pages, and where the definitions, the functions with their clauses, and the wrong bodies of the crates are."""
 import collections
-import dataclasses
 import functools
 import importlib.machinery
 import importlib.util
 import pathlib
 import re
 import sys
+import typing
 
 ROOT = pathlib.Path(__file__).resolve().parent.parent.parent
 DOCS = ROOT / "docs"
@@ -19,16 +19,14 @@ USE = re.compile(r"^\s*(?:pub )?(?:ghost )?use Rattle\.(\w+)\.specs\.([\w.]+?)(?
 WORD = re.compile(r"[^\s(){}\[\],;→λ×⊎¬]+")
 
 
-@dataclasses.dataclass(frozen=True)
-class Place:
+class Place(typing.NamedTuple):
     """A line of a file."""
 
     file: str
     line: int
 
 
-@dataclasses.dataclass(frozen=True)
-class Definition:
+class Definition(typing.NamedTuple):
     """A definition of `specs/`, with the comment above it."""
 
     crate: str
@@ -38,8 +36,7 @@ class Definition:
     meaning: str
 
 
-@dataclasses.dataclass(frozen=True)
-class Function:
+class Function(typing.NamedTuple):
     """A function: its module, its type and trait, and its contract."""
 
     crate: str
@@ -57,8 +54,7 @@ class Function:
 
     def clauses(self):
         """The place of each clause that has a name."""
-        lines = enumerate(self.contract.split("\n"), self.place.line)
-        found = ((CLAUSE.match(line), number) for number, line in lines)
+        found = ((CLAUSE.match(line), number) for number, line in enumerate(self.contract.split("\n"), self.place.line))
         return {it.group(1): Place(self.place.file, number) for it, number in found if it}
 
 
@@ -73,6 +69,12 @@ def read(path):
 
 def at(path, line):
     return Place(str(path.relative_to(ROOT)), line)
+
+
+def names(text):
+    """The texts between backquotes, outside blocks of code. A text between double backquotes may have single ones."""
+    plain = re.sub(r"^```.*?^```$", "", text, flags=re.M | re.S)
+    return re.findall(r"`([^`]+)`", re.sub(r"``.*?``", "", plain, flags=re.S))
 
 
 def by_hand(path, mark=MARK):
@@ -113,6 +115,17 @@ def bodies():
 def wrong_bodies(crate):
     """The wrong bodies of a crate, by their file and name."""
     return bodies().bodies_of(crate)
+
+
+def closure(found, next_of):
+    """These things, those to which each of them leads, and so on."""
+    seen, left = set(), list(found)
+    while left:
+        it = left.pop()
+        if it not in seen:
+            seen.add(it)
+            left += next_of(it)
+    return seen
 
 
 # ---- Definitions
@@ -174,15 +187,10 @@ def by_name():
     return found
 
 
-def named(name):
-    """The definitions of a name, which may be `crate::name`."""
-    return by_name().get(name, [])
-
-
 def in_rules():
     """The definitions that rows of RULES.md cite."""
-    rows = (line.split(" | ") for line in read(ROOT / "docs" / "RULES.md").splitlines() if line.startswith("| "))
-    return {it for row in rows if len(row) > 1 for name in re.findall(r"`([^`]+)`", row[1]) for it in named(name)}
+    rows = (line.split(" | ") for line in read(DOCS / "RULES.md").splitlines() if line.startswith("| "))
+    return {it for row in rows if len(row) > 1 for name in names(row[1]) for it in by_name().get(name, ())}
 
 
 @functools.cache
@@ -203,16 +211,11 @@ def constructors_in(path):
     return found
 
 
-def file_of(crate, module):
-    """The file of definitions that `Rattle.crate.specs.module` leads to."""
-    return ROOT / "crates" / crate / "specs" / (module.replace(".", "/") + ".antt")
-
-
 def taken(text):
     """What a text imports by its `use` lines: names with their definitions, and names of files with the definitions in them."""
     names, files = {}, {}
     for crate, module, listed, other in USE.findall(text):
-        path = file_of(crate, module)
+        path = ROOT / "crates" / crate / "specs" / f"{module.replace('.', '/')}.antt"
         known = constructors_in(path) | defined_in(path)
         for word in filter(None, map(str.strip, listed.split(","))):
             name, _, own = word.partition(" as ")
@@ -241,21 +244,14 @@ def cited_in(text, names, files):
 def contract_of(text, begin):
     """A function's head with its clauses: everything before its body."""
     lines, has_clause = [], False
-    indent = re.match(" *", text[begin:]).group()
     for line in text[begin:].split("\n"):
-        if line == indent + "{":
+        if line.strip() == "{":
             break
         lines.append(line)
         has_clause = has_clause or bool(re.match(r"\s+(?:requires|ensures)\b", line))
         if line.endswith((";", "{}")) or (line.endswith("{") and not has_clause):
             break
     return "\n".join(lines)
-
-
-def is_open(head, owner, text):
-    """Whether a function can be called from outside its file. A function of a trait can be called if the trait is visible there."""
-    of_trait = owner[0] and re.search(rf"^pub trait {owner[0]}\b", text, re.M)
-    return bool(of_trait or re.match(r"\s*pub (?:const )?fn ", head))
 
 
 def exported(crate):
@@ -278,7 +274,9 @@ def functions():
             module = "::".join(path.relative_to(ROOT / "crates" / crate / "src").with_suffix("").parts)
             for begin, _, owner, name in bodies().functions_of(text):
                 head = contract_of(text, begin)
-                is_public = is_open(head, owner, text) and (module in modules or (owner[0] or name) in names)
+                # A function of a trait can be called from outside its file if the trait is visible there.
+                is_open = re.match(r"\s*pub (?:const )?fn ", head) or owner[0] and re.search(rf"^pub trait {owner[0]}\b", text, re.M)
+                is_public = bool(is_open) and (module in modules or (owner[0] or name) in names)
                 is_test = bool(re.search(r"#\[test\]\s*(?:#\[[^\]]*\]\s*)*$", text[:begin]))
                 found.append(Function(crate, module, owner, name, at(path, text.count("\n", 0, begin) + 1), head, is_public, is_test))
     return found

@@ -31,10 +31,6 @@ def uid_of(number):
     return f"{'CGLPWY'[number % 6]}{number:05}"
 
 
-def identity_of(number):
-    return f"{1 + mixed(number, 11, 9)}{'ABCM'[number % 4]}{number % 100:02}"
-
-
 def clock(half_minutes):
     minutes, half = half_minutes // 2 % 1440, half_minutes % 2
     return f"{minutes // 60:02}{minutes % 60:02}{'H' if half else ' '}"
@@ -69,15 +65,14 @@ def base(number, salt=8, transaction="N"):
     """A permanent schedule. One in three ended before the horizon."""
     last = "240420" if mixed(number, 9, 3) == 0 else "241214"
     days = ("1111100", "1111111", "0000011", "1111110")[mixed(number, 10, 4)]
-    train = identity_of(number)
+    train = f"{1 + mixed(number, 11, 9)}{'ABCM'[number % 4]}{number % 100:02}"
     extra = records.record("BX         NTY") if number % 2 else ""
     return records.basic(transaction, uid_of(number), "231210", last, days, train) + extra + journey(number, salt)
 
 
-def overlay(number, transaction="N"):
+def overlay(number):
     first, last = f"2406{1 + mixed(number, 12, 15):02}", f"2406{16 + mixed(number, 12, 15):02}"
-    schedule = records.basic(transaction, uid_of(number), first, last, "1111111", OVERLAID, stp="O")
-    return schedule + journey(number, 13)
+    return records.basic("N", uid_of(number), first, last, "1111111", OVERLAID, stp="O") + journey(number, 13)
 
 
 def cancellation(number):
@@ -86,23 +81,14 @@ def cancellation(number):
 
 
 def link(number, last="241214"):
-    at = route(number)[-1]
-    return records.association(uid_of(number), uid_of((number + 1) % UIDS), "231210", last, at)
+    return records.association(uid_of(number), uid_of((number + 1) % UIDS), "231210", last, route(number)[-1])
 
 
 def full():
     """An extract in the order of a national one: places, associations, and schedules by UID."""
-    parts = [records.header("240609", "DFROC1A")]
-    for number in range(PLACES):
-        parts.append(records.place("TI", place_of(number), f"PLACE {number}"))
-    parts += [link(number) for number in range(0, UIDS, 7)]
-    for number in range(UIDS):
-        parts.append(base(number))
-        if number % 5 == 0:
-            parts.append(overlay(number))
-        if number % 4 == 0:
-            parts.append(cancellation(number))
-    return records.extract(*parts)
+    places = [records.place("TI", place_of(number), f"PLACE {number}") for number in range(PLACES)]
+    trains = [base(it) + (overlay(it) if it % 5 == 0 else "") + (cancellation(it) if it % 4 == 0 else "") for it in range(UIDS)]
+    return records.extract(records.header("240609", "DFROC1A"), *places, *map(link, range(0, UIDS, 7)), *trains)
 
 
 def update(date, reference, turn):
@@ -112,17 +98,11 @@ def update(date, reference, turn):
         new = place_of(number).replace("X", "Y") if number % 2 else ""
         parts.append(records.place("TA", place_of(number), f"PLACE {number}, AGAIN", new))
     parts += [link(number, "240720") for number in range(turn, UIDS, 70)]
-    for number in range(turn, UIDS, 20):
-        match number // 20 % 4:
-            case 0:
-                parts.append(base(number, 15, "R"))
-            case 1:
-                parts.append(records.basic("D", uid_of(number), "231210"))
-            case 2:
-                parts.append(cancellation(number + 1))
-            case _:
-                parts.append(base(UIDS + number, 8))
-    return records.extract(*parts)
+    changes = (
+        lambda number: base(number, 15, "R"), lambda number: records.basic("D", uid_of(number), "231210"),
+        lambda number: cancellation(number + 1), lambda number: base(UIDS + number, 8),
+    )
+    return records.extract(*parts, *(changes[number // 20 % 4](number) for number in range(turn, UIDS, 20)))
 
 
 def endless():

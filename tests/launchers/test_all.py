@@ -46,12 +46,12 @@ class Tree:
         path.parent.mkdir(parents=True, exist_ok=True)
         path.write_text(text, encoding="utf-8")
 
-    def run(self, *words, **more):
+    def run(self, *words, script="test", **more):
         env = {key: value for key, value in os.environ.items() if key != "RT_JOBS"}
         env |= {"TREE": str(self.folder), "PATH": f"{self.folder}/bin:{os.environ['PATH']}", **more}
-        (self.folder / "ran").unlink(missing_ok=True)
-        ended = subprocess.run([self.folder / "test", *words], cwd="/", env=env, check=False, capture_output=True, text=True)
-        ran = (self.folder / "ran").read_text(encoding="utf-8").splitlines() if (self.folder / "ran").exists() else []
+        self.puts(".", "ran", "")
+        ended = subprocess.run([self.folder / script, *words], cwd="/", env=env, check=False, capture_output=True, text=True)
+        ran = (self.folder / "ran").read_text(encoding="utf-8").splitlines()
         return ended, [line.split(":")[0] for line in ran], ran
 
 
@@ -86,21 +86,16 @@ def test_a_step_that_fails(tree, name):
     assert f"failed or not run: {', '.join(it for it in ALL if it == step or it in without)}\n" in ended.stdout
 
 
-@pytest.mark.parametrize("said, why", [
-    ("refused, as it must be (a name is gone)", "refused only for a name that a proof file cites; change a value and keep the names"),
-    ("BAD EDIT: no such line", "not applied or not compiled, so the prover was never asked"),
+@pytest.mark.parametrize("old, new, why", [
+    ("b: refused, as it must be", "b: refused, as it must be (a)", "b: refused only for a name that a proof file cites; change a value and keep the names"),
+    ("b: refused, as it must be", "b: BAD EDIT: no such line", "b: not applied or not compiled, so the prover was never asked"),
+    ("rt: must-fail", "rt: other", "no line of a must-fail edit was read"),
 ])
-def test_an_edit_that_shows_nothing(tree, said, why):
-    tree.puts("printed", "rt ci", EDITS.replace("b: refused, as it must be", f"b: {said}"))
+def test_an_edit_that_shows_nothing(tree, old, new, why):
+    tree.puts("printed", "rt ci", EDITS.replace(old, new))
     ended, ran, _ = tree.run("proofs")
     assert (ended.returncode, ran) == (1, PROOFS)
-    assert f"tests/proofs: b: {why}\n" in ended.stdout
-
-
-def test_no_edit_is_tried(tree):
-    tree.puts("printed", "rt ci", "rt: ok\n38 passed, 0 failed\n")
-    ended, _, _ = tree.run("proofs")
-    assert (ended.returncode, "tests/proofs: no line of a must-fail edit was read\n" in ended.stdout) == (1, True)
+    assert f"tests/proofs: {why}\n" in ended.stdout
 
 
 def test_the_failures_of_pytest_are_counted(tree):
@@ -137,8 +132,7 @@ def test_packages_that_are_missing_are_named(tree):
 
 def test_the_gate_runs_everything(tree):
     shutil.copytree(ROOT / ".ci", tree.folder / ".ci")
-    env = {**os.environ, "TREE": str(tree.folder), "PATH": f"{tree.folder}/bin:{os.environ['PATH']}"}
-    ended = subprocess.run([tree.folder / ".ci" / "run"], cwd="/", env=env, check=False, capture_output=True, text=True)
+    ended, _, _ = tree.run(script=".ci/run")
     assert (ended.returncode, last(ended)) == (0, "41 passed, 0 failed")
     tree.puts("status", "tests/run programs", "1")
-    assert subprocess.run([tree.folder / ".ci" / "run"], cwd="/", env=env, check=False, capture_output=True).returncode == 1
+    assert tree.run(script=".ci/run")[0].returncode == 1

@@ -7,6 +7,7 @@ import subprocess
 import pytest
 
 ROOT = pathlib.Path(__file__).resolve().parent.parent.parent
+OFFICE = ROOT / "office"
 # `docker` and `desk` are proved programs, whose words their own tests have. The others are called by the gate, by dpkg, by a case, by a service, and by another
 # example.
 OTHERS = ("docker", "desk", ".ci/", "packaging/p", "office/tests/", "office/services/", "examples/fan-in/workers.py")
@@ -14,29 +15,25 @@ OTHERS = ("docker", "desk", ".ci/", "packaging/p", "office/tests/", "office/serv
 ENVIRONMENT = {**os.environ, "GIT_OPTIONAL_LOCKS": "0"}
 
 
-def tracked():
-    """The files that git knows and that may be executed."""
-    listed = subprocess.run(["git", "-C", ROOT, "ls-files", "-s"], capture_output=True, text=True, check=True).stdout.splitlines()
-    return [line.split("\t")[1] for line in listed if line.startswith("100755")]
+# The files that git knows and that may be executed.
+LISTED = subprocess.run(["git", "-C", ROOT, "ls-files", "-s"], capture_output=True, text=True, check=True).stdout.splitlines()
+CALLED = [name for mode, name in (line.split("\t") for line in LISTED) if mode.startswith("100755") and not name.startswith(OTHERS)]
 
 
-CALLED = [name for name in tracked() if not name.startswith(OTHERS)]
-
-
-def ended(name, word):
-    return subprocess.run([ROOT / name, word], cwd="/", env=ENVIRONMENT, stdin=subprocess.DEVNULL, capture_output=True, text=True, timeout=20, check=False)
+def ended(*words, env=ENVIRONMENT, cwd="/"):
+    return subprocess.run(words, cwd=cwd, env=env, stdin=subprocess.DEVNULL, capture_output=True, text=True, timeout=20, check=False)
 
 
 def test_they_are_found():
-    for name in ("install", "try", "test", "packaging/deb", "docs/check", "bench/run", "bench/run-gate", "tests/bodies", "office/station-office", "office/screen/serve"):
-        assert name in CALLED
+    some = "install try test packaging/deb docs/check bench/run bench/run-gate tests/bodies office/station-office office/screen/serve"
+    assert not {*some.split()} - {*CALLED}
     assert len(CALLED) > 30
 
 
 @pytest.mark.parametrize("name", CALLED)
 def test_help(name):
     """The first sentence of the file is printed, and no line of its code."""
-    found = ended(name, "--help")
+    found = ended(ROOT / name, "--help")
     assert (found.returncode, found.stderr) == (0, "")
     text = (ROOT / name).read_text(encoding="utf-8")
     first = re.search(r'^(?:#!.*\n"""|#!.*\n# )(.{20})', text)[1]
@@ -46,7 +43,7 @@ def test_help(name):
 
 @pytest.mark.parametrize("name", CALLED)
 def test_version(name):
-    found = ended(name, "--version")
+    found = ended(ROOT / name, "--version")
     assert (found.returncode, found.stderr) == (0, "")
     assert re.fullmatch(r"[\w-]+ (0\.\d{8}|of a checkout)\n", found.stdout)
 
@@ -54,14 +51,10 @@ def test_version(name):
 @pytest.mark.parametrize("name", ["install", "docs/prose"])
 def test_sources_without_git(name, tmp_path):
     """A folder that git knows nothing of has no day."""
-    (tmp_path / name).parent.mkdir(exist_ok=True)
-    (tmp_path / name).symlink_to(ROOT / name)
-    copy = tmp_path / "copy"
-    copy.mkdir()
     for path in (name, "lib/asked.sh", "lib/asked.py"):
-        (copy / path).parent.mkdir(exist_ok=True)
-        (copy / path).write_bytes((ROOT / path).read_bytes())
-    found = subprocess.run([*(["bash"] if name == "install" else ["python3"]), copy / name, "--version"], env={**ENVIRONMENT, "GIT_DIR": "/nonexistent"}, capture_output=True, text=True, check=False)
+        (tmp_path / path).parent.mkdir(exist_ok=True)
+        (tmp_path / path).write_bytes((ROOT / path).read_bytes())
+    found = ended("bash" if name == "install" else "python3", tmp_path / name, "--version", env={**ENVIRONMENT, "GIT_DIR": "/nonexistent"})
     assert (found.returncode, found.stdout) == (0, f"{name.rpartition('/')[2]} of a checkout\n")
 
 
@@ -72,13 +65,13 @@ COMMANDS = ("new", "take", "fetch", "merge", "horizon", "restore", "withdraw", "
 def test_commands_of_station_office(command, tmp_path):
     """--help after a command prints the lines of this command only. Nothing is done."""
     for words in ([command, "--help"], ["--force", command, "--help"], ["--now", "2024-06-12T06:00", command, "--help"]):
-        found = subprocess.run([ROOT / "office" / "station-office", *words], cwd=tmp_path, stdin=subprocess.DEVNULL, capture_output=True, text=True, check=False)
+        found = ended(OFFICE / "station-office", *words, cwd=tmp_path)
         assert (found.returncode, found.stderr) == (0, "")
         *lines, _, last = found.stdout.splitlines()
         assert len(lines) == (2 if command == "changes" else 1)
         assert all(re.match(rf"station-office (\[--force\] )?{command}\b", line) for line in lines)
         assert last == "`station-office --help` describes all commands."
-    found = subprocess.run([ROOT / "office" / "station-office", command, "--version"], cwd=tmp_path, capture_output=True, text=True, check=False)
+    found = ended(OFFICE / "station-office", command, "--version", cwd=tmp_path)
     assert (found.returncode, found.stderr) == (0, "") and found.stdout.startswith("station-office ")
     assert not list(tmp_path.iterdir())
 
@@ -87,6 +80,6 @@ def test_the_screen_needs_no_flask_for_its_help(tmp_path):
     (tmp_path / "flask.py").write_text("raise ModuleNotFoundError('flask', name='flask')\n", encoding="utf-8")
     environment = {**ENVIRONMENT, "PYTHONPATH": str(tmp_path)}
     for word in ("--help", "--version"):
-        assert subprocess.run([ROOT / "office" / "screen" / "serve", word], env=environment, capture_output=True, check=False).returncode == 0
-    found = subprocess.run([ROOT / "office" / "screen" / "serve", "north.state"], env=environment, capture_output=True, text=True, check=False)
+        assert ended(OFFICE / "screen" / "serve", word, env=environment).returncode == 0
+    found = ended(OFFICE / "screen" / "serve", "north.state", env=environment)
     assert (found.returncode, found.stderr) == (4, "station-office: there is no flask: the screen needs Debian's python3-flask and python3-waitress\n")

@@ -73,8 +73,8 @@ class Tree:
         (desk / "data" / "a state").touch()
         (desk / "args").write_text("--write\na state\nno file\n", encoding="utf-8")
         (desk / "stdin").write_text("files\n", encoding="utf-8")
+        (folder / "bin").mkdir()
         for name, text in (("rt", RT), ("rattle", "")):
-            (folder / "bin").mkdir(exist_ok=True)
             (folder / "bin" / name).write_text(text, encoding="utf-8")
             (folder / "bin" / name).chmod(0o755)
         self.has_memory(MUCH)
@@ -97,23 +97,20 @@ class Tree:
 
     def launch(self, program="docker", status=0, **environment):
         """Runs a launcher with the words `day x`. Returns what it says on standard error."""
-        for name in ("events", "processes"):
-            (self.folder / name).unlink(missing_ok=True)
+        (self.folder / "events").write_bytes(b"")
         ended = subprocess.run([self.folder / program, "day", "x"], env=self.environment(**environment), stdin=subprocess.DEVNULL, capture_output=True, text=True, check=False)
         assert (ended.returncode, ended.stdout) == (status, "" if status else "day x\n"), ended.stderr
         return ended.stderr
 
     def runs_at_once(self, program, **environment):
         """The next launch runs the program without lib/launch.py."""
-        script = self.folder / "lib" / "launch.py"
-        script.rename(self.folder / "aside")
+        aside = (self.folder / "lib" / "launch.py").rename(self.folder / "aside")
         self.launch(program, **environment)
-        (self.folder / "aside").rename(script)
+        aside.rename(self.folder / "lib" / "launch.py")
 
     def events(self):
         """The pairs of a word, `begin`, `end` or `old`, and a crate."""
-        path = self.folder / "events"
-        return [tuple(line.split()) for line in path.read_text(encoding="utf-8").splitlines()] if path.exists() else []
+        return [tuple(line.split()) for line in (self.folder / "events").read_text(encoding="utf-8").splitlines()]
 
     def crates(self, word):
         return {crate for it, crate in self.events() if it == word}
@@ -132,12 +129,9 @@ class Tree:
                 ended.add(crate)
         return most
 
-    def words(self, crate):
-        return (self.folder / f"words-{crate}").read_text(encoding="utf-8").strip()
-
-    def kept(self):
-        """The crates whose results are kept in the checkout."""
-        return {path.read_text(encoding="utf-8").strip() for path in self.folder.glob("crates/*/out/incremental/kept")}
+    def words(self, *crates):
+        """The words with which `rt` was called for these crates."""
+        return [(self.folder / f"words-{crate}").read_text(encoding="utf-8").strip() for crate in crates]
 
     def copies(self):
         return list(self.folder.glob("crates/*/out/proving/lane-*"))
@@ -148,23 +142,14 @@ def tree(tmp_path):
     return Tree(tmp_path)
 
 
-def progress(program):
-    count = len(below(program))
-    return re.compile(rf"^{program}: {program} is proved \({count} of {count}, \d+ s; \d+ (?:s|min) so far\)$", re.M)
-
-
-def test_two_crates_at_once_each_after_those_that_it_cites(tree):
-    told = tree.launch()
-    assert (tree.crates("end"), tree.most_at_once()) == (below("docker"), 2)
-    assert progress("docker").search(told)
-
-
-def test_desk_and_the_words_and_input_of_its_first_run(tree):
-    told = tree.launch("desk")
-    assert (tree.crates("end"), tree.most_at_once()) == (below("desk"), 2)
-    assert "docker_desk" in tree.crates("begin") and "docker" not in tree.crates("begin")
-    assert progress("desk").search(told)
-    assert (tree.folder / "first").read_text(encoding="utf-8") == "<run><--><--write><data/a state><no file>files\n"
+@pytest.mark.parametrize("program, first", [("docker", "<run><-->"), ("desk", "<run><--><--write><data/a state><no file>files\n")])
+def test_two_crates_at_once_each_after_those_that_it_cites(tree, program, first):
+    """The first run of a program has its words and its input."""
+    told, count = tree.launch(program), len(below(program))
+    assert (tree.crates("end"), tree.most_at_once()) == (below(program), 2)
+    assert {"docker", "docker_desk"} & tree.crates("begin") == {"docker" if program == "docker" else "docker_desk"}
+    assert re.search(rf"^{program}: {program} is proved \({count} of {count}, \d+ s; \d+ (?:s|min) so far\)$", told, re.M)
+    assert (tree.folder / "first").read_text(encoding="utf-8") == first
 
 
 def test_what_is_proved_already_is_not_asked_again(tree):
@@ -173,7 +158,7 @@ def test_what_is_proved_already_is_not_asked_again(tree):
     assert tree.crates("begin") == below("desk") - below("docker")
     tree.launch("desk")
     assert tree.events() == []
-    assert [tree.words(it) for it in ("desk", "docker_desk", "docker_train")] == ["check", "check --jobs 4", "check"]
+    assert tree.words("desk", "docker_desk", "docker_train") == ["check", "check --jobs 4", "check"]
 
 
 def test_only_what_changed_is_asked(tree):
@@ -183,7 +168,7 @@ def test_only_what_changed_is_asked(tree):
     tree.has_memory(LITTLE)
     tree.launch("desk")
     assert tree.crates("begin") == above("docker_train")
-    assert tree.words("docker_desk") == "check --jobs 2"
+    assert tree.words("docker_desk") == ["check --jobs 2"]
 
 
 def test_after_a_failure_what_failed_is_asked_again(tree):
@@ -313,20 +298,16 @@ def test_what_is_proved_in_a_copy_is_kept(tree):
     (old / "old.rt").touch()
     tree.launch(status=70, FAILING="docker_excerpt")
     ended = tree.crates("end")
-    assert (tree.kept(), tree.copies()) == (ended, [])
+    kept = {path.read_text(encoding="utf-8").strip() for path in tree.folder.glob("crates/*/out/incremental/kept")}
+    assert (kept, tree.copies()) == (ended, [])
     tree.launch()
     assert "docker_excerpt" in tree.crates("begin")
     assert (tree.crates("begin"), tree.copies()) == (below("docker") - ended, [])
 
 
-def test_one_at_a_time_without_shared_work(tree):
-    (tree.folder / "rattle-kept").touch()
-    tree.launch()
-    assert (tree.crates("end"), tree.most_at_once()) == (below("docker"), 1)
-
-
-def test_one_at_a_time_in_little_memory(tree):
-    tree.has_memory(LITTLE)
+@pytest.mark.parametrize("name, text", [("rattle-kept", ""), ("memory", f"{LITTLE}")], ids=["without shared work", "in little memory"])
+def test_one_at_a_time(tree, name, text):
+    (tree.folder / name).write_text(text, encoding="utf-8")
     tree.launch()
     assert (tree.crates("end"), tree.most_at_once()) == (below("docker"), 1)
 
@@ -344,9 +325,8 @@ def test_a_crate_that_fails(tree):
 def test_an_interrupt_ends_all(tree, name):
     processes = tree.folder / "processes"
     # A background job of a shell ignores interrupts, and so would the launcher that it starts.
-    heed = lambda: [signal.signal(it, signal.SIG_DFL) for it in (signal.SIGINT, signal.SIGHUP)]  # noqa: E731
-    words = {"env": tree.environment(TAKES="600"), "stderr": subprocess.DEVNULL, "start_new_session": True, "preexec_fn": heed}
-    with subprocess.Popen([tree.folder / "docker"], **words) as started:
+    words = ["env", "--default-signal=INT,HUP", tree.folder / "docker"]
+    with subprocess.Popen(words, env=tree.environment(TAKES="600"), stderr=subprocess.DEVNULL, start_new_session=True) as started:
         until = time.monotonic() + 60
         while not processes.exists() and time.monotonic() < until:
             time.sleep(0.1)

@@ -7,6 +7,3 @@ pub mod CommandLemmas
 pub mod VersionLemmas
 pub mod ReplacingLemmas
 pub mod ShelfRunLemmas
-pub mod TwoOfficesFiles
-pub mod TwoOfficesDocker
-pub mod TwoOfficesSteps

@@ -5,4 +5,3 @@ pub mod Program
 pub mod Commands
 pub mod Replacing
 pub mod ShelfRuns
-pub mod TwoOffices

@@ -14,7 +14,6 @@ mod program;
 mod real_run;
 mod request;
 mod shelf_runs;
-mod two_offices;
 
 pub use docker_cmd::{Fault, JobFault};
 pub use fault_report::tell;
@@ -22,4 +21,3 @@ pub use given::perform_given;
 pub use program::perform;
 pub use real_run::{own_words, run};
 pub use shelf_runs::{check_on_a_shelf, take_on_a_shelf};
-pub use two_offices::{Dockers, two_offices_agree};

@@ -13,8 +13,7 @@ def given_files(work):
     mirror.GIVEN, mirror.CHANGED = work / "given", work / "changed"
     mirror.GIVEN.mkdir()
     mirror.CHANGED.mkdir()
-    bad = {name: text for name, (text, _) in extracts.BAD.items()}
-    for name, text in (extracts.GOOD | bad).items():
+    for name, text in (extracts.GOOD | {name: text for name, (text, _) in extracts.BAD.items()}).items():
         give(text.encode(), mirror.given(name))
     for name, (names, horizon) in mirror.STATES.items():
         give(mirror.state_of(*names, horizon=horizon), mirror.given(name))

@@ -1,6 +1,5 @@
 """Each request, and each way in which it can be refused."""
 import os
-import pathlib
 import subprocess
 
 import desk_extracts as extracts
@@ -10,7 +9,7 @@ from given import BAD_STATES
 from lists import train_text
 from mirror import WRITING_LINES, give_large, mirrored, reading, state_of, writing
 from outcomes import state_refused
-from programs import give, held, in_memory
+from programs import give, held, in_memory, renames
 from tables import each
 
 PLACE_DAYS = [
@@ -24,7 +23,7 @@ def test_print_answers_as_docker_print_does():
         for place, date in PLACE_DAYS:
             wanted = docker("print", "STATE", place, date)
             assert wanted.status == 0, f"status for {place} {date}"
-            assert asked.ask(f"print {place} {date}") == wanted, f"{place} {date}"
+            asked.gives(wanted, f"print {place} {date}")
 
 
 @each("uid, date, wanted", {
@@ -42,7 +41,7 @@ def test_train_answers_by_formats(uid, date, wanted):
     text = train_text((extracts.GOOD["full"], extracts.GOOD["monday"]), uid, date)
     assert text[26:26 + len(wanted)] == wanted.encode()
     with reading("full", "monday") as asked:
-        assert asked.ask(f"train {uid} {date}") == Answer(0, text)
+        asked.gives(Answer(0, text), f"train {uid} {date}")
 
 
 def test_train_to_the_letter():
@@ -74,12 +73,10 @@ def test_files_answers_as_docker_files_does(names):
 def test_each_change_is_seen_at_once_is_in_state_after_save_and_not_before():
     with mirrored("full") as (asked, mirror):
         for change in ("take monday", "merge second.state", "horizon 2024-06-11"):
-            assert asked.ask(change) == mirror.answer(*change.split()), change
-            mirror.agrees(asked, "files", "print ASHFELD 2024-06-16", "train A00001 2024-06-16")
+            mirror.agrees(asked, change, "files", "print ASHFELD 2024-06-16", "train A00001 2024-06-16")
         assert held() == mirror.stored
         mirror.agrees(asked, "save")
-        assert held() == mirror.stored
-        assert mirror.stored != state_of("full"), "the changes changed something"
+        assert held() == mirror.stored != state_of("full"), "the changes changed something"
 
 
 def test_renew_joins_what_state_holds_and_loses_nothing():
@@ -95,38 +92,42 @@ def test_renew_of_a_desk_that_only_reads():
     with reading("full") as asked:
         before = asked.ask("files")
         assert docker("take", "STATE", "monday") == DONE
-        assert asked.ask("files") == before
+        asked.gives(before, "files")
         asked.does("renew")
-        assert asked.ask("files") == docker("files", "STATE")
+        asked.gives(docker("files", "STATE"), "files")
+
+
+def changes_nothing(asked, wanted, line):
+    """A request that is refused with this answer changes nothing."""
+    before = asked.ask("files"), asked.ask("print ASHFELD 2024-06-12")
+    asked.gives(wanted, line)
+    assert (asked.ask("files"), asked.ask("print ASHFELD 2024-06-12")) == before
 
 
 @each("name", list(extracts.BAD))
 def test_a_file_that_is_refused_changes_nothing(name):
-    cause = extracts.BAD[name][1]
+    wanted = Answer(1, f"docker: file refused: {extracts.BAD[name][1]}\n".encode())
     with writing("full", "monday") as asked:
-        before = asked.ask("files"), asked.ask("print ASHFELD 2024-06-12")
-        wanted = Answer(1, f"docker: file refused: {cause}\n".encode())
-        assert asked.ask(f"take {name}") == docker("take", "STATE", name) == wanted
-        assert (asked.ask("files"), asked.ask("print ASHFELD 2024-06-12")) == before
+        changes_nothing(asked, wanted, f"take {name}")
+        assert docker("take", "STATE", name) == wanted
 
 
 @each("text, offset, cause", BAD_STATES)
 def test_a_state_that_is_refused_is_not_merged(text, offset, cause):
     give(text, "other")
     with writing("monday") as asked:
-        before = asked.ask("files"), asked.ask("print ASHFELD 2024-06-12")
-        asked.gives(Answer(1, state_refused(offset, cause).errors), "merge other")
-        assert (asked.ask("files"), asked.ask("print ASHFELD 2024-06-12")) == before
+        changes_nothing(asked, Answer(1, state_refused(offset, cause).errors), "merge other")
 
 
 @each("bad, offset, cause", BAD_STATES)
 def test_renew_refuses_a_state_that_is_none_now(bad, offset, cause):
     with writing("full") as asked:
-        before, good = asked.ask("files"), held()
+        # After this answer the desk has read STATE, so it doesn't begin with the bad one.
+        assert asked.ask("files").status == 0
+        good = held()
         give(bad)
-        asked.gives(Answer(1, state_refused(offset, cause).errors), "renew")
-        assert asked.ask("files") == before
-        assert asked.ask("save") == DEVICE
+        changes_nothing(asked, Answer(1, state_refused(offset, cause).errors), "renew")
+        asked.gives(DEVICE, "save")
         assert held() == bad
         give(good)
         asked.does("renew", "save")
@@ -135,10 +136,10 @@ def test_renew_refuses_a_state_that_is_none_now(bad, offset, cause):
 def test_files_that_cannot_be_opened_or_read():
     os.mkdir("folder")
     with writing("full") as asked:
-        for line in ("take missing", "take folder", "merge missing", "merge folder", "take full/"):
-            assert asked.ask(line) == DEVICE, line
-            assert docker(line.split()[0], "STATE", line.split()[1]) == DEVICE, f"{line}, by docker"
-        assert asked.ask("files") == docker("files", "STATE")
+        for verb, name in (("take", "missing"), ("take", "folder"), ("merge", "missing"), ("merge", "folder"), ("take", "full/")):
+            asked.gives(DEVICE, f"{verb} {name}")
+            assert docker(verb, "STATE", name) == DEVICE, f"{verb} {name}, by docker"
+        asked.gives(docker("files", "STATE"), "files")
         os.remove("STATE")
         asked.gives(DEVICE, "renew", "save")
         assert not os.path.exists("STATE"), "save made a STATE"
@@ -147,12 +148,11 @@ def test_files_that_cannot_be_opened_or_read():
 def test_days_before_the_horizon_are_refused():
     with reading("full", horizon="2024-06-10") as asked:
         for date in ("2024-06-09", "2024-06-10", "2024-06-11", "2024-06-12"):
-            assert asked.ask(f"print ASHFELD {date}") == DAY_REFUSED, f"print {date}"
+            asked.gives(DAY_REFUSED, f"print ASHFELD {date}")
             assert docker("print", "STATE", "ASHFELD", date) == DAY_REFUSED
         assert asked.ask("print ASHFELD 2024-06-13").status == 0
-        assert asked.ask("train A00001 2024-06-09") == DAY_REFUSED
-        text = train_text((extracts.GOOD["full"],), "A00001", "2024-06-10")
-        assert asked.ask("train A00001 2024-06-10") == Answer(0, text)
+        asked.gives(DAY_REFUSED, "train A00001 2024-06-09")
+        asked.gives(Answer(0, train_text((extracts.GOOD["full"],), "A00001", "2024-06-10")), "train A00001 2024-06-10")
 
 
 def test_a_lower_horizon_changes_nothing():
@@ -175,7 +175,7 @@ def test_files_are_named_by_all_that_follows_spaces_too():
     lines = {"take my file": "my file", "  take   my file ": "my file ", "take    full": "full", "take ./monday": "monday"}
     with mirrored() as (asked, mirror):
         for line, name in lines.items():
-            assert asked.ask(line) == mirror.answer("take", name), line
+            asked.gives(mirror.answer("take", name), line)
             mirror.agrees(asked, "files")
         asked.gives(DEVICE, "take my  file", "take full ", "merge monday.state ", "take 'my file'")
         mirror.agrees(asked, "merge  second.state", "files")
@@ -183,7 +183,7 @@ def test_files_are_named_by_all_that_follows_spaces_too():
 
 def test_a_file_named_stdin_or_with_a_hyphen_is_named_by_its_folder():
     for name in ("stdin", "-x"):
-        pathlib.Path(name).write_text(extracts.GOOD["monday"], encoding="ascii")
+        give(held("monday"), name)
     with mirrored() as (asked, mirror):
         asked.gives(NOTHING, "take stdin", "take -x", "merge stdin", "merge -x", "take  stdin")
         asked.gives(mirror.answer("take", "monday"), "take ./stdin", "take ./-x")
@@ -194,7 +194,7 @@ def test_a_file_from_a_pipe():
     os.mkfifo("queue")
     with mirrored() as (asked, mirror):
         asked.say(b"take queue\n")
-        pathlib.Path("queue").write_text(extracts.GOOD["monday"], encoding="ascii")
+        give(held("monday"), "queue")
         assert asked.answer() == mirror.answer("take", "monday")
         mirror.agrees(asked, "files")
 
@@ -221,24 +221,18 @@ def test_a_file_without_end_of(first, again, wanted):
         assert held() == mirror.stored
 
 
-def renamed(text):
-    give(text, "other")
-    os.replace("other", "extract")
-
-
-@each("comes", {"written in place": lambda text: give(text, "extract"), "renamed into its place": renamed})
+@each("comes", {"written in place": lambda text: give(text, "extract"), "renamed into its place": lambda text: renames(text, "extract")})
 def test_a_file_that_changes_between_two_takes_of_its_name(comes):
     """Each `take` takes what the file holds when that `take` opens it."""
     with mirrored("full") as (asked, mirror):
         for name in ("monday", "night", "no_day", "tuesday", "cut", "last", "monday"):
             comes(held(name))
-            assert asked.ask("take extract") == mirror.answer("take", name), name
+            asked.gives(mirror.answer("take", name), "take extract")
             mirror.agrees(asked, "files", "print ASHFELD 2024-06-12", "print CORHAM 2024-06-18")
         os.remove("extract")
-        assert asked.ask("take extract") == DEVICE
+        asked.gives(DEVICE, "take extract")
         mirror.agrees(asked, "save")
-        assert held() == mirror.stored
-        assert held() == state_of("full", "monday", "night", "tuesday", "last")
+        assert held() == mirror.stored == state_of("full", "monday", "night", "tuesday", "last")
 
 
 def test_a_docker_that_no_pipe_holds_at_once_of_a_reader_that_reads_little():

@@ -4,8 +4,10 @@ import os
 import typing
 
 import pytest
+from comings import TEXTS, TO_DRAFT, TO_STATE, WITH_THIRD, Coming, Subject, make_room
 from desks import DEVICE, DONE, NOT_SAVED, answers_in, written
-from meetings import DRAFTS, Draft, at_each_call, calls_of, met
+from given import STATE_OF_BOTH, STATE_OF_ONE
+from meetings import DRAFTS, at_each_call, calls_of, met, replaces_a_new_draft
 from mirror import by_docker, given, state_of
 from programs import DESK, DOCKER, Ended, give, held
 from tables import each
@@ -66,9 +68,8 @@ class Part(typing.NamedTuple):
 
     def refused(self):
         """The numbers of the requests that are refused if STATE changes now."""
-        if self.is_late() or self.calls.count(LOOK) < self.session.looks[self.saves]:
-            return ()
-        return self.session.refused[self.saves]
+        is_early = self.calls.count(LOOK) < self.session.looks[self.saves]
+        return () if is_early or self.is_late() else self.session.refused[self.saves]
 
 
 class Beside:
@@ -77,8 +78,7 @@ class Beside:
     def __init__(self, device, session):
         self.device, self.session = device, session
         give(state_of("full"))
-        parts = parts_of(calls_of(device, COMMAND, session.lines()))
-        self.all_looks = [part.count(LOOK) for part in parts]
+        self.all_looks = [part.count(LOOK) for part in parts_of(calls_of(device, COMMAND, session.lines()))]
         self.own = held("STATE")
         assert self.own == state_of("full", "tuesday", "monday", "night")
         self.both = by_docker(self.own, "take", given("last"))[1]
@@ -148,8 +148,7 @@ def test_a_text_meets_a_session(device, session):
         beside.goes_on(found, part.refused(), beside.own if part.is_late() else beside.both)
         return part.saves, part.refused() != ()
 
-    parts = range(len(session.looks))
-    assert set(at_each_call(trial)) == {(part, end) for part in parts for end in (False, True)}
+    assert set(at_each_call(trial)) == {(part, end) for part in range(len(session.looks)) for end in (False, True)}
 
 
 def just_after_a_save(device, line, came, *requests):
@@ -199,26 +198,44 @@ def test_a_text_that_is_written_just_after_a_save_in_which_a_look_fails(device, 
         give(state_of("full"))
         found = met(device, placed + 2, "cat came >STATE", COMMAND, lines)
         what = f"look {number} of {len(looks)}, before {found.after[:3]}"
-        assert (found.status, held("failed")) == (0, b"statx"), what
+        assert (found.status, held("failed"), held("STATE")) == (0, b"statx", came), what
         os.remove("failed")
-        assert held("STATE") == came, what
-        assert answers_in(found.ended.output)[-1] == DEVICE, what
-        assert (found.ended.status, found.ended.errors) == (1, NOT_SAVED), what
+        assert (found.ended.status, answers_in(found.ended.output)[-1], found.ended.errors) == (1, DEVICE, NOT_SAVED), what
 
 
 @each("is_locked, mode", DRAFTS)
 def test_what_takes_the_place_of_a_draft_that_is_just_made(device, is_locked, mode):
     """Before the draft was locked, another command removed it as left over by a killed command. The save is refused."""
-    lines = b"take monday\nsave\n"
     give(state_of("full"))
-    calls = calls_of(device, COMMAND, lines)
-    made = calls.index("create STATE.new")
-    last = max(at for at, call in enumerate(calls) if call in ("flock", "statx STATE.new"))
-    for number in range(made + 2, last + 2):
-        before = give(state_of("full"))
-        with Draft(is_locked, mode) as draft:
-            found = met(device, number, "mv -f draft STATE.new", COMMAND, lines)
-            assert found.ended == Ended(1, written([DONE, DEVICE]), NOT_SAVED)
-            draft.is_under("STATE.new")
-            assert held("STATE") == before
-        os.remove("STATE.new")
+    wanted = Ended(1, written([DONE, DEVICE]), NOT_SAVED)
+    replaces_a_new_draft(device, "STATE", (is_locked, mode), COMMAND, b"take monday\nsave\n", wanted)
+
+
+def told(ended):
+    """How a desk ends, and its answer to `save`. What it answers to `renew` depends on the text that it finds."""
+    answers = answers_in(ended.output)
+    return ended.status, answers[-1] if answers else None, ended.errors
+
+
+SAVE = Subject(
+    [DESK, "--write", "office"], TEXTS, WITH_THIRD, given=b"take ../third\nsave\n",
+    done=Ended(0, written([DONE, DONE]), b""), told=told,
+    refused=Ended(1, written([DONE, DEVICE]), NOT_SAVED),
+)
+# A desk that renews also knows what it read at its start.
+RENEWED = {text: WITH_THIRD[STATE_OF_BOTH] for text in TEXTS} | {STATE_OF_ONE: WITH_THIRD[STATE_OF_ONE]}
+BY_LINK = SAVE._replace(command=[DESK, "--write", "leading"], name="leading", links={"leading": "office"})
+SUBJECTS = {
+    "that saves": SAVE,
+    "that saves by a link": BY_LINK,
+    "that saves by a link that changes": BY_LINK._replace(at="leading"),
+    "that renews and saves": SAVE._replace(given=b"take ../third\nrenew\nsave\n", renews=RENEWED),
+}
+
+
+@pytest.mark.usefixtures("given")
+@each("act", TO_STATE | TO_DRAFT)
+@each("subject", SUBJECTS)
+def test_another_program_comes_to_a_desk(device, subject, act):
+    make_room()
+    Coming(device, subject, act).is_as_promised()

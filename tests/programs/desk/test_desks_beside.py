@@ -4,7 +4,7 @@ import os
 
 from desks import DEVICE, DONE, NOT_SAVED, Desk, docker, ends_well
 from mirror import joined, state_of, writing
-from programs import give, held
+from programs import give, held, renames
 from tables import alone, each
 
 
@@ -14,7 +14,7 @@ def test_two_desks_on_one_state():
         first.does("take monday")
         second.does("take night")
         first.does("save")
-        assert second.ask("save") == DEVICE
+        second.gives(DEVICE, "save")
         assert held() == state_of("full", "monday")
         second.does("renew")
         assert held() == state_of("full", "monday")
@@ -39,15 +39,9 @@ def test_beside_a_docker(words):
         assert docker(*words) == DONE
         there = held()
         for _ in range(2):
-            assert asked.ask("save") == DEVICE
-            assert held() == there
+            assert (asked.ask("save"), held()) == (DEVICE, there)
         asked.does("renew", "save")
         assert held() == joined(state_of("full", "night"), there)[1]
-
-
-def renamed(text):
-    give(text, "other")
-    os.replace("other", "STATE")
 
 
 def at_its_time(way, text, more=0):
@@ -59,16 +53,15 @@ def at_its_time(way, text, more=0):
 
 @each("way", {
     "written in place": give,
-    "renamed into its place": renamed,
+    "renamed into its place": renames,
     "written in place within the second": lambda text: at_its_time(give, text, 1),
-    "another file of the same time": lambda text: at_its_time(renamed, text),
+    "another file of the same time": lambda text: at_its_time(renames, text),
 })
 def test_a_state_that_is(way):
     with writing("full") as asked:
         asked.does("take night", "save", "take monday")
         way(state_of("full", "tuesday"))
-        assert asked.ask("save") == DEVICE
-        assert held() == state_of("full", "tuesday")
+        assert (asked.ask("save"), held()) == (DEVICE, state_of("full", "tuesday"))
         asked.does("renew", "save")
         assert held() == state_of("full", "night", "monday", "tuesday")
 
@@ -93,9 +86,7 @@ def test_a_link_that_leads_to_another_state_meanwhile():
         asked.does("take night")
         os.remove("STATE")
         os.symlink("second", "STATE")
-        assert asked.ask("save") == DEVICE
-        assert held("first") == before
-        assert held("second") == state_of("tuesday")
+        assert (asked.ask("save"), held("first"), held("second")) == (DEVICE, before, state_of("tuesday"))
         ends_well(asked, 1, NOT_SAVED)
 
 
@@ -134,4 +125,4 @@ def test_four_desks_that_save_at_once_lose_nothing():
 
 
 # If no lock holds, a desk may take the draft of another that saves for left over, and remove it. The other notices this and refuses to save. So the case above
-# passes even then, and doesn't show that the locks hold. The cases in test_whatever_comes_to_a_desk.py show it, where another locks the draft.
+# passes even then, and doesn't show that the locks hold. The cases in test_desk_meetings.py show it, where another locks the draft.

@@ -1,9 +1,11 @@
-"""Detailed dockers, compared with an independent reading of extracts, and with `print` and `permanent`."""
+"""Detailed dockers, and dockers without the short-term plan, compared with an independent reading of extracts, and with `print` and `permanent`."""
 import plans
 import records
 from desks import DAY_REFUSED, Answer, Desk, ends_well
 from details import DETAILED_WIDTH, detailed_text, docker_part
+from docker_lines import LINES
 from mirror import give_taken
+from outcomes import docker_text
 from programs import give
 from tables import each
 
@@ -20,19 +22,17 @@ OVERLAY = records.basic("N", "C10001", "240612", "240612", "0010000", "1Z99", "O
 LINK = records.association("C10001", "C10002", "240610", "240616", "BRAYTON", "JJ", "S")
 OTHER = records.basic("N", "C10002", "240610", "240616", "1111111", "2B20")
 WORKED = records.extract(records.header("240609"), LINK, BASIC, EXTRA, ORIGIN, CHANGE, CALL, END, OVERLAY, ORIGIN, CALL, END, OTHER, ORIGIN, CALL, END)
-BLANK = " " * 80
 
 
 def line(front, start, number, *found):
     """A detailed line of these fields. A record that is None stands for spaces."""
-    text = " ".join([f"{front:56}", start, f"{number:>10}", *(record[:80] if record else BLANK for record in found)])
+    text = " ".join([f"{front:56}", start, f"{number:>10}", *(record[:80] if record else " " * 80 for record in found)])
     assert len(text) == DETAILED_WIDTH
     return text
 
 
 def text_of(place, day, *lines):
-    texts = [f"DOCKER {place:7} {day}", *lines, "END"]
-    return "".join(f"{text:{DETAILED_WIDTH}}\n" for text in texts).encode()
+    return "".join(f"{text:{DETAILED_WIDTH}}\n" for text in [f"DOCKER {place:7} {day}", *lines, "END"]).encode()
 
 
 FULL = (BASIC, EXTRA)
@@ -68,9 +68,8 @@ TOLD = {
 def test_details_to_the_letter(asked, wanted):
     give_taken(WORKED)
     with Desk("STATE") as desk:
-        got = desk.ask(asked)
+        desk.gives(Answer(0, wanted), asked)
         ends_well(desk)
-    assert got == Answer(0, wanted)
 
 
 def test_days_whose_details_are_refused():
@@ -86,6 +85,7 @@ def compared(files):
     """Asks for the dockers and the detailed dockers of each place and day, and compares them with the reading of the extracts. Returns the lines of the
     detailed dockers, and how many dockers the short-term plan changes."""
     lines, changed = [], 0
+    give_taken(*files)
     with Desk("STATE") as desk:
         for words in (f"{place} {day}" for place in (*plans.CODES, "NOWHERE") for day in plans.DAYS):
             texts = [detailed_text(files, *words.split(), is_permanent) for _, _, is_permanent in BOTH]
@@ -101,9 +101,7 @@ def compared(files):
 def test_details_of_random_extracts(start):
     lines, changed = [], 0
     for seed in range(start, start + 10):
-        files = plans.Plan(f"detail {seed}").files()
-        give_taken(*files)
-        more, differing = compared(files)
+        more, differing = compared(plans.Plan(f"detail {seed}").files())
         lines, changed = lines + more, changed + differing
     assert {line[6] for line in lines} == set("ADJNPV"), "each kind of line"
     assert changed > 100, "the short-term plan changes dockers"
@@ -125,3 +123,51 @@ def test_a_change_shows_at_once_in_details():
         got = desk.ask(request)
     assert got == Answer(0, detailed_text((WORKED, update), "ASHFELD", "2024-06-11"))
     assert b"BSNC10001240610240616" in got.text, "a revised schedule stands as a new one"
+
+
+def schedule(uid, first, last, days, stp, at="", along=()):
+    """A schedule between two places. A cancellation has only its basic schedule."""
+    basic = records.basic("N", uid, first, last, days, "1A10", stp)
+    return basic + records.origin(along[0], at, "1", "SL") + records.terminus(along[1], "0930", "2") if along else basic
+
+
+WEEK = ("240610", "240616", "1111111")
+DIRECT = ["ASHFELD", "BRAYTON"]
+PERMANENT = schedule("C10001", *WEEK, "P", "0900", DIRECT)
+LEAVES = LINES["LEAVES_0900"]
+
+
+@each(("short", "day", "wanted"), {
+    "overlaid": (schedule("C10001", "240611", "240611", "0100000", "O", "0915", DIRECT), 11, [LEAVES]),
+    "cancelled": (schedule("C10001", "240611", "240611", "0100000", "C"), 11, [LEAVES]),
+    "moved away": (schedule("C10001", "240611", "240611", "0100000", "O", "0915", ["CORHAM", "DUNMERE"]), 11, [LEAVES]),
+    "a new train": (schedule("C10009", "240611", "240611", "0100000", "N", "0915", DIRECT), 11, [LEAVES]),
+    "a later permanent schedule": (schedule("C10001", "240611", "240611", "0100000", "P", "0910", DIRECT), 11, [LINES["LEAVES_0910"]]),
+    "a day without a train": ("", 17, []),
+})
+def test_a_day_to_the_letter(short, day, wanted):
+    give_taken(records.extract(records.header("240609"), records.place("TI", "ASHFELD", "ASHFELD JUNCTION"), PERMANENT, short))
+    with Desk("STATE") as now:
+        now.gives(Answer(0, docker_text("ASHFELD", f"2024-06-{day}", *wanted, name="ASHFELD JUNCTION")), f"permanent ASHFELD 2024-06-{day}")
+        ends_well(now)
+
+
+def test_days_that_are_refused():
+    give_taken(records.extract(records.header("240609"), PERMANENT))
+    with Desk("--write", "STATE") as now:
+        now.does("horizon 2024-06-12")
+        now.gives(DAY_REFUSED, *(f"{verb} ASHFELD 2024-06-{day:02}" for verb in ("permanent", "print") for day in range(8, 15)))
+        now.gives(Answer(0, docker_text("ASHFELD", "2024-06-15", LEAVES)), "permanent ASHFELD 2024-06-15")
+
+
+def test_a_desk_goes_on_with_both():
+    """A change shows in both dockers as soon as it is taken, and nothing is saved."""
+    give_taken(records.extract(records.header("240609"), PERMANENT))
+    overlay = schedule("C10001", "240611", "240611", "0100000", "O", "0915", DIRECT)
+    give(records.extract(records.header("240610", "DFROC1B"), overlay).encode(), "update")
+    with Desk("--write", "STATE") as now:
+        before = now.ask("print ASHFELD 2024-06-11")
+        assert now.ask("permanent ASHFELD 2024-06-11") == before
+        now.does("take update")
+        assert now.ask("permanent ASHFELD 2024-06-11") == before
+        assert now.ask("print ASHFELD 2024-06-11") != before

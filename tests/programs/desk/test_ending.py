@@ -6,9 +6,11 @@ import pytest
 from checks import soon
 from desks import DEVICE, DONE, NOTHING, NOT_SAVED, Desk, desk, docker, written
 from mirror import give_large, reading, state_of
-from programs import DESK, DEVICE_LINE, Ended, give, held, in_turn, preloading, run
+from programs import DESK, DEVICE_LINE, Ended, give, held, in_turn, preloading, redirected, renames, run
 from tables import each
 
+# The words that run a desk whose output is a full device.
+FULL = redirected(">/dev/full")
 WELL, UNSAVED_END = Ended(0, b"", b""), Ended(1, b"", NOT_SAVED)
 CHANGES = ("take monday", "merge second.state", "horizon 2024-06-12")
 # The requests, and whether there are unsaved changes at the end.
@@ -28,15 +30,12 @@ UNSAVED = {
 
 @each("lines, is_unsaved", UNSAVED)
 def test_the_end_of_input_after(lines, is_unsaved):
-    before = give(state_of("full"))
-    wanted = (1, NOT_SAVED) if is_unsaved else (0, b"")
     text = "".join(f"{line}\n" for line in lines)
     for cut in ("", "save"):
-        give(before)
+        before = give(state_of("full"))
         ended = desk("--write", "STATE", given=(text + cut).encode())
-        assert (ended.status, ended.errors) == wanted, f"the end after {text + cut!r}"
-        if "save" not in lines:
-            assert held() == before
+        assert (ended.status, ended.errors) == ((1, NOT_SAVED) if is_unsaved else (0, b"")), f"the end after {text + cut!r}"
+        assert "save" in lines or held() == before
 
 
 def test_changes_whose_save_was_refused_are_unsaved():
@@ -44,8 +43,7 @@ def test_changes_whose_save_was_refused_are_unsaved():
     with Desk("--write", "STATE") as asked:
         asked.does("take monday")
         assert docker("take", "STATE", "night") == DONE
-        assert asked.ask("save") == DEVICE
-        assert asked.closed() == UNSAVED_END
+        assert (asked.ask("save"), asked.closed()) == (DEVICE, UNSAVED_END)
 
 
 # A renewal finds out whether STATE holds everything that the desk knows.
@@ -76,8 +74,7 @@ def test_a_renewal_of_a_state_that_holds(names, is_unsaved):
     give(state_of("full"))
     with Desk("--write", "STATE") as asked:
         asked.does("take monday", "save")
-        give(state_of(*names), "other")
-        os.replace("other", "STATE")
+        renames(state_of(*names))
         asked.does("renew")
         assert asked.closed() == (UNSAVED_END if is_unsaved else WELL)
 
@@ -97,9 +94,7 @@ BOTH_LINES = DEVICE_LINE + NOT_SAVED
 
 def test_an_output_that_fails_while_changes_are_unsaved():
     before = give(state_of("full"))
-    with open("/dev/full", "wb") as full:
-        ended = run([DESK, "--write", "STATE"], b"take monday\nsave\n", stdout=full)
-    assert ended == Ended(4, None, BOTH_LINES)
+    assert run([*FULL, DESK, "--write", "STATE"], b"take monday\nsave\n") == Ended(4, b"", BOTH_LINES)
     assert held() == before
 
 
@@ -146,11 +141,8 @@ def test_a_reader_that_goes_away_within_an_answer():
 
 def test_a_full_device_as_output():
     give(state_of("full"))
-    with open("/dev/full", "wb") as full:
-        ended = run([DESK, "STATE"], b"files\nfiles\n", stdout=full)
-        assert ended == Ended(4, None, DEVICE_LINE)
-        ended = run([DESK, "STATE"], b"", stdout=full)
-        assert ended == Ended(0, None, b"")
+    assert run([*FULL, DESK, "STATE"], b"files\nfiles\n") == Ended(4, b"", DEVICE_LINE)
+    assert run([*FULL, DESK, "STATE"]) == WELL
 
 
 @each("size", {f"of {size} bytes": size for size in (1, 5, 6, 7, 40, 100)})
@@ -159,8 +151,7 @@ def test_an_output_that_takes_a_part(size):
     wanted = written([docker("files", "STATE"), docker("print", "STATE", "ASHFELD", "2024-06-12")])
     with open("output", "wb") as output:
         ended = run(["prlimit", f"--fsize={size}", DESK, "STATE"], b"files\nprint ASHFELD 2024-06-12\n", stdout=output, restore_signals=False)
-    assert ended == Ended(4, None, DEVICE_LINE)
-    assert held("output") == wanted[:size]
+    assert (ended, held("output")) == (Ended(4, None, DEVICE_LINE), wanted[:size])
 
 
 @pytest.fixture
@@ -203,13 +194,12 @@ def test_a_terminal_that_hangs_up():
         os.write(ours, b"files\n")
         assert asked.answer() == docker("files", "STATE")
         os.close(ours)
-        ended = asked.ended()
-    assert ended in (Ended(4, b"", DEVICE_LINE), Ended(0, b"", b"")), f"it ended otherwise: {ended}"
+        assert asked.ended() in (Ended(4, b"", DEVICE_LINE), WELL)
 
 
 def test_an_input_that_goes_on_of_a_desk_that_ended():
     give(state_of("full"))
-    with open("/dev/full", "wb") as full, Desk("STATE", stdout=full) as asked:
+    with Desk("STATE", program=FULL) as asked:
         asked.say(b"files\n")
         soon("it goes on", lambda: asked.process.poll() is not None)
         assert asked.process.returncode == 4

@@ -1,16 +1,16 @@
 """How lines are read: which lines aren't requests, their bytes and lengths, and the pieces in which they come."""
-import array
 import fcntl
 import os
-import pathlib
 import random
+import re
+import sys
 import termios
 
 import desk_extracts as extracts
 from checks import soon
 from desks import NOTHING, Desk, desk, docker, ends_well, written
 from mirror import WRITING_LINES, give_large, mirrored, reading, state_of, writing
-from programs import Ended, give, held
+from programs import DESK, DEVICE_LINE, Ended, give, held, redirected, run
 from tables import each
 
 GOOD_LINE = "print ASHFELD 2024-06-12"
@@ -44,8 +44,7 @@ def test_a_byte_that_is_not_printable(byte, at):
     give(state_of("full"))
     line = GOOD_LINE.encode()
     line = line[:at] + bytes([byte]) + line[at:] + b"\n"
-    wanted = written([NOTHING, docker("files", "STATE"), NOTHING])
-    assert desk("STATE", given=line + b"files\n" + line) == Ended(0, wanted, b"")
+    assert desk("STATE", given=line + b"files\n" + line) == Ended(0, written([NOTHING, docker("files", "STATE"), NOTHING]), b"")
 
 
 def test_each_other_byte_is_read_as_a_words():
@@ -81,8 +80,7 @@ def test_a_files_name_up_to_the_lines_last_byte():
 
 def memory(process):
     """The greatest amount of memory that a process has used, in KB."""
-    text = pathlib.Path(f"/proc/{process.pid}/status").read_text(encoding="ascii")
-    return int(next(line.split()[1] for line in text.split("\n") if line.startswith("VmHWM:")))
+    return int(re.search(rb"^VmHWM:\s*(\d+)", held(f"/proc/{process.pid}/status"), re.M)[1])
 
 
 def test_a_line_of_100_mb_in_no_more_memory():
@@ -105,16 +103,14 @@ CUT = ["files", GOOD_LINE, "save", "take monday", "x", " ", "x" * 255, "x" * 300
 @each("line", {repr(line) if len(line) < 255 else f"{len(line)} bytes": line for line in CUT})
 def test_a_last_line_without_its_line_feed_asks_for_nothing(line):
     before = give(state_of("full"))
-    wanted = written([docker("files", "STATE"), NOTHING])
-    assert desk("--write", "STATE", given=b"files\n" + line.encode()) == Ended(0, wanted, b"")
+    assert desk("--write", "STATE", given=b"files\n" + line.encode()) == Ended(0, written([docker("files", "STATE"), NOTHING]), b"")
     assert held() == before
     assert desk("--write", "STATE", given=line.encode()) == Ended(0, NOTHING.written(), b"")
 
 
 def test_no_line():
     give(state_of("full"))
-    assert desk("STATE", given=b"") == Ended(0, b"", b"")
-    assert desk("--write", "STATE", given=b"") == Ended(0, b"", b"")
+    assert desk("STATE") == desk("--write", "STATE") == Ended(0, b"", b"")
 
 
 # One line of each kind. The tests below mix them.
@@ -128,10 +124,7 @@ KINDS = [
 def answers_by_line(*words):
     """The answer of a desk to each of these lines, asked one by one."""
     with Desk(*words) as asked:
-        answers = {}
-        for line in KINDS:
-            asked.say(line)
-            answers[line] = asked.answer()
+        answers = {line: asked.say(line) or asked.answer() for line in KINDS}
         ends_well(asked)
     return answers
 
@@ -147,7 +140,7 @@ def test_10000_requests_at_once():
     lines = mixed("at once", 10000)
     wanted = written([answers[line] for line in lines])
     assert desk("STATE", given=b"".join(lines)) == Ended(0, wanted, b"")
-    pathlib.Path("lines").write_bytes(b"".join(lines))
+    give(b"".join(lines), "lines")
     with open("lines", "rb") as source:
         assert desk("STATE", stdin=source) == Ended(0, wanted, b"")
 
@@ -167,9 +160,7 @@ def test_no_memory_is_kept_between_requests():
 
 def unread(process):
     """The number of bytes of its input that a program hasn't read yet."""
-    count = array.array("i", [0])
-    fcntl.ioctl(process.stdin, termios.FIONREAD, count)
-    return count[0]
+    return int.from_bytes(fcntl.ioctl(process.stdin, termios.FIONREAD, bytes(4)), sys.byteorder)
 
 
 def test_requests_by_one_byte_at_a_time():
@@ -219,7 +210,4 @@ def test_no_answer_to_half_a_line():
 
 def test_a_folder_as_standard_input():
     give(state_of("full"))
-    handle = os.open(".", os.O_RDONLY)
-    ended = desk("STATE", stdin=handle)
-    os.close(handle)
-    assert ended == Ended(4, b"", b"docker: device failed\n")
+    assert run([*redirected("<."), DESK, "STATE"]) == Ended(4, b"", DEVICE_LINE)

@@ -1,5 +1,5 @@
 """Each memory growth of a session is refused in turn. Each of its system calls fails in turn, or the session is killed there."""
-import contextlib
+import copy
 import os
 import pathlib
 import shutil
@@ -10,7 +10,7 @@ import pytest
 from checks import named
 from desks import DEVICE, MEMORY, NOT_SAVED, answers_in, desk
 from mirror import Mirror, give_large, given
-from programs import DESK, DEVICE_LINE, MEMORY_LINE, Ended, give, held, in_turn, run, untried
+from programs import DESK, DEVICE_LINE, MEMORY_LINE, Ended, give, held, in_memory, in_turn, preloading, run, untried
 from tables import each
 
 # A session with every request. It saves its changes before it ends, and requests no day that its horizon excludes. So the same session can be run again.
@@ -35,9 +35,8 @@ LARGE_REQUESTS = [
 
 def desk_on(library, **settings):
     """Runs a session from a file, with this library preloaded."""
-    environment = os.environ | {"LD_PRELOAD": library} | settings
     with open("lines", "rb") as lines:
-        return run([DESK, "--write", "STATE"], stdin=lines, env=environment)
+        return run([*preloading(library, **settings), DESK, "--write", "STATE"], stdin=lines)
 
 
 class Followed:
@@ -56,9 +55,7 @@ class Followed:
 
     def tried(self, request):
         """The answer that a request would get now. The request isn't carried out."""
-        other = Mirror("full")
-        other.__dict__.update(self.mirror.__dict__)
-        return other.answer(*request)
+        return copy.copy(self.mirror).answer(*request)
 
 
 def start():
@@ -68,16 +65,11 @@ def start():
     return give(Mirror("full").stored)
 
 
-def here(name):
-    return f"{os.getcwd()}/{name}"
-
-
 def follow(ended, refusals, requests=REQUESTS, most=1):
     """Follows a session to its end. At most `most` requests may be refused with these answers."""
     followed = Followed(requests, answers_in(ended.output), refusals)
     assert len(followed.refused) <= most, f"requests {followed.refused} were refused"
-    assert (ended.status, ended.errors) == followed.mirror.end()
-    assert held() == followed.mirror.stored
+    assert (ended.status, ended.errors, held()) == (*followed.mirror.end(), followed.mirror.stored)
     return followed
 
 
@@ -86,50 +78,30 @@ def is_refused_start(ended, before):
     assert not os.path.lexists("STATE.new"), "a draft is left"
     if ended.output:
         return False
-    assert ended == Ended(3, b"", MEMORY_LINE)
-    assert held() == before
+    assert (ended, held()) == (Ended(3, b"", MEMORY_LINE), before)
     return True
-
-
-def refused_growth(ended, before):
-    """Where a growth was refused: `start`, or a request's name. `none` if the session managed with less memory."""
-    if is_refused_start(ended, before):
-        return "start"
-    followed = follow(ended, (MEMORY,))
-    return REQUESTS[followed.refused[0]][0] if followed.refused else "none"
 
 
 @pytest.mark.timeout(600)
 def test_each_growth_of_a_session_is_refused_in_turn(refusing):
     def trial(growth):
-        return start(), desk_on(refusing, GROWTH=str(growth), REFUSED=here("refused"))
+        return start(), desk_on(refusing, GROWTH=growth, REFUSED="refused")
 
     met = set()
     for growth, (before, ended), told in in_turn(trial, "refused"):
         with named(f"growth {growth}"):
             if told is not None:
-                met.add(refused_growth(ended, before))
+                refused = [None] if is_refused_start(ended, before) else follow(ended, (MEMORY,)).refused
+                met.update("start" if number is None else REQUESTS[number][0] for number in refused)
     assert follow(ended, ()).refused == []
     for verb in ("start", "print", "train", "files", "take", "merge", "renew", "save"):
         assert verb in met, f"no growth of {verb} was refused"
 
 
-@contextlib.contextmanager
-def large_given(count):
-    """A file with this number of schedules, in the folder of the given files."""
-    give_large(count)
-    shutil.copy("large", given("large"))
-    try:
-        yield
-    finally:
-        os.remove(given("large"))
-
-
 def ran_out(room):
     """How often memory ran out in a session whose address space has this many KB."""
     before = start()
-    command = ["prlimit", f"--as={room * 1024}", DESK, "--write", "STATE"]
-    ended = run(command, lines_of(LARGE_REQUESTS))
+    ended = run([*in_memory(room), DESK, "--write", "STATE"], lines_of(LARGE_REQUESTS))
     with named(f"{room} KB"):
         if is_refused_start(ended, before):
             return 1
@@ -139,11 +111,15 @@ def ran_out(room):
 @pytest.mark.timeout(600)
 def test_small_address_spaces_an_eighth_of_a_megabyte_apart():
     counts, room = [], 4096
-    with large_given(8000):
+    give_large(8000)
+    shutil.copy("large", given("large"))
+    try:
         # The loop ends once eight address spaces in a row have been large enough.
         while len(counts) < 8 or any(counts[-8:]):
             counts.append(ran_out(room))
             room += 128
+    finally:
+        os.remove(given("large"))
     assert any(counts), "memory never ran out"
 
 
@@ -208,19 +184,16 @@ def draft_of(call):
 def afterwards(stored):
     """The same session over what is left has the same result, and leaves no draft."""
     ended = desk("--write", "STATE", given=LINES)
-    statuses = [answer.status for answer in answers_in(ended.output)]
-    assert statuses == [0] * 12 + [1, 2] + [0] * 4
-    assert (ended.status, ended.errors) == (0, b"")
-    assert held() == stored[-1]
+    assert [answer.status for answer in answers_in(ended.output)] == [0] * 12 + [1, 2] + [0] * 4
+    assert (ended.status, ended.errors, held()) == (0, b"", stored[-1])
     assert not os.path.lexists("STATE.new"), "a draft is left afterwards"
 
 
-def at_each_call(device, look, **settings):
-    """Runs the session once for each of its calls, with these settings, and checks how it ended."""
+def at_each_call(device, look, how, **settings):
+    """Runs the session once for each of its calls, at which this happens, and checks how it ended."""
     def trial(number):
         start()
-        at = {name: value or str(number) for name, value in settings.items()}
-        return desk_on(device, TOLD=here("met"), WRONG=here("wrong"), **at)
+        return desk_on(device, TOLD="met", WRONG="wrong", **{how: number}, **settings)
 
     whole = whole_session()
     for number, ended, call in in_turn(trial):
@@ -240,7 +213,7 @@ def test_each_call_of_the_system_fails_in_turn(device, error):
         draft_of(call)
         failed_call(ended, error, call, whole)
 
-    at_each_call(device, look, FAIL_AT="", ERROR=error)
+    at_each_call(device, look, "FAIL_AT", ERROR=error)
 
 
 @pytest.mark.timeout(600)
@@ -252,7 +225,7 @@ def test_a_desk_is_ended_at_each_call_of_the_system_in_turn(device):
         assert held() in stored, "STATE is another"
         draft_of("end")
 
-    at_each_call(device, look, END_AT="")
+    at_each_call(device, look, "END_AT")
 
 
 @each("text", {
@@ -267,7 +240,7 @@ def test_a_desk_is_ended_at_each_call_of_the_system_in_turn(device):
 def test_nothing_is_read_after_the_end_of_the_input(device, text):
     start()
     pathlib.Path("lines").write_bytes(text)
-    ended = desk_on(device, WRONG=here("wrong"))
+    ended = desk_on(device, WRONG="wrong")
     assert not os.path.exists("wrong"), "what may not be"
     assert (ended.status, ended.errors) == (0, b"")
     lines = text.count(b"\n") + (not text.endswith(b"\n") and text != b"")
@@ -277,8 +250,7 @@ def test_nothing_is_read_after_the_end_of_the_input(device, text):
 def test_each_read_and_each_write_is_interrupted_once(device):
     whole = whole_session()
     start()
-    ended = desk_on(device, INTERRUPT="1", TOLD=here("met"), WRONG=here("wrong"))
+    ended = desk_on(device, INTERRUPT=1, TOLD="met", WRONG="wrong")
     assert os.path.exists("met"), "nothing was interrupted"
     assert not os.path.exists("wrong"), "what may not be"
-    assert ended == Ended(0, whole[0], b"")
-    assert held() == whole[1][-1]
+    assert (ended, held()) == (Ended(0, whole[0], b""), whole[1][-1])

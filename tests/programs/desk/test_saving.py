@@ -1,6 +1,5 @@
 """What `save` writes, and that no STATE is ever lost."""
 import os
-import pathlib
 import random
 import resource
 import signal
@@ -36,9 +35,7 @@ def test_save_keeps_the_permissions_of_state_and_its_link():
     os.symlink("office", "STATE")
     with writing("full") as asked:
         asked.does("take monday", "save")
-    assert os.readlink("STATE") == "office"
-    assert stat.S_IMODE(os.stat("office").st_mode) == 0o640
-    assert held("office") == state_of("full", "monday")
+    assert (os.readlink("STATE"), stat.S_IMODE(os.stat("office").st_mode), held("office")) == ("office", 0o640, state_of("full", "monday"))
 
 
 def limit_files(process, size):
@@ -54,7 +51,7 @@ def test_a_disk_that_is_full_at(size):
         asked.does("take large")
         limit_files(asked.process, size)
         for _ in range(2):
-            assert asked.ask("save") == DEVICE
+            asked.gives(DEVICE, "save")
             holds_only("STATE", before)
         files = asked.ask("files")
         assert asked.ask("print ASHFELD 2024-06-14").text.count(b" L0") == 800
@@ -70,22 +67,10 @@ ON_SMALL = 'mount -t tmpfs -o size=512k none small && cp STATE small/STATE && ex
 def apart():
     """The words that run a program in a mount namespace of its own, with a file system of 512 KiB in the folder `small`."""
     os.mkdir("small")
-    unshare = ["unshare", "-m" if os.getuid() == 0 else "-rm"]
-    command = [*unshare, "sh", "-c", ON_SMALL, "sh"]
+    command = ["unshare", "-m" if os.getuid() == 0 else "-rm", "sh", "-c", ON_SMALL, "sh"]
     if subprocess.run([*command, "true"], check=False, stderr=subprocess.DEVNULL).returncode:
         pytest.skip("this machine allows no mount")
     return command
-
-
-def fill(folder):
-    """Fills a file system with one file, and returns that file."""
-    filler = pathlib.Path(folder) / "filler"
-    with open(filler, "wb", buffering=0) as file:
-        try:
-            while True:
-                file.write(b"x" * 4096)
-        except OSError:
-            return filler
 
 
 @alone
@@ -95,12 +80,10 @@ def test_a_small_file_system_that_is_full():
     with Desk("--write", "small/STATE", program=apart()) as asked:
         asked.does("take large")
         folder = f"/proc/{asked.process.pid}/root{os.getcwd()}/small"
-        filler = fill(folder)
-        assert asked.ask("save") == DEVICE
-        assert sorted(os.listdir(folder)) == ["STATE", "filler"]
-        assert held(f"{folder}/STATE") == before
+        subprocess.run(["dd", "if=/dev/zero", f"of={folder}/filler"], check=False, stderr=subprocess.DEVNULL)
+        assert (asked.ask("save"), sorted(os.listdir(folder)), held(f"{folder}/STATE")) == (DEVICE, ["STATE", "filler"], before)
         assert asked.ask("print ASHFELD 2024-06-14").text.count(b" L0") == 800
-        os.remove(filler)
+        os.remove(f"{folder}/filler")
         asked.does("save")
         assert held(f"{folder}/STATE") == with_large()
         ends_well(asked)
@@ -110,8 +93,7 @@ def test_a_file_that_has_the_drafts_name_and_is_no_draft():
     with writing("full") as asked:
         asked.does("take monday")
         give(b"mine", "STATE.new")
-        assert asked.ask("save") == DEVICE
-        assert (held("STATE.new"), held()) == (b"mine", state_of("full"))
+        assert (asked.ask("save"), held("STATE.new"), held()) == (DEVICE, b"mine", state_of("full"))
         os.remove("STATE.new")
         asked.does("save")
         holds_only("STATE", state_of("full", "monday"))
@@ -128,27 +110,14 @@ def test_a_draft_that_a_killed_command_left():
 
 
 SIGNALS = ["SIGINT", "SIGTERM"]
-
-
-def default_signals():
-    signal.signal(signal.SIGINT, signal.SIG_DFL)
-    signal.signal(signal.SIGTERM, signal.SIG_DFL)
-
-
-def time_of_save(before):
-    """How long it takes to save the large file's state."""
-    give(before)
-    with Desk("--write", "STATE") as asked:
-        asked.ask("take large")
-        began = time.monotonic()
-        asked.does("save")
-        return time.monotonic() - began
+# The words that run a desk which doesn't ignore these signals.
+HEEDING = ("env", "--default-signal=INT,TERM")
 
 
 def signalled(which, before, wanted, delay):
     """Sends a signal to a desk during a save, and checks what it leaves. Returns whether STATE is as before, and whether a draft is left."""
     give(before)
-    with Desk("--write", "STATE", preexec_fn=default_signals) as asked:
+    with Desk("--write", "STATE", program=HEEDING) as asked:
         asked.does("take large")
         asked.say(b"save\n")
         time.sleep(delay)
@@ -156,8 +125,7 @@ def signalled(which, before, wanted, delay):
         assert asked.ended().status == -which
     now = held()
     assert now in (before, wanted), "STATE is neither as it was nor as it is to be"
-    is_left = os.path.lexists("STATE.new")
-    if is_left:
+    if is_left := os.path.lexists("STATE.new"):
         mode = os.lstat("STATE.new").st_mode
         assert stat.S_ISREG(mode) and mode & stat.S_ISVTX, "a draft without its mark"
         assert now == before, "a draft beside what is stored"
@@ -170,11 +138,14 @@ def test_a_signal_at_random_moments_of_a_save(name):
     which, before = getattr(signal, name), state_of("full")
     give_large(4000)
     wanted, numbers, met = with_large(), random.Random(name), set()
-    longest = 1.3 * time_of_save(before)
+    with writing("full") as asked:
+        asked.does("take large")
+        began = time.monotonic()
+        asked.does("save")
+        longest = 1.3 * (time.monotonic() - began)
     for _ in range(60):
         met.add(signalled(which, before, wanted, numbers.uniform(0, longest)))
-        ended = desk("--write", "STATE", given=b"take large\nsave\n")
-        assert ended == Ended(0, DONE.written() * 2, b"")
+        assert desk("--write", "STATE", given=b"take large\nsave\n") == Ended(0, DONE.written() * 2, b"")
         holds_only("STATE", wanted)
     assert (True, True) in met, "no signal met a save"
 
@@ -183,7 +154,7 @@ def test_a_signal_at_random_moments_of_a_save(name):
 @each("name", SIGNALS)
 def test_a_signal_between_requests(name):
     which, before = getattr(signal, name), give(state_of("full"))
-    with Desk("--write", "STATE", preexec_fn=default_signals) as asked:
+    with Desk("--write", "STATE", program=HEEDING) as asked:
         asked.does("take monday")
         asked.process.send_signal(which)
         assert asked.ended() == Ended(-which, b"", b"")

@@ -1,14 +1,17 @@
-"""Random sessions. Each answer has to be the answer of a `docker` command on a state file."""
+"""Random sessions: each answer has to be the answer of a `docker` command on a state file. Also the session in the manual page of `desk`, which
+`examples/office/desk-session` contains."""
 import itertools
 import os
 import random
+import shlex
 
 import desk_extracts as extracts
 import pytest
-from checks import named
+from checks import named, same
 from desks import DONE, Desk, desk, docker, written
 from mirror import STATES, Mirror
-from programs import Ended, give, held
+from outcomes import done, takes
+from programs import ROOT, Ended, give, held
 
 SESSIONS = 1000
 DATES = [f"2024-06-{day:02}" for day in range(1, 22)] + ["2024-05-20", "1960-01-01", "2059-12-31"]
@@ -55,13 +58,6 @@ class Numbers(random.Random):
         return Mirror(*names, horizon=horizon, may_write=self.random() < 0.8)
 
 
-def put_beside(asked, mirror, name):
-    """Another `docker take` changes STATE. The desk has just answered, so it waits for the next line."""
-    assert asked.held == b""
-    assert docker("take", "STATE", name) == DONE
-    mirror.take_beside(name)
-
-
 # The times of copies, in seconds. All are different, so that no copy looks like another.
 COPY_TIMES = itertools.count(1)
 
@@ -71,13 +67,12 @@ def put_back(asked, mirror, number):
     assert asked.held == b""
     mirror.put_back(number)
     give(mirror.stored, "copy")
-    time = next(COPY_TIMES)
-    os.utime("copy", (time, time))
+    os.utime("copy", (next(COPY_TIMES),) * 2)
     os.replace("copy", "STATE")
 
 
-def session(seed, counts, older=0):
-    """The session with this seed. Earlier texts of STATE are put back with this probability."""
+def session(seed, seen, older=0):
+    """The session with this seed. Notes each request with the status of its answer. Earlier texts of STATE are put back with this probability."""
     numbers = Numbers(seed)
     mirror = numbers.mirror()
     give(mirror.stored)
@@ -87,14 +82,17 @@ def session(seed, counts, older=0):
         mirror.agrees(asked, "files")
         for _ in range(numbers.randrange(1, 15)):
             if numbers.random() < 0.06:
-                put_beside(asked, mirror, numbers.choice(sorted(extracts.GOOD)))
+                # Another `docker take` changes STATE. The desk has just answered, so it waits for the next line.
+                name = numbers.choice(sorted(extracts.GOOD))
+                assert (asked.held, docker("take", "STATE", name)) == (b"", DONE)
+                mirror.take_beside(name)
             if older and numbers.random() < older:
                 put_back(asked, mirror, numbers.randrange(len(mirror.past)))
             request = numbers.request()
             line = numbers.line_of(*request)
             wanted = mirror.answer(*request)
             assert asked.ask(line) == wanted, f"the answer to {line!r}"
-            counts[request[0], wanted.status] = counts.get((request[0], wanted.status), 0) + 1
+            seen.add((request[0], wanted.status))
         status, errors = mirror.end()
         assert asked.closed() == Ended(status, b"", errors)
     assert held() == mirror.stored
@@ -102,20 +100,17 @@ def session(seed, counts, older=0):
 
 @pytest.mark.timeout(600)
 def test_1000_random_sessions():
-    counts = {}
+    seen = set()
     for seed in range(SESSIONS):
         with named(f"session {seed}"):
-            session(seed, counts)
-    for verb in WEIGHTS:
-        assert (verb, 0) in counts or verb == "nothing", f"no {verb} was done"
-    for verb, status in REFUSALS:
-        assert (verb, status) in counts, f"no {verb} was refused with {status}"
+            session(seed, seen)
+    assert not {*REFUSALS, *((verb, 0) for verb in WEIGHTS if verb != "nothing")} - seen
 
 
 def test_200_random_sessions_in_which_older_states_come_back():
     for seed in range(200):
         with named(f"session {seed}"):
-            session(f"older {seed}", {}, 0.2)
+            session(f"older {seed}", set(), 0.2)
 
 
 def test_100_random_sessions_each_asked_at_once():
@@ -128,6 +123,22 @@ def test_100_random_sessions_each_asked_at_once():
         wanted = written([mirror.answer(*request) for request in requests])
         words = ["--write", "STATE"] if mirror.may_write else ["STATE"]
         status, errors = mirror.end()
-        ended = desk(*words, given=lines.encode())
-        assert ended == Ended(status, wanted, errors), f"session {seed}"
+        assert desk(*words, given=lines.encode()) == Ended(status, wanted, errors), f"session {seed}"
         assert held() == mirror.stored, f"STATE of session {seed}"
+
+
+OFFICE = ROOT / "examples" / "office"
+
+
+def test_the_session_in_the_manual_page():
+    """The session has the words of the command, and each request with its answer. An answer's header has the number of lines that follow it."""
+    lines = (OFFICE / "desk-session").read_text(encoding="ascii").splitlines(keepends=True)
+    command, requests, answers = lines.pop(0), "", ""
+    while lines:
+        end = 2 + int(lines[1].split()[1])
+        requests += lines[0]
+        answers += "".join(lines[1:end])
+        lines = lines[end:]
+    words = shlex.split(command)[2:]
+    takes(words[-1], *(OFFICE / f"{name}.cif" for name in ("full", "monday", "tuesday")))
+    same("the end", desk(*words, given=requests.encode()), done(answers.encode()))

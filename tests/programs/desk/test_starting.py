@@ -1,7 +1,8 @@
-"""How a desk starts: its words, a STATE that is refused, and streams that are closed."""
+"""How a desk starts: its words, a STATE that is refused, and streams that are closed. Also what `desk --help` and `desk --version` print, and that they do
+nothing else."""
 import os
 
-from desks import DONE, USAGE, Answer, Desk, desk, docker, written
+from desks import DONE, HELP, USAGE, VERSION, Answer, Desk, desk, docker, written
 from given import BAD_STATES
 from lists import train_text
 from mirror import Mirror, state_of
@@ -21,15 +22,13 @@ def unread_by(*words):
     """Gives a desk a file of three lines. Returns how the desk ends, and how much it leaves unread."""
     give(SAVING, "lines")
     with open("lines", "rb") as source:
-        ended = desk(*words, stdin=source)
-        return ended, source.read()
+        return desk(*words, stdin=source), source.read()
 
 
 @each("words", {str(words): words for words in REFUSED_WORDS})
 def test_words_that_are_refused(words):
     before = give(state_of("full"))
-    assert unread_by(*words) == (Ended(2, b"", USAGE), SAVING)
-    assert held() == before
+    assert (*unread_by(*words), held()) == (Ended(2, b"", USAGE), SAVING, before)
 
 
 @each("name", ["./stdin", "a state", "write", "print", "Fröhlich", "./-x", " "])
@@ -68,10 +67,8 @@ def test_a_state_that_cannot_be_read(name):
 
 def test_a_state_that_is_there_but_empty_of_files():
     assert docker("new", "STATE") == DONE
-    wanted = [DONE, docker("print", "STATE", "ASHFELD", "2024-06-12")]
-    wanted.append(Answer(0, train_text((), "A00001", "2024-06-12")))
-    ended = desk("STATE", given=b"files\nprint ASHFELD 2024-06-12\ntrain A00001 2024-06-12\n")
-    assert ended == Ended(0, written(wanted), b"")
+    wanted = [DONE, docker("print", "STATE", "ASHFELD", "2024-06-12"), Answer(0, train_text((), "A00001", "2024-06-12"))]
+    assert desk("STATE", given=b"files\nprint ASHFELD 2024-06-12\ntrain A00001 2024-06-12\n") == Ended(0, written(wanted), b"")
 
 
 LINES = b"take monday\nsave\nfiles\n"
@@ -84,8 +81,7 @@ def without(streams, *words, given=b""):
 
 def test_standard_input_that_is_closed():
     before = give(state_of("full"))
-    assert without("<&-", "--write", "STATE") == Ended(4, b"", DEVICE_LINE)
-    assert held() == before
+    assert (without("<&-", "--write", "STATE"), held()) == (Ended(4, b"", DEVICE_LINE), before)
 
 
 def test_standard_output_that_is_closed():
@@ -122,3 +118,26 @@ def test_a_desk_leaves_the_folder_as_it_was_if_it_only_reads():
         assert sorted(os.listdir()) == before
         asked.closed()
     assert sorted(os.listdir()) == before
+
+
+ANSWERS = {"--help": HELP, "--version": VERSION}
+
+
+@each("word", [*ANSWERS])
+def test_the_text_to_the_letter(word):
+    before = give(state_of("full"))
+    give(SAVING, "lines")
+    names = sorted(os.listdir())
+    assert unread_by(word) == (Ended(0, ANSWERS[word], b""), SAVING)
+    assert (held(), sorted(os.listdir())) == (before, names)
+
+
+@each("word", [*ANSWERS])
+def test_a_file_of_that_name_is_not_opened(word):
+    os.mkfifo(word)
+    assert desk(word) == Ended(0, ANSWERS[word], b"")
+
+
+@each("word", [*ANSWERS])
+def test_an_output_that_is_full(word):
+    assert run([*redirected(">/dev/full"), DESK, word]) == Ended(4, b"", DEVICE_LINE)

@@ -19,9 +19,7 @@ class Large(typing.NamedTuple):
 @pytest.fixture(autouse=True)
 def given(folder):
     """A folder with the given files and states."""
-    for name, text in FILES.items():
-        give(text.encode(), name)
-    for name, text in STATES.items():
+    for name, text in ({name: text.encode() for name, text in FILES.items()} | STATES).items():
         give(text, name)
     os.mkdir("folder")
     return folder

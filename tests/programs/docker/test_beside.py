@@ -10,24 +10,12 @@ from programs import DOCKER, Ended, docker, ended_on_disk, give, held
 from tables import alone, each
 
 pytestmark = [alone, pytest.mark.timeout(600)]
+PIPES = {"stdout": subprocess.PIPE, "stderr": subprocess.PIPE}
 
 
 def ends_of(processes):
     """How these commands of `docker` end, which run at the same time."""
-    outputs = [process.communicate() for process in processes]
-    return [Ended(process.returncode, *output) for process, output in zip(processes, outputs)]
-
-
-def at_once(commands):
-    """How these commands of `docker` end if they are started at the same time."""
-    pipes = {"stdin": subprocess.DEVNULL, "stdout": subprocess.PIPE, "stderr": subprocess.PIPE}
-    return ends_of([subprocess.Popen([DOCKER, *words], **pipes) for words in commands])
-
-
-def leave_draft(number):
-    """In every fifth round, leaves a draft such as a killed command leaves."""
-    if number % 5 == 0:
-        assert docker("take", "office", "large", before=ended_on_disk(8)).status < 0
+    return [Ended(process.returncode, *output) for process, output in [(it, it.communicate()) for it in processes]]
 
 
 @pytest.fixture
@@ -43,8 +31,9 @@ def test_eight_takes_at_once_again_and_again(eight_files):
     for number in range(1, 51):
         give(STATE_OF_BOTH, "office")
         give(STATE_OF_BOTH, "wanted_state")
-        leave_draft(number)
-        ends = at_once([("take", "office", name) for name in names])
+        # In every fifth round, there is a draft such as a killed command leaves.
+        assert number % 5 or docker("take", "office", "large", before=ended_on_disk(8)).status < 0
+        ends = ends_of([subprocess.Popen([DOCKER, "take", "office", name], stdin=subprocess.DEVNULL, **PIPES) for name in names])
         assert set(ends) <= {DONE, DEVICE}, f"round {number}"
         done = [name for name, end in zip(names, ends) if end == DONE]
         wanted = takes_more("wanted_state", *done)
@@ -59,9 +48,7 @@ def test_eight_takes_at_once_again_and_again(eight_files):
 def meanwhile(change):
     """A `take` that has read its state waits for its file, while `change` changes what is in the folder. Returns how the `take` ends."""
     os.mkfifo("queue")
-    command = [DOCKER, "take", "office", "queue"]
-    pipes = {"stdout": subprocess.PIPE, "stderr": subprocess.PIPE}
-    with subprocess.Popen(command, stdin=subprocess.DEVNULL, **pipes) as taking:
+    with subprocess.Popen([DOCKER, "take", "office", "queue"], stdin=subprocess.DEVNULL, **PIPES) as taking:
         with open("queue", "wb") as queue:
             time.sleep(0.2)
             change()

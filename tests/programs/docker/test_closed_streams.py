@@ -2,7 +2,7 @@
 import os
 
 from given import STATE_OF_BOTH, STATE_OF_ONE
-from outcomes import DEVICE, DONE, holds_only, keeps, stores
+from outcomes import DEVICE, holds_only, keeps, stores
 from programs import CLOSED, Ended, docker, give, preloading, redirected
 from tables import each
 
@@ -33,8 +33,6 @@ def test_each_of_the_streams_closed(device, closed):
     give(STATE_OF_ONE, "office")
     assert docker("take", "office", "short", before=before).status == 1
     holds_only("office", STATE_OF_ONE)
-    assert docker("take", "office", "revised", before=before) == DONE
-    holds_only("office", STATE_OF_BOTH)
-    assert docker("merge", "office", "state_of_one", before=before) == DONE
-    holds_only("office", STATE_OF_BOTH)
+    stores(STATE_OF_BOTH, "take", "office", "revised", before=before)
+    stores(STATE_OF_BOTH, "merge", "office", "state_of_one", before=before)
     assert not os.path.exists("wrong"), "a file has the number of a stream"

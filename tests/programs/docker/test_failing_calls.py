@@ -8,15 +8,13 @@ import stat
 import pytest
 from checks import named
 from docker_lines import LINES
-from given import ONE, STATE_OF_BOTH, STATE_OF_ONE, STATE_OF_REVISED, STATES
+from given import FILES_LINE, ONE, REVISED_FILES_LINE, STATE_OF_BOTH, STATE_OF_ONE, STATE_OF_REVISED, STATES
 from outcomes import DEVICE, DONE, MEMORY, accepted, done, file_refused, prints, stores
 from programs import DOCKER, docker, give, held, in_turn, preloading, untried
 from tables import each
 
 ACCEPTED = accepted(5, 1)
 ASHFELD = prints("ASHFELD", "2024-06-10", LINES["LEAVES_0900"])
-REVISED = prints("ASHFELD", "2024-06-10", LINES["LEAVES_0905"])
-FILES_OF_BOTH = done(b"2024-06-09 2100 DFROC1A U DFROC1Z\n2024-06-10 2100 DFROC1B U DFROC1A\n")
 TO_JUNE = STATES["state_of_both_to_june"]
 # Only these calls, by which the program looks at a file or opens it, may say that memory ran out.
 MAY_WANT_MEMORY = {"open", "statx", "realpath", "readlink", "fchmod"}
@@ -61,19 +59,11 @@ class Tried:
         assert ended._replace(output=b"") in wanted
         assert self.wanted.output.startswith(ended.output), "other output"
         assert is_as(self.before), "another state"
-        self.look_at_draft(call)
-
-    def look_at_draft(self, call):
-        """A command looks twice whether the draft is its own. If one of these looks fails, the draft stays, and the next command removes it."""
+        # A command looks twice whether the draft is its own. If one of these looks fails, the draft stays, and the next command removes it.
         if os.path.lexists("office.new"):
             assert call == "statx", "a draft is left"
             self.drafts += 1
             assert self.drafts <= 2
-
-    def look_at_end(self, ended):
-        """Checks a command that was killed at one of its calls."""
-        assert ended.status == -signal.SIGKILL
-        assert is_as(self.before) or is_as(self.after)
 
     def look_afterwards(self):
         """The same command succeeds when it is run again; but what is migrated can't be migrated again."""
@@ -97,7 +87,8 @@ class Tried:
                 return number - 1
             with named(f"call {number}, {call}"):
                 if how == "END_AT":
-                    self.look_at_end(ended)
+                    assert ended.status == -signal.SIGKILL
+                    assert is_as(self.before) or is_as(self.after)
                 else:
                     self.look_at_failure(ended, error, call)
                 self.look_afterwards()
@@ -127,23 +118,14 @@ def test_large_states_at_each_call(device, large, how, words, before, after):
     "a new": ("new office", None, STATES["no_files"], DONE),
     "a horizon": ("horizon office 2024-06-14", STATE_OF_BOTH, TO_JUNE, DONE),
     "a migrate": ("migrate office", STATES["old_state_of_both"], STATE_OF_BOTH, DONE),
-    "a print": ("print office ASHFELD 2024-06-10", STATE_OF_BOTH, STATE_OF_BOTH, REVISED),
-    "a files": ("files office", STATE_OF_BOTH, STATE_OF_BOTH, FILES_OF_BOTH),
+    "a print": ("print office ASHFELD 2024-06-10", STATE_OF_BOTH, STATE_OF_BOTH, prints("ASHFELD", "2024-06-10", LINES["LEAVES_0905"])),
+    "a files": ("files office", STATE_OF_BOTH, STATE_OF_BOTH, done(FILES_LINE + REVISED_FILES_LINE)),
     "a check": ("check one", None, None, ACCEPTED),
     "a day": ("day one ASHFELD 2024-06-10", None, None, ASHFELD),
 })
 @each("error", ["EIO", "ENOSPC", "ENOMEM"])
 def test_each_call_fails(device, words, before, after, wanted, error):
     assert Tried(words, before, after, wanted).at_each_call(device, "FAIL_AT", error) > 9
-
-
-def statuses(device, call, error, before, words):
-    """How a command ends if the first call with this name fails, if the second one fails, and so on."""
-    def trial(number):
-        put_back(before)
-        return docker(*words.split(), before=preloading(device, CALL=call, FAIL_AT=number, ERROR=error, TOLD="met")).status
-
-    return [status for _, status, met in in_turn(trial) if met]
 
 
 # The program first looks for each standard stream, then opens STATE, the file and the draft. The draft gets its permissions before it is put in place. Its mark
@@ -162,58 +144,41 @@ def statuses(device, call, error, before, words):
     "take, if permissions are not given": ("fchmod", "EIO", STATE_OF_ONE, "take office revised", [4, 0]),
 })
 def test_statuses_as_one_call_fails(device, call, error, before, words, wanted):
-    assert statuses(device, call, error, before, words) == wanted
+    """How a command ends if the first call with this name fails, if the second one fails, and so on."""
+    def trial(number):
+        put_back(before)
+        return docker(*words.split(), before=preloading(device, CALL=call, FAIL_AT=number, ERROR=error, TOLD="met")).status
+
+    assert [status for _, status, met in in_turn(trial) if met] == wanted
 
 
-# A read or a write that a signal interrupts is repeated.
-
-
-@pytest.fixture
-def interrupting(device):
-    """Each read and each write is interrupted once. At least one has to be interrupted."""
-    yield preloading(device, INTERRUPT=1, TOLD="met")
-    assert os.path.exists("met"), "nothing was interrupted"
-
-
-@each("words, text, wanted", {
-    "a file whose reads are interrupted": ("check one", "", ACCEPTED),
-    "standard input whose reads are interrupted": ("", "day stdin ASHFELD 2024-06-10\n" + ONE, ASHFELD),
-    "a docker whose writes are interrupted": ("print state_of_one ASHFELD 2024-06-10", "", ASHFELD),
-})
-def test_interrupted(interrupting, words, text, wanted):
-    assert docker(*words.split(), before=interrupting, given=text.encode()) == wanted
-
-
-def test_a_take_whose_reads_and_writes_are_interrupted(interrupting, large):
-    give(STATE_OF_BOTH, "office")
-    stores(large.wanted_large, "take", "office", "large", before=interrupting)
-
-
-def test_a_merge_whose_reads_and_writes_are_interrupted(interrupting):
-    give(STATE_OF_ONE, "office")
-    words = ("merge", "office", "stdin")
-    stores(STATE_OF_BOTH, *words, before=interrupting, given=STATE_OF_REVISED)
-
-
-# What a write doesn't write is written by the next one.
+# A read or a write that a signal interrupts is repeated: each is interrupted once. What a write doesn't write is written by the next one: each write of more
+# than one byte writes only half of them.
 
 
 @pytest.fixture
-def writing_partly(device):
-    """Each write of more than one byte writes only half of them. There has to be such a write."""
-    yield preloading(device, PARTLY=1, TOLD="met")
-    assert os.path.exists("met"), "each write wrote all its bytes"
+def disturbed(device, setting):
+    """The words that disturb the program. Something has to be disturbed."""
+    yield preloading(device, **{setting: 1}, TOLD="met")
+    assert os.path.exists("met"), "nothing was disturbed"
 
 
-@each("words, wanted", {
-    "a docker": ("print state_of_one ASHFELD 2024-06-10", ASHFELD),
-    "the line of a fault": ("check short", file_refused("2: Length")),
+@each("setting, words, text, wanted", {
+    "a file whose reads are interrupted": ("INTERRUPT", "check one", "", ACCEPTED),
+    "standard input whose reads are interrupted": ("INTERRUPT", "", "day stdin ASHFELD 2024-06-10\n" + ONE, ASHFELD),
+    "a docker whose writes are interrupted": ("INTERRUPT", "print state_of_one ASHFELD 2024-06-10", "", ASHFELD),
+    "a docker that is written partly": ("PARTLY", "print state_of_one ASHFELD 2024-06-10", "", ASHFELD),
+    "the line of a fault that is written partly": ("PARTLY", "check short", "", file_refused("2: Length")),
 })
-def test_written_partly(writing_partly, words, wanted):
-    assert docker(*words.split(), before=writing_partly) == wanted
+def test_interrupted(disturbed, words, text, wanted):
+    assert docker(*words.split(), before=disturbed, given=text.encode()) == wanted
 
 
-def test_a_state_that_is_written_partly(writing_partly):
-    give(STATE_OF_ONE, "office")
-    words = ("merge", "office", "stdin")
-    stores(STATE_OF_BOTH, *words, before=writing_partly, given=STATE_OF_REVISED)
+@each("setting, words, text, before, after", {
+    "a take whose reads and writes are interrupted": ("INTERRUPT", "take office large", b"", STATE_OF_BOTH, "wanted_large"),
+    "a merge whose reads and writes are interrupted": ("INTERRUPT", "merge office stdin", STATE_OF_REVISED, STATE_OF_ONE, "state_of_both"),
+    "a state that is written partly": ("PARTLY", "merge office stdin", STATE_OF_REVISED, STATE_OF_ONE, "state_of_both"),
+})
+def test_stores_what_is_disturbed(disturbed, large, words, text, before, after):
+    give(before, "office")
+    stores(held(after), *words.split(), before=disturbed, given=text)

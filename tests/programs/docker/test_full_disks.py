@@ -5,7 +5,7 @@ import subprocess
 
 import pytest
 from given import STATE_OF_BOTH, STATE_OF_ONE
-from outcomes import DEVICE, DONE, holds_only, keeps, stores, takes, takes_more
+from outcomes import DEVICE, DONE, keeps, stores, takes, takes_more
 from programs import DOCKER, Ended, docker, ended_on_disk, give, held, on_disk, redirected, run
 from tables import alone, each
 
@@ -13,36 +13,26 @@ KILOBYTES = {f"{size} KiB": size for size in (1, 7, 16)}
 
 
 @each("kilobytes", KILOBYTES)
-def test_take_on_a_disk_that_is_full_at(kilobytes):
-    give(STATE_OF_BOTH, "office")
-    keeps(DEVICE, "take", "office", "places", before=on_disk(kilobytes))
-
-
-@each("kilobytes", KILOBYTES)
-def test_merge_on_a_disk_that_is_full_at(kilobytes):
+@each("words", {"take": "take office places", "merge": "merge office of_places"})
+def test_a_disk_that_becomes_full(kilobytes, words):
     give(STATE_OF_BOTH, "office")
     takes("of_places", "places")
-    keeps(DEVICE, "merge", "office", "of_places", before=on_disk(kilobytes))
+    keeps(DEVICE, *words.split(), before=on_disk(kilobytes))
 
 
-def full_disk(*words):
-    """How a command ends on a disk without room. Its standard error is a file on that disk."""
-    with open("faults", "wb") as faults:
-        ended = docker(*words, before=on_disk(0), stderr=faults)
-    return ended, held("faults")
+# The words that run the program on a disk without room. Its standard error is a file on that disk, so the line that reports the fault can't be written either.
+NO_ROOM = (*redirected("2>faults"), *on_disk(0))
 
 
 def test_take_on_a_full_disk():
-    """The line that reports the fault can't be written to its file either."""
     give(STATE_OF_BOTH, "office")
-    assert full_disk("take", "office", "places") == (Ended(4, b"", None), b"")
-    holds_only("office", STATE_OF_BOTH)
+    keeps(Ended(4, b"", b""), "take", "office", "places", before=NO_ROOM)
+    assert held("faults") == b""
 
 
 def test_new_on_a_full_disk():
-    assert full_disk("new", "not_made") == (Ended(4, b"", None), b"")
-    assert not os.path.lexists("not_made")
-    assert not os.path.lexists("not_made.new")
+    assert docker("new", "not_made", before=NO_ROOM) == Ended(4, b"", b"")
+    assert (held("faults"), os.path.lexists("not_made"), os.path.lexists("not_made.new")) == (b"", False, False)
 
 
 def test_a_full_disk_with_standard_error_closed():
@@ -96,8 +86,7 @@ def test_a_link_of_the_name_of_a_draft():
     give(STATE_OF_ONE, "office")
     os.symlink("state_of_one", "office.new")
     assert docker("take", "office", "revised") == DEVICE
-    assert os.readlink("office.new") == "state_of_one"
-    assert held("office") == STATE_OF_ONE
+    assert (os.readlink("office.new"), held("office")) == ("state_of_one", STATE_OF_ONE)
 
 
 # A file system of 64 KiB, mounted for this command only. It is full, then has little room, then is read-only, and finally has all its room.
@@ -127,5 +116,4 @@ def test_a_small_file_system_that_is_full():
         pytest.skip("this machine allows no mount")
     give(STATE_OF_BOTH, "wanted_places")
     takes_more("wanted_places", "places")
-    ended = run([*apart, "bash", "-uc", ROOMS, DOCKER])
-    assert ended == Ended(0, 6 * b"4 docker: device failed\n" + b"0 \n", b"")
+    assert run([*apart, "bash", "-uc", ROOMS, DOCKER]) == Ended(0, 6 * b"4 docker: device failed\n" + b"0 \n", b"")

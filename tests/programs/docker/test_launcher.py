@@ -28,8 +28,7 @@ def test_the_launcher_in_another_folder():
 
 @pytest.mark.usefixtures("launched")
 def test_the_launcher_on_the_example():
-    words = ("day", "examples/one-schedule.cif", "ASHFELD", "2024-06-10")
-    ended = run(["./docker", *words], cwd=ROOT)
+    ended = run(["./docker", "day", "examples/one-schedule.cif", "ASHFELD", "2024-06-10"], cwd=ROOT)
     assert ended == prints("ASHFELD", "2024-06-10", LINES["LEAVES_0900"])
 
 
@@ -42,5 +41,4 @@ def test_the_launcher_if_nothing_can_be_built():
     for tool in TOOLS:
         os.symlink(shutil.which(tool), f"bin/{tool}")
     os.symlink(sys.executable, "bin/python3")
-    ended = run(["bare/docker", "check", "one"], env=os.environ | {"PATH": os.path.abspath("bin")})
-    assert ended == Ended(70, b"", NOT_BUILT)
+    assert run(["bare/docker", "check", "one"], env=os.environ | {"PATH": os.path.abspath("bin")}) == Ended(70, b"", NOT_BUILT)

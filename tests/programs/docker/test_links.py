@@ -25,8 +25,7 @@ def test_take_by_a_link():
     os.chmod("office", 0o640)
     os.symlink("office", "linked")
     stores(STATE_OF_BOTH, "take", "linked", "revised")
-    assert os.readlink("linked") == "office"
-    assert mode_of("office") == 0o640
+    assert (os.readlink("linked"), mode_of("office")) == ("office", 0o640)
 
 
 MASKS = {"022": 0o644, "077": 0o600, "000": 0o666}
@@ -37,7 +36,7 @@ def masked(mask):
     return ("sh", "-c", f'umask {mask}; exec "$@"', "sh")
 
 
-@each("mask, mode", {mask: (mask, mode) for mask, mode in MASKS.items()})
+@each("mask, mode", dict(zip(MASKS, MASKS.items())))
 def test_new_under_the_mask(mask, mode):
     stores(NO_FILES, "new", "office", before=masked(mask))
     assert mode_of("office") == mode
@@ -63,8 +62,7 @@ def test_new_by_a_link_that_leads_nowhere():
 
 
 def test_new_into_a_pipe():
-    ended = docker("new", "/dev/stdout")
-    assert ended == DONE._replace(output=NO_FILES)
+    assert docker("new", "/dev/stdout") == DONE._replace(output=NO_FILES)
     assert NO_FILES == b"DKS2" + bytes(18)
 
 
@@ -76,10 +74,7 @@ def test_new_into_a_named_pipe():
 
 
 @each("state", {
-    "on a full device": "/dev/full",
-    "in place of a folder": "folder",
-    "if nothing can be made": "/proc/state",
-    "in a folder that is not there": "nowhere/state",
+    "on a full device": "/dev/full", "in place of a folder": "folder", "if nothing can be made": "/proc/state", "in a folder that is not there": "no/state",
 })
 def test_new(state):
     assert docker("new", state) == DEVICE
@@ -118,22 +113,19 @@ def unlocked(given):
     """A folder of this user with a state. Neither is read-only."""
     os.mkdir("open")
     give(STATE_OF_ONE, "open/office")
-    if os.getuid() == 0:
-        os.chown("open", 65534, 65534)
-        os.chown("open/office", 65534, 65534)
+    for name in ("open", "open/office") if os.getuid() == 0 else ():
+        os.chown(name, 65534, 65534)
 
 
 def test_new_in_a_folder_that_is_read_only(stranger, locked):
-    assert run([*stranger, "new", "locked/state"]) == DEVICE
-    assert os.listdir("locked") == ["office"]
+    assert (run([*stranger, "new", "locked/state"]), os.listdir("locked")) == (DEVICE, ["office"])
 
 
 def test_take_in_a_folder_that_is_read_only(stranger, locked):
     """A docker can still be printed from the state."""
     assert run([*stranger, "take", "locked/office", "revised"]) == DEVICE
     holds_only("locked/office", STATE_OF_ONE)
-    printed = run([*stranger, "print", "locked/office", "ASHFELD", "2024-06-10"])
-    assert printed == prints("ASHFELD", "2024-06-10", LINES["LEAVES_0900"])
+    assert run([*stranger, "print", "locked/office", "ASHFELD", "2024-06-10"]) == prints("ASHFELD", "2024-06-10", LINES["LEAVES_0900"])
 
 
 def test_take_of_a_state_that_is_read_only_in_a_folder_that_is_not(stranger, unlocked):

@@ -6,7 +6,7 @@ import stat
 import pytest
 from comings import PLACED, TEXTS, THIRD, TO_STATE, WITH_THIRD, Coming, Subject, make_room
 from given import FIRST, STATE_OF_BOTH, STATE_OF_ONE, STATE_OF_REVISED, STATES, trip
-from meetings import DRAFTS, Draft, at_each_call, calls_of, met
+from meetings import DRAFTS, Draft, at_each_call, calls_of, met, replaces_a_new_draft
 from outcomes import DEVICE, DONE, holds_only
 from programs import DOCKER, docker, give, held
 from states import lines, schedule, state
@@ -22,9 +22,7 @@ def command_of(words):
 def one_by_one(before, *commands):
     """Runs these commands one after another. Returns how the last one ends, and the state after it."""
     give(before, "office")
-    for words in commands:
-        ended = docker(*words.split())
-    return ended, held("office")
+    return [docker(*words.split()) for words in commands][-1], held("office")
 
 
 # Before its first look at STATE a command has read nothing. So a change of STATE before this look has the same effect as a change before the command.
@@ -43,8 +41,7 @@ class Beside:
     def at(self, device, number):
         """Runs the other command at this call. Returns which command was refused; if neither was, which of them counts as the first."""
         give(self.before, "office")
-        other = f"{DOCKER} {self.other} </dev/null 2>/dev/null"
-        found = met(device, number, other, command_of(self.words))
+        found = met(device, number, f"{DOCKER} {self.other} </dev/null 2>/dev/null", command_of(self.words))
         if found is None:
             return None
         assert not os.path.lexists("office.new"), "a draft is left"
@@ -61,8 +58,7 @@ class Beside:
             assert (found.status, now) == (4, self.alone)
             return "other refused"
         # What the other command stored may be a text that this command refuses.
-        refusals = [DEVICE] + [end for end in [self.other_first[0]] if end != DONE]
-        assert found.ended in refusals
+        assert found.ended == DEVICE or found.ended == self.other_first[0] != DONE
         assert now[1] == self.other_alone[1]
         return "refused"
 
@@ -81,8 +77,7 @@ COMMANDS = {
 def test_another_command_meets(device, before, words, other):
     """One of the two commands is refused, or the result is as if they ran one after the other."""
     beside = Beside(before, words, other)
-    found = at_each_call(lambda number: beside.at(device, number))
-    assert set(found) == {"other first", "refused", "other refused", "other last"}
+    assert set(at_each_call(lambda number: beside.at(device, number))) == {"other first", "refused", "other refused", "other last"}
 
 
 def state_of_many(hour, files=(FIRST,), entries=()):
@@ -145,15 +140,7 @@ def test_a_draft_of_a_command_at_work():
 def test_what_takes_the_place_of_a_draft_that_is_just_made(device, is_locked, mode):
     """Before this draft was locked, another command removed it as left over by a killed command."""
     give(STATE_OF_ONE, "office")
-    calls = calls_of(device, TAKE)
-    made = calls.index("create office.new")
-    for number in range(made + 2, last_of(calls, "flock", DRAFT_LOOK) + 2):
-        give(STATE_OF_ONE, "office")
-        with Draft(is_locked, mode) as draft:
-            found = met(device, number, "mv -f draft office.new", TAKE)
-            assert (found.ended, found.status) == (DEVICE, 0)
-            stays(draft)
-        os.remove("office.new")
+    replaces_a_new_draft(device, "office", (is_locked, mode), TAKE, b"", DEVICE)
 
 
 def calls_with_left_over(device):
@@ -190,8 +177,7 @@ def test_a_link_to_a_draft_that_takes_the_place_of_what_is_left_over(device):
             found = met(device, number, "ln -fs draft office.new", TAKE)
             assert (found.ended, found.status) == (DEVICE, 0)
             draft.is_under("draft")
-        assert os.readlink("office.new") == "draft"
-        assert held("office") == STATE_OF_ONE
+        assert (os.readlink("office.new"), held("office")) == ("draft", STATE_OF_ONE)
         os.remove("office.new")
 
 

@@ -1,10 +1,9 @@
 """Sources of any size, in little memory."""
 import os
-import subprocess
 
-from given import HEADER, STATE_OF_BOTH
+from given import FILES, HEADER, STATE_OF_BOTH
 from outcomes import DONE, MEMORY, USAGE, file_refused, holds_only, keeps, state_refused
-from programs import docker, give, held, in_memory
+from programs import docker, give, in_memory, piped
 from records import place
 from tables import each
 
@@ -12,38 +11,16 @@ from tables import each
 LITTLE = in_memory(65536)
 LENGTH = file_refused("1: Length")
 PLACE = place("TI", "ASHFELD", "PLACE")
-# Shell commands that write without end.
-ZEROS = "exec cat /dev/zero"
-LINES = "exec yes"
-ONE_LINE = "tr '\\0' a </dev/zero"
-RECORDS = f"printf '%s' '{HEADER}{PLACE}'; exec yes '{PLACE[:-1]}'"
 BLANK = place("TI", "ASHFELD")[:-1]
-BLANK_PLACES = f"printf '%s' '{HEADER}'; exec yes '{BLANK}'"
-BLANK_PLACES_ALONE = f"exec yes '{BLANK}'"
-HEADERS = f"exec yes '{HEADER[:-1]}'"
-MARKED_ZEROS = "printf DKS2; exec cat /dev/zero"
-MARKED_ONES = "printf DKS2; tr '\\0' '\\377' </dev/zero"
+# Shell commands that write without end.
+LINES = "exec yes"
+RECORDS = f"printf '%s' '{HEADER}{PLACE}'; exec yes '{PLACE[:-1]}'"
 
 
-def huge(name, text=b""):
-    """A file of 100 GB that begins with this text."""
-    give(text, name)
-    os.truncate(name, 100 * 2**30)
-
-
-def endless(line, *words):
-    """How a command ends in little memory if its input is a pipe without end."""
-    with subprocess.Popen(["setsid", "sh", "-c", line], stdout=subprocess.PIPE) as source:
-        try:
-            return docker(*words, before=LITTLE, stdin=source.stdout)
-        finally:
-            source.stdout.close()
-            source.terminate()
-
-
-@each("text, fault", {"of zeros": (b"", "1: Length"), "without a header": (b"headless", "1: Place")})
+@each("text, fault", {"of zeros": (b"", "1: Length"), "without a header": (FILES["headless"].encode(), "1: Place")})
 def test_a_file_of_100_gb(text, fault):
-    huge("huge", held("headless") if text else b"")
+    give(text, "huge")
+    os.truncate("huge", 100 * 2**30)
     assert docker("check", "huge", before=LITTLE) == file_refused(fault)
 
 
@@ -51,10 +28,7 @@ def test_zeros_without_end():
     assert docker("check", "/dev/zero", before=LITTLE) == LENGTH
 
 
-@each("words, wanted", {
-    "zeros without end on standard input": (["check", "stdin"], LENGTH),
-    "zeros without end in place of the job line": ([], USAGE),
-})
+@each("words, wanted", {"zeros without end on standard input": (["check", "stdin"], LENGTH), "zeros without end in place of the job line": ([], USAGE)})
 def test_endless_zeros(words, wanted):
     with open("/dev/zero", "rb") as zeros:
         assert docker(*words, before=LITTLE, stdin=zeros) == wanted
@@ -63,11 +37,11 @@ def test_endless_zeros(words, wanted):
 @each("line, words, wanted", {
     "lines without end": (LINES, "check stdin", LENGTH),
     "lines without end in place of the job line": (LINES, "", USAGE),
-    "a line without end in place of the job line": (ONE_LINE, "", USAGE),
+    "a line without end in place of the job line": ("tr '\\0' a </dev/zero", "", USAGE),
     "good records without end": (RECORDS, "day stdin ASHFELD 2024-06-10", MEMORY),
 })
 def test_an_endless_pipe(line, words, wanted):
-    assert endless(line, *words.split()) == wanted
+    assert piped(line, *words.split(), before=LITTLE) == wanted
 
 
 def test_zeros_without_end_as_a_state():
@@ -76,25 +50,21 @@ def test_zeros_without_end_as_a_state():
 
 
 @each("line, words, wanted", {
-    "a mark and zeros without end": (MARKED_ZEROS, "merge office stdin", state_refused(22, "Tail")),
-    "a mark and bytes 0xFF without end": (MARKED_ONES, "merge office stdin", state_refused(4, "Horizon")),
+    "a mark and zeros without end": ("printf DKS2; exec cat /dev/zero", "merge office stdin", state_refused(22, "Tail")),
+    "a mark and bytes 0xFF without end": ("printf DKS2; tr '\\0' '\\377' </dev/zero", "merge office stdin", state_refused(4, "Horizon")),
     "take of good records without end": (RECORDS, "take office stdin", MEMORY),
-    "take of blank places without end": (BLANK_PLACES, "take office stdin", MEMORY),
-    "take of blank places without end or header": (BLANK_PLACES_ALONE, "take office stdin", file_refused("1: Place")),
-    "take of headers without end": (HEADERS, "take office stdin", file_refused("2: Place")),
+    "take of blank places without end": (f"printf '%s' '{HEADER}'; exec yes '{BLANK}'", "take office stdin", MEMORY),
+    "take of blank places without end or header": (f"exec yes '{BLANK}'", "take office stdin", file_refused("1: Place")),
+    "take of headers without end": (f"exec yes '{HEADER[:-1]}'", "take office stdin", file_refused("2: Place")),
 })
 def test_an_endless_pipe_keeps_the_state(line, words, wanted):
     give(STATE_OF_BOTH, "office")
-    assert endless(line, *words.split()) == wanted
+    assert piped(line, *words.split(), before=LITTLE) == wanted
     holds_only("office", STATE_OF_BOTH)
 
 
-def sizes():
-    """Sizes in KiB: 4 MiB, and then a quarter more each time."""
-    size = 4096
-    while size < 262144:
-        yield size
-        size += size // 4
+# Sizes in KiB: 4 MiB, and then a quarter more each time.
+SIZES = [int(4096 * 1.25 ** step) for step in range(19)]
 
 
 @each("words, is_changed", {
@@ -104,11 +74,10 @@ def sizes():
     "check in little memory": ("check large", False),
 })
 def test_until_it_is_enough(large, words, is_changed):
-    """With each size, either the status is 3 and nothing is written, or the whole command is done.
-    `check` keeps nothing of a file, so the smallest size may be enough for it."""
-    wanted = docker(*words.split()) if not is_changed else DONE
-    refused = 0
-    for size in sizes():
+    """With each size, either the status is 3 and nothing is written, or the whole command is done. `check` keeps nothing of a file, so the smallest size may be
+    enough for it."""
+    wanted, refused = docker(*words.split()) if not is_changed else DONE, 0
+    for size in SIZES:
         give(STATE_OF_BOTH, "office")
         ended = docker(*words.split(), before=in_memory(size))
         if ended.status == 0:

@@ -1,12 +1,12 @@
-"""The job line, standard input, pipes, file names, and outputs that fail."""
+"""The words, the job line, standard input, pipes, file names, and outputs that fail."""
 import os
 import subprocess
 
 import pytest
 from docker_lines import LINES
-from given import FILES_LINE, ONE, STATE_OF_BOTH, STATE_OF_ONE, STATES
+from given import FILES_LINE, ONE, STATES, STATE_OF_BOTH, STATE_OF_ONE
 from outcomes import DEVICE, DONE, USAGE, accepted, done, file_refused, keeps, prints, state_refused, stores
-from programs import Ended, docker, give, held, in_seconds, on_disk, redirected
+from programs import Ended, docker, give, held, in_seconds, on_disk, piped, redirected
 from states import under
 from tables import alone, each
 
@@ -15,14 +15,6 @@ ASHFELD = prints("ASHFELD", "2024-06-10", LINES["LEAVES_0900"])
 FILE = ONE.encode()
 DAY_OF_STDIN = b"day stdin ASHFELD 2024-06-10"
 NO_END = file_refused("1: NoEnd")
-BAD_JOB_LINES = {
-    "a job line of 256 bytes": DAY_OF_STDIN.ljust(256) + b"\n" + FILE,
-    "no job line": b"",
-    "a job line without its line feed": b"check one",
-    "a job line with a carriage return": b"check one\r\n",
-    "a job line with a byte above 0x7E": b"check on\xe9\n",
-    "a file where the job line should be": FILE,
-}
 
 
 @each("words, text, wanted", {
@@ -36,7 +28,13 @@ BAD_JOB_LINES = {
     "print of standard input": ("print stdin ASHFELD 2024-06-10", STATE_OF_ONE, ASHFELD),
     "files of standard input": ("files stdin", STATE_OF_ONE, done(FILES_LINE)),
     "a file through a pipe": ("day stdin ASHFELD 2024-06-10", FILE, ASHFELD),
-} | {name: ("", text, USAGE) for name, text in BAD_JOB_LINES.items()})
+    "a job line of 256 bytes": ("", DAY_OF_STDIN.ljust(256) + b"\n" + FILE, USAGE),
+    "no job line": ("", b"", USAGE),
+    "a job line without its line feed": ("", b"check one", USAGE),
+    "a job line with a carriage return": ("", b"check one\r\n", USAGE),
+    "a job line with a byte above 0x7E": ("", b"check on\xe9\n", USAGE),
+    "a file where the job line should be": ("", FILE, USAGE),
+})
 def test_standard_input(words, text, wanted):
     assert docker(*words.split(), given=text) == wanted
 
@@ -65,16 +63,6 @@ def test_a_file_from_standard_input():
         assert docker("check", "stdin", stdin=source) == ACCEPTED
 
 
-def piped(line, *words, before=()):
-    """Runs a command of `docker` whose standard input is a pipe from this line of the shell."""
-    with subprocess.Popen(["sh", "-c", line], stdout=subprocess.PIPE) as source:
-        try:
-            return docker(*words, before=before, stdin=source.stdout)
-        finally:
-            source.stdout.close()
-            source.kill()
-
-
 BY_BYTES = "exec dd if=one bs=1 status=none"
 
 
@@ -85,8 +73,7 @@ def test_a_file_through_a_pipe_byte_by_byte():
 @each("line", {"a file through a pipe byte by byte": BY_BYTES, "a compressed file": "gzip -c one | gzip -dc"})
 def test_take_of(line):
     give(STATES["no_files"], "office")
-    assert piped(line, "take", "office", "stdin") == DONE
-    assert held("office") == STATE_OF_ONE
+    assert (piped(line, "take", "office", "stdin"), held("office")) == (DONE, STATE_OF_ONE)
 
 
 @pytest.fixture
@@ -109,8 +96,7 @@ def full_pipe():
 })
 def test_a_stream_that_is_full_and_does_not_block(full_pipe, stream, words, wanted):
     """The command ends. It doesn't repeat the write."""
-    ended = docker(*words.split(), before=in_seconds(5), **{stream: full_pipe})
-    assert ended == wanted
+    assert docker(*words.split(), before=in_seconds(5), **{stream: full_pipe}) == wanted
 
 
 @alone
@@ -152,15 +138,6 @@ def test_unreadable(words):
     assert docker(*words) == DEVICE
 
 
-@each("words", {"as standard input": ["check", "stdin"], "in place of the job line": []})
-def test_a_folder(words):
-    source = os.open("folder", os.O_RDONLY)
-    try:
-        assert docker(*words, stdin=source) == DEVICE
-    finally:
-        os.close(source)
-
-
 @each("words, stream, wanted", {
     "a full device under check": ("check one", ">/dev/full", DEVICE),
     "a full device under day": ("day one ASHFELD 2024-06-10", ">/dev/full", DEVICE),
@@ -169,13 +146,15 @@ def test_a_folder(words):
     "a full device under files": ("files state_of_both", ">/dev/full", DEVICE),
     "nor does files of no file": ("files no_files", ">/dev/full", DONE),
     "a full standard error": ("check short", "2>/dev/full", Ended(1, b"", b"")),
+    "a folder as standard input": ("check stdin", "<folder", DEVICE),
+    "a folder in place of the job line": ("", "<folder", DEVICE),
     "standard input that is closed": ("check stdin", "<&-", DEVICE),
     "no job line, for standard input is closed": ("", "<&-", DEVICE),
     "standard output that is closed": ("check one", ">&-", DEVICE),
     "print with standard output closed": ("print state_of_one ASHFELD 2024-06-10", ">&-", DEVICE),
 })
 def test_a_stream_that_is_full_or_closed(words, stream, wanted):
-    """Commands that write to standard output fail; other commands don't."""
+    """Commands that use the stream fail; other commands don't."""
     assert docker(*words.split(), before=redirected(stream)) == wanted
 
 
@@ -189,20 +168,14 @@ def test_no_reader(words):
     """The only reader of the pipe ends before the program starts."""
     reader, writer = os.pipe()
     os.close(reader)
-    try:
-        ended = docker(*words.split(), stdout=writer)
-    finally:
-        os.close(writer)
-    assert ended == DEVICE._replace(output=None)
+    with open(writer, "wb") as output:
+        assert docker(*words.split(), stdout=output) == DEVICE._replace(output=None)
 
 
 def test_an_output_that_is_taken_in_part():
     """A file may grow to 1,024 bytes, so only the first 24 bytes of the docker fit. The write of the rest fails."""
     give(bytes(1000), "grown")
-    with open("grown", "ab") as output:
-        words = ("day", "one", "ASHFELD", "2024-06-10")
-        ended = docker(*words, before=on_disk(1), stdout=output)
-    assert ended == DEVICE._replace(output=None)
+    assert docker("day", "one", "ASHFELD", "2024-06-10", before=(*redirected(">>grown"), *on_disk(1))) == DEVICE
     assert held("grown") == bytes(1000) + ASHFELD.output[:24]
 
 
@@ -234,3 +207,25 @@ def test_input_stays(two_files, words, wanted):
 def test_only_the_job_line_is_read_from_standard_input():
     give(b"check one\n" + FILE, "job_and_more")
     assert left_of("job_and_more") == (ACCEPTED, FILE)
+
+
+NO_JOBS = [
+    "day one ASHFELD 2024-02-30", "day one ASHFELDX 2024-06-10", "day one", "take stdin one", "frobnicate", "check", "check one one",
+    "day one ASHFELD 2024-06-10 one", "day one ASHFELD 20240610", "CHECK", "help", "--help", "-h", "--version", "check -", "check --file", "help check", "new",
+    "new stdin", "new state one", "new -", "take", "take one", "take one one one", "merge", "merge one", "merge stdin one", "merge stdin stdin", "print",
+    "print one", "print one ASHFELD", "print one ASHFELD 2024-13-01", "print one ASH%FELDS 2024-06-10", "print one ASHFELD 2024-6-10",
+    "print one ASHFELD 1959-12-31", "print one ASHFELD 2060-01-01", "files", "files one one", "horizon", "horizon one", "horizon stdin 2024-06-10",
+    "horizon one 2024-06-31", "horizon one 10/06/2024", "migrate", "migrate stdin", "migrate one one", "new --state",
+]
+ODD_WORDS = {
+    "an empty word": ("check", ""),
+    "one empty word": ("",),
+    "a word that is no text": ("check", b"\xff\xfe"),
+    "a further word that is no text": ("check", "one", b"on\xe9"),
+    "a timing point that is no ASCII": ("day", "one", b"\xc3\x84SCH", "2024-06-10"),
+}
+
+
+@each("words", {line: line.split() for line in NO_JOBS} | ODD_WORDS)
+def test_usage(words):
+    assert docker(*words) == USAGE

@@ -63,7 +63,6 @@ def test_a_state_that_becomes_a_pipe_before_it_is_read(device, subject, act):
     for number in range(calls.index(f"statx {subject.name}") + 2, calls.index(f"open {subject.name}") + 2):
         subject.make(subject.texts[0])
         gives = f"timeout 5 sh -c 'cat elsewhere >{subject.name}' >/dev/null 2>&1 &"
-        found = met(device, number, f"{subject.line(act)}; {gives}", subject.command)
-        assert found.ended == DEVICE
+        assert met(device, number, f"{subject.line(act)}; {gives}", subject.command).ended == DEVICE
         assert not os.path.isfile(subject.name)
         assert not os.path.lexists(subject.draft), "a draft is left"

@@ -9,6 +9,7 @@ import fcntl
 import os
 import re
 import subprocess
+import sys
 import textwrap
 
 import pytest
@@ -21,33 +22,30 @@ RECORD = re.compile(r"^  out of memory at record (\d+)$", re.M)
 # The limit is for the calls. It doesn't include the time for building their program.
 pytestmark = pytest.mark.timeout(120, func_only=True)
 
-# What calls promise if they run out of memory: the lines that are printed after the failed call and
-# before the answer of the second call. A call may have several promises. N is any number.
+# What calls promise if they run out of memory: the lines that are printed after the failed call and before the answer of the second call, with the calls. A
+# call may have several promises. N is any number.
 PROMISES = {
-    "FileParser": ["out of memory at record N"],
-    "read_pieces": ["out of memory at record N"],
-    "FileParser::feed": ["each later call answers the same"],
-    "State::of_file": ["the file is handed back"],
-    "State::join": ["both states are handed back"],
-    "Parts::item": ["the parts are as they were"],
-    "Parts::entry": ["the parts are as they were"],
-    "Staging::offer": ["what was staged is as it was\nthe state is as it was"],
-    "State::commit": ["one entry was staged\nthe state is as it was"],
-    "StateParser::feed": ["each later call answers the same"],
-    "join_state": ["the state is as it was"],
-    "docker": ["the state is as it was"],
-    "Office::take": ["the office is as it was"],
-    "Office::receive": ["the office is as it was"],
-    "Office::reload": ["the office is as it was"],
-    "Office::reload_under": ["the office is as it was"],
-    "Office::migrate": ["the office is as it was"],
-    "Office::print": ["the office is as it was\nnothing is written"],
-    "PlaceOffice::print": ["nothing is written"],
-    "job": ["status 3"],
-    "job_line": ["status 3"],
-    "prepare": ["status 3\nthe job of these words"],
-    "emit": ["status 3\nnothing is written"],
-    "run": ["before the first event", "one reply wants memory\noffices, messages and dockers are those that the replies leave"],
+    "out of memory at record N": "FileParser read_pieces",
+    "each later call answers the same": "FileParser::feed StateParser::feed",
+    "the file is handed back": "State::of_file",
+    "both states are handed back": "State::join",
+    "the parts are as they were": "Parts::item Parts::entry",
+    "what was staged is as it was\nthe state is as it was": "Staging::offer",
+    "one entry was staged\nthe state is as it was": "State::commit",
+    "the state is as it was": "join_state docker",
+    "the office is as it was": "Office::take Office::receive Office::reload Office::reload_under Office::migrate",
+    "the office is as it was\nnothing is written": "Office::print",
+    "nothing is written": "PlaceOffice::print",
+    "status 3": "job job_line",
+    "status 3\nthe job of these words": "prepare",
+    "status 3\nnothing is written": "emit",
+    "before the first event": "run",
+    "one reply wants memory\noffices, messages and dockers are those that the replies leave": "run",
+}
+
+# Calls whose answer is the same without the memory.
+MANAGING = {
+    "FileParser::finish",  # each row's file lacks its trailer: the answer is `NoEnd`, even if memory runs out at the last line
 }
 
 # Calls whose answer is the same without the memory.
@@ -75,31 +73,18 @@ def call_of(row):
 def refused_texts(row):
     """What may be printed for a row if a growth is refused: a text for each promise of its call."""
     first, _, *rest = whole_text(row).splitlines()
-    for promise in PROMISES.get(call_of(row), [""]):
-        refused = textwrap.indent(f"want of memory\n{promise}".rstrip(), "  ")
-        yield "".join(f"{line}\n" for line in (first, refused, *rest))
-
-
-def is_old():
-    """Whether the program is older than one of its sources, or isn't there."""
-    if not os.path.exists(CALLS):
-        return True
-    sources = [path for end in ("rt", "antt") for path in CRATE.parent.rglob(f"*.{end}")]
-    built = os.path.getmtime(CALLS)
-    return any(path.stat().st_mtime > built for path in sources if "out" not in path.parts)
+    for promise in [it for it, calls in PROMISES.items() if call_of(row) in calls.split()] or [""]:
+        yield "".join(f"{line}\n" for line in (first, textwrap.indent(f"want of memory\n{promise}".rstrip(), "  "), *rest))
 
 
 @pytest.fixture(scope="session")
-def calls(work):
-    """The program that makes the calls. It is built if needed, unless HOSTILE_TESTS names another program. One process builds it, while others wait."""
+def calls():
+    """The program that makes the calls. The launchers' script builds it if needed, unless HOSTILE_TESTS names another program. One process builds it, while
+    others wait."""
     if not os.environ.get("HOSTILE_TESTS"):
-        with open(CRATE / "stdin", "rb") as locked, open(work / "build", "wb") as log:
+        with open(CRATE / "stdin", "rb") as locked:
             fcntl.flock(locked, fcntl.LOCK_EX)
-            if is_old():
-                options = {"stdin": subprocess.DEVNULL, "stdout": log, "stderr": subprocess.STDOUT}
-                ended = subprocess.run(["rt", "run"], cwd=CRATE, check=False, **options)
-                assert ended.returncode == 0, (work / "build").read_text(encoding="utf-8")[-300:]
-                os.utime(CALLS)
+            subprocess.run([sys.executable, ROOT / "lib" / "launch.py", CRATE.name], stdin=subprocess.DEVNULL, check=True)
     return CALLS
 
 
@@ -133,8 +118,7 @@ def records_of(calls, library, call):
     found = {}
     for row in rows().values():
         if call_of(row) == call:
-            texts = refused_in_turn(calls, library, row)
-            numbers = enumerate((RECORD.search(text) for text in texts), 1)
+            numbers = enumerate((RECORD.search(text) for text in refused_in_turn(calls, library, row)), 1)
             found[row.split(" ", 2)[2]] = {growth: it.group(1) for growth, it in numbers if it}
     return found
 

@@ -47,7 +47,7 @@ def texts_of(folder, size):
 
 @pytest.fixture
 def run_of(work, size, state, line, job):
-    """A function that runs the command over its state, and the state's text."""
+    """A function that runs the command over its state, the state's text before, the whole answer, and the state's text after it."""
     texts = texts_of(work / f"commands {size}", size)
     for name, text in texts.items():
         give(text, name)
@@ -57,16 +57,16 @@ def run_of(work, size, state, line, job):
         give(before)
         return docker(*line.split(), given=job.encode() + before if job else b"", **options)
 
-    return runs, before
+    whole = runs()
+    assert (whole.status, whole.errors) == (0, b"")
+    return runs, before, whole, held()
 
 
 @pytest.mark.parametrize("size", [40])
 @COMMANDS
 def test_each_growth_of_a_command_is_refused_in_turn(refusing, run_of):
     """After each of these runs, the command is run with enough memory, and has to give the whole answer."""
-    runs, before = run_of
-    whole, stored = runs(), held()
-    assert (whole.status, whole.errors) == (0, b"")
+    runs, before, whole, stored = run_of
     for growth, ended, told in in_turn(lambda number: runs(before=preloading(refusing, GROWTH=number, REFUSED="refused")), "refused"):
         with named(f"growth {growth}"):
             is_out = ran_out(ended, before, whole, stored)
@@ -81,9 +81,7 @@ def test_each_growth_of_a_command_is_refused_in_turn(refusing, run_of):
 @pytest.mark.parametrize("size", [2500])
 @COMMANDS
 def test_small_address_spaces_in_turn(run_of, line):
-    runs, before = run_of
-    whole, stored = runs(), held()
-    assert (whole.status, whole.errors) == (0, b"")
+    runs, before, whole, stored = run_of
     is_out = []
     while len(is_out) < ENOUGH or any(is_out[-ENOUGH:]):
         room = FIRST + STEP * len(is_out)

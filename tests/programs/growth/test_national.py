@@ -40,11 +40,8 @@ def place(route, stop):
 
 def journey(route):
     """The locations of a route, which has places of its own, a minute apart."""
-    lines = [origin(place(route, 0), "0900")]
-    for stop in range(1, CALLS - 1):
-        lines.append(passes(place(route, stop), f"09{stop:02}"))
-    lines.append(terminus(place(route, CALLS - 1), f"09{CALLS - 1:02}"))
-    return "".join(lines)
+    between = "".join(passes(place(route, stop), f"09{stop:02}") for stop in range(1, CALLS - 1))
+    return origin(place(route, 0), "0900") + between + terminus(place(route, CALLS - 1), f"09{CALLS - 1:02}")
 
 
 def write(path, reference, numbers):
@@ -59,18 +56,11 @@ def write(path, reference, numbers):
         file.write(TRAILER)
 
 
-def room_in_memory():
-    """The folder of files in memory, if there is room and the user names no other folder."""
-    folder = "/dev/shm"
-    if os.environ.get("TMPDIR") or not os.path.isdir(folder):
-        return None
-    return folder if shutil.disk_usage(folder).free >= FILES else None
-
-
 @pytest.fixture(scope="module")
 def national():
     """A folder with two extracts, the states that take them, and the state that knows both."""
-    with (pytest.MonkeyPatch.context() as patch, tempfile.TemporaryDirectory(dir=room_in_memory()) as made):
+    is_room = not os.environ.get("TMPDIR") and os.path.isdir("/dev/shm") and shutil.disk_usage("/dev/shm").free >= FILES
+    with (pytest.MonkeyPatch.context() as patch, tempfile.TemporaryDirectory(dir="/dev/shm" if is_room else None) as made):
         # A command may take six times as long as in other tests.
         patch.setattr(checks, "PATIENCE", 120)
         folder = pathlib.Path(made)
@@ -114,7 +104,7 @@ def docker_of(stop, *numbers):
 
 def at(stop):
     """The words for the docker of a place on the last route."""
-    return place(ROUTES - 1, stop), DAY
+    return f"{place(ROUTES - 1, stop)} {DAY}"
 
 
 @each("name", ["first", "second"])
@@ -125,17 +115,14 @@ def test_new_and_take(national, name):
     state.unlink()
 
 
-def test_check(national):
-    records = SCHEDULES * (CALLS + 1) + 2
-    assert docker("check", national / "first.cif") == accepted(records, SCHEDULES)
-
-
-def test_day(national):
-    assert docker("day", national / "first.cif", *at(9)) == done(docker_of(9, LAST))
-
-
-def test_print(national):
-    assert docker("print", national / "first.state", *at(14)) == done(docker_of(14, LAST))
+@each("words, wanted", {
+    "check": ("check {}/first.cif", accepted(SCHEDULES * (CALLS + 1) + 2, SCHEDULES)),
+    "day": (f"day {{}}/first.cif {at(9)}", done(docker_of(9, LAST))),
+    "print": (f"print {{}}/first.state {at(14)}", done(docker_of(14, LAST))),
+    "files": ("files {}/joined.state", done(b"2024-06-09 2100 DFROC1A U DFROC1Z\n2024-06-09 2100 DFROC1B U DFROC1Z\n")),
+})
+def test_reads(national, words, wanted):
+    assert docker(*words.format(national).split()) == wanted
 
 
 def test_migrate(national):
@@ -150,10 +137,7 @@ def test_migrate(national):
     old.unlink()
 
 
-@each("name, other", {
-    "the update into the extract": ("first", "second"),
-    "the extract into the update": ("second", "first"),
-})
+@each("name, other", {"the update into the extract": ("first", "second"), "the extract into the update": ("second", "first")})
 def test_merge(national, name, other):
     """A merge either way results in the same state."""
     with copy_of(national / f"{name}.state") as state:
@@ -163,12 +147,11 @@ def test_merge(national, name, other):
 
 def test_a_desk_prints_takes_prints_and_saves(national):
     """A desk over the state of the first file learns what the other state knows."""
-    asked = f"print {' '.join(at(5))}\n"
+    asked = f"print {at(5)}\n"
     given = f"{asked}take {national}/second.cif\n{asked}save\n".encode()
     texts = [docker_of(5, LAST), b"", docker_of(5, LAST, LAST_MORE), b""]
     with copy_of(national / "first.state") as state:
-        ended = desk("--write", state, given=given)
-        assert ended == done(written(Answer(0, text) for text in texts))
+        assert desk("--write", state, given=given) == done(written(Answer(0, text) for text in texts))
         same_text(state, national / "joined.state")
 
 
@@ -178,12 +161,7 @@ def test_take_of_a_known_file_changes_nothing(national):
         same_text(state, national / "joined.state")
 
 
-def test_files(national):
-    lines = "".join(f"2024-06-09 2100 DFROC1{letter} U DFROC1Z\n" for letter in "AB")
-    assert docker("files", national / "joined.state") == done(lines.encode())
-
-
 def test_print_under_a_horizon(national):
     with copy_of(national / "joined.state") as state:
         assert docker("horizon", state, HORIZON) == DONE
-        assert docker("print", state, *at(3)) == done(docker_of(3, LAST, LAST_MORE))
+        assert docker("print", state, *at(3).split()) == done(docker_of(3, LAST, LAST_MORE))

@@ -80,40 +80,31 @@ def last_docker(half):
 
 
 def test_check(large):
-    wanted = accepted(4 * ROWS + STOPS + 5, 2 * ROWS + 1)
-    assert docker("check", large / "first.cif") == wanted
+    assert docker("check", large / "first.cif") == accepted(4 * ROWS + STOPS + 5, 2 * ROWS + 1)
 
 
-def test_day_at_the_last_place(large):
-    place = FIRST.last_place()
-    assert docker("day", large / "first.cif", place, DAY) == last_docker(FIRST)
-
-
-@each("name", list(HALVES))
-def test_take(large, name):
-    give(held(large / f"{name}.ledger"))
-    assert docker("take", "STATE", large / f"{name}.cif") == DONE
-    holds_only("STATE", held(large / f"{name}.state"))
-
-
-def test_print_at_the_last_place(large):
-    place = FIRST.last_place()
-    assert docker("print", large / "first.state", place, DAY) == last_docker(FIRST)
-
-
-def test_merge(large):
-    give(held(large / "first.state"))
-    assert docker("merge", "STATE", large / "second.state") == DONE
-    holds_only("STATE", held(large / "joined.state"))
-
-
-@each("place, wanted", {
-    "the last place of the first file": (FIRST.last_place(), last_docker(FIRST)),
-    "the last place of the second file": (SECOND.last_place(), last_docker(SECOND)),
-    "a place in the schedule of 200 lines": ("L000198", prints("L000198", DAY, event("1010", "P", "Z00000", "BEYOND", "MEETING"))),
+@each("before, words, after", {
+    "take of the first file": ("first.ledger", "take STATE {}/first.cif", "first.state"),
+    "take of the second file": ("second.ledger", "take STATE {}/second.cif", "second.state"),
+    "merge": ("first.state", "merge STATE {}/second.state", "joined.state"),
 })
-def test_print_from_the_joined_state(large, place, wanted):
-    assert docker("print", large / "joined.state", place, DAY) == wanted
+def test_stores(large, before, words, after):
+    give(held(large / before))
+    assert docker(*words.format(large).split()) == DONE
+    holds_only("STATE", held(large / after))
+
+
+@each("words, place, wanted", {
+    "day at the last place": ("day {}/first.cif", FIRST.last_place(), last_docker(FIRST)),
+    "print at the last place": ("print {}/first.state", FIRST.last_place(), last_docker(FIRST)),
+    "print from the joined state at the last place of the first file": ("print {}/joined.state", FIRST.last_place(), last_docker(FIRST)),
+    "print from the joined state at the last place of the second file": ("print {}/joined.state", SECOND.last_place(), last_docker(SECOND)),
+    "print from the joined state at a place in the schedule of 200 lines": (
+        "print {}/joined.state", "L000198", prints("L000198", DAY, event("1010", "P", "Z00000", "BEYOND", "MEETING")),
+    ),
+})
+def test_a_docker(large, words, place, wanted):
+    assert docker(*words.format(large).split(), place, DAY) == wanted
 
 
 def test_files_of_the_joined_state(large):
@@ -133,10 +124,7 @@ def test_migrate(large):
     holds_only("STATE", held(large / "first.state"))
 
 
-@each("before, words", {
-    "take": ("first.ledger", "take STATE {}/first.cif"),
-    "merge": ("first.state", "merge STATE {}/second.state"),
-})
+@each("before, words", {"take": ("first.ledger", "take STATE {}/first.cif"), "merge": ("first.state", "merge STATE {}/second.state")})
 @each("which", ["in the middle", "last but one", "last"])
 def test_a_growth_is_refused(large, refusing, before, words, which):
     words, before = words.format(large).split(), held(large / before)
@@ -147,7 +135,6 @@ def test_a_growth_is_refused(large, refusing, before, words, which):
     growth = {"in the middle": count // 2, "last but one": count - 1, "last": count}[which]
     give(before)
     with named(f"growth {growth} of {count}"):
-        ended = docker(*words, before=preloading(refusing, GROWTH=growth))
-        is_out = ran_out(ended, before, whole, stored)
+        is_out = ran_out(docker(*words, before=preloading(refusing, GROWTH=growth)), before, whole, stored)
         holds("the program managed with less memory", is_out or which == "in the middle")
     print(f"{count} growths")

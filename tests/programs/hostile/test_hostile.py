@@ -9,7 +9,7 @@ from checks import same
 from desks import Answer, answers_in
 from details import docker_part
 from docker_lines import event, works_on
-from outcomes import DONE, done, holds_only, prints
+from outcomes import DONE, done, holds_only, prints, takes
 from programs import DESK, Ended, docker, give, in_seconds, run
 from records import ALWAYS, NO_END, association, basic, extract, header, origin, record, terminus
 from states import ledger
@@ -81,8 +81,7 @@ def in_a_ring():
     """TIPLOCs that are renamed: each to the next, and the last to the first. The last record puts
     the first place. Before it, every other place was put and then deleted."""
     names = [f"P{row:06}" for row in range(ROWS)]
-    renamed = zip(names, [*names[1:], names[0]])
-    return [record(f"TA{old}{'':9}{'A PLACE':54}{new}") for old, new in renamed]
+    return [record(f"TA{old}{'':9}{'A PLACE':54}{new}") for old, new in zip(names, [*names[1:], names[0]])]
 
 
 COMES = [event("0830", "A", uid, "BEFORE", "MEETING", "0830") for uid in uids("A")]
@@ -129,8 +128,7 @@ def test_day_of_a_hostile_file(units, place, wanted):
 def test_trains_of_one_uid_with_many_schedules():
     """All schedules of the UID run on the day and have the train identity."""
     give(extract(header("240609", indicator="F"), *of_one_uid()).encode(), "hostile")
-    same("the new state", docker("new", "STATE"), DONE)
-    same("the taken file", docker("take", "STATE", "hostile"), DONE)
+    takes("STATE", "hostile")
     ended = run([*in_seconds(1), DESK, "STATE"], f"trains 1A10 {DAY}\n".encode())
     same("the answer", ended, Ended(0, Answer(0, f"A00001 {DAY} N\n".encode()).written(), b""))
 
@@ -152,8 +150,7 @@ def test_details_of_a_hostile_file(units):
     """The detailed docker has the same lines as the docker. Each has the records of its own train, and
     its own association."""
     give(extract(header("240609", indicator="F"), *units()).encode(), "hostile")
-    same("the new state", docker("new", "STATE"), DONE)
-    same("the taken file", docker("take", "STATE", "hostile"), DONE)
+    takes("STATE", "hostile")
     requests = f"print MEETING {DAY}\ndetail MEETING {DAY}\n"
     ended = run([*in_seconds(2), DESK, "STATE"], requests.encode())
     plain, detailed = answers_in(ended.output)
@@ -165,8 +162,7 @@ def test_details_of_a_hostile_file(units):
         numbers.add((uid, int(line[68:78]), kind))
         assert line[82:88] == uid and at[2:9] == "MEETING", line
         assert line[403:].strip() == "" if kind in "AD" else line[406:418] == uid + line[41:47], line
-    events = [it for it in numbers if it[2] in "AD"]
-    assert len(events) == sum(line[6:7] in (b"A", b"D") for line in plain.text.split(b"\n")[1:-2])
+    assert len([it for it in numbers if it[2] in "AD"]) == sum(line[6:7] in (b"A", b"D") for line in plain.text.split(b"\n")[1:-2])
 
 
 def test_merge_of_two_ledgers_of_100_000_files():
@@ -178,5 +174,4 @@ def test_merge_of_two_ledgers_of_100_000_files():
 
 def test_files_of_a_ledger_of_200_000_files():
     give(ledger(range(2 * FILES)), "both")
-    lines = [f"2005-09-26 0105 {it:07} U LASTREF\n" for it in range(2 * FILES)]
-    answers(done("".join(lines).encode()), "files", "both")
+    answers(done("".join(f"2005-09-26 0105 {it:07} U LASTREF\n" for it in range(2 * FILES)).encode()), "files", "both")

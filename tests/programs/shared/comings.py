@@ -134,16 +134,14 @@ class Subject(typing.NamedTuple):
 
     def there(self):
         """The content of the folder, by name, without a left-over draft."""
-        there = all_that_is_there()
-        return {name: what for name, what in there.items() if what != LEFT_OVER}
+        return {name: what for name, what in all_that_is_there().items() if what != LEFT_OVER}
 
     def left_by(self, act, text):
         """The content of the folder if only the act is done, the name to which STATE's name then leads, and whether that is still the same file."""
         self.make(text)
         before = number_of(self.name)
         os.system(self.line(act))
-        leads_to = os.path.relpath(os.path.realpath(self.name))
-        return self.there(), leads_to, number_of(self.name) == before
+        return self.there(), os.path.relpath(os.path.realpath(self.name)), number_of(self.name) == before
 
 
 def make_room():
@@ -161,9 +159,9 @@ def number_of(name):
 
 
 @contextlib.contextmanager
-def open_pipe():
-    """Holds both ends of the pipe, so that no program waits for them."""
-    pipe = os.open("pipe", os.O_RDWR | os.O_NONBLOCK)
+def open_pipe(name="pipe"):
+    """Holds both ends of a pipe, so that no program waits for them."""
+    pipe = os.open(name, os.O_RDWR | os.O_NONBLOCK)
     try:
         yield pipe
     finally:
@@ -176,13 +174,6 @@ def taken_from(pipe):
         return os.read(pipe, 65536)
     except BlockingIOError:
         return b""
-
-
-def release():
-    """Ends the process that holds a lock, if there is one."""
-    if os.path.exists("../holder"):
-        os.kill(int(held("../holder")), signal.SIGKILL)
-        os.remove("../holder")
 
 
 class Coming:
@@ -203,27 +194,26 @@ class Coming:
         assert subject.there() == self.undisturbed
 
     def numbers(self):
-        """The numbers of the calls at which the act is tried: all calls, unless the act makes a
-        pipe, for which the program would wait if it read STATE later."""
+        """The numbers of the calls at which the act is tried: all, unless the act makes a pipe, for which the program would wait if it read STATE later."""
         is_read = self.act.changes == "a pipe" and self.subject.reads
-        reading = f"open {self.subject.name}"
-        read = [at + 1 for at, call in enumerate(self.calls) if call == reading and is_read]
+        read = [at + 1 for at, call in enumerate(self.calls) if call == f"open {self.subject.name}" and is_read]
         return range(max(read, default=0) + 1, len(self.calls) + 1)
 
     def at(self, number):
         """Runs the program, and does the act at this call. Returns which rule the outcome follows, or which exception."""
-        self.subject.make(self.subject.texts[0])
-        line = self.subject.line(self.act)
+        subject = self.subject
+        subject.make(subject.texts[0])
         with open_pipe() as pipe:
             try:
-                found = met(self.device, number, line, self.subject.command, self.subject.given)
+                found = met(self.device, number, subject.line(self.act), subject.command, subject.given)
             finally:
-                release()
+                # Ends the process that holds a lock, if there is one.
+                if os.path.exists("../holder"):
+                    os.kill(int(held("../holder")), signal.SIGKILL)
+                    os.remove("../holder")
             self.is_in_pipe = taken_from(pipe)
         assert found is not None, "there is no such call"
-        return {
-            "STATE": self.state_changed, "a pipe": self.state_changed, "the lock": self.draft_locked, "the draft": self.draft_changed,
-        }[self.act.changes](found)
+        return {"the lock": self.draft_locked, "the draft": self.draft_changed}.get(self.act.changes, self.state_changed)(found)
 
     def ends(self, found, ended, there, rule, in_pipe=b""):
         """The program has ended in this way, and has left this in its folder."""
@@ -245,8 +235,7 @@ class Coming:
         wanted = (f"statx {self.changed()}", subject.placing)
         uses = [call for call in found.after if call in wanted]
         if uses and uses[0].startswith("rename ") and not self.is_folder(subject.file):
-            there = self.alone | {subject.file: self.stored}
-            return self.ends(found, subject.done, there, "an unseen text")
+            return self.ends(found, subject.done, self.alone | {subject.file: self.stored}, "an unseen text")
         if subject.texts[0] is None:
             return self.came_where_nothing_was(found)
         if subject.reads and not self.has_read(found):
@@ -273,16 +262,14 @@ class Coming:
         if text is None:
             return self.ends(found, DEVICE, self.alone, "refused")
         if text in subject.renews:
-            there = self.alone | {self.leads_to: subject.stores[text]}
-            return self.ends(found, subject.done, there, "read again")
+            return self.ends(found, subject.done, self.alone | {self.leads_to: subject.stores[text]}, "read again")
         return self.came_after_reading(found)
 
     def came_after_reading(self, found):
         """The program is refused, unless it is a desk that then renews."""
         subject, text = self.subject, self.text
         if text in subject.renews and found.looks(subject.name) == 1:
-            there = self.alone | {self.leads_to: subject.renews[text]}
-            return self.ends(found, subject.done, there, "read again")
+            return self.ends(found, subject.done, self.alone | {self.leads_to: subject.renews[text]}, "read again")
         # The program may have read a text that is no state.
         is_bad = text is not None and text not in subject.stores and found.ended.status == 1
         return self.ends(found, found.ended if is_bad else subject.refused, self.alone, "refused")
@@ -293,8 +280,7 @@ class Coming:
         to = links[-1].split()[-1] if links else None
         is_late = found.after[0].startswith("link ")
         if to and to not in self.alone and (is_late or self.leads_to not in self.alone):
-            there = self.alone | {to: self.stored}
-            return self.ends(found, self.subject.done, there, "led elsewhere")
+            return self.ends(found, self.subject.done, self.alone | {to: self.stored}, "led elsewhere")
         return self.ends(found, self.subject.refused, self.alone, "refused")
 
     def came_first(self, found):
@@ -304,17 +290,14 @@ class Coming:
             return self.ends(found, subject.done, self.alone, "first", self.stored)
         if subject.reads and text not in subject.stores or self.is_folder(self.leads_to):
             self.came_before_reading(found)
-        else:
-            there = self.alone | {self.leads_to: subject.stores.get(text, self.stored)}
-            self.ends(found, subject.done, there, "first")
-        return "first"
+            return "first"
+        return self.ends(found, subject.done, self.alone | {self.leads_to: subject.stores.get(text, self.stored)}, "first")
 
     def draft_locked(self, found):
         subject = self.subject
         if found.status:
             return self.ends(found, subject.done, self.undisturbed, "the act fails")
-        before = self.undisturbed | {subject.file: subject.texts[0]}
-        before = {name: text for name, text in before.items() if text is not None}
+        before = {name: text for name, text in (self.undisturbed | {subject.file: subject.texts[0]}).items() if text is not None}
         if f"create {subject.draft}" not in found.before:
             return self.ends(found, subject.refused, before, "refused")
         self.ends(found, subject.refused, before | {subject.draft: b""}, "a locked draft")
@@ -334,10 +317,8 @@ class Coming:
         uses = [call for call in found.after if call.split()[1:2] == [subject.draft]]
         if uses and uses[0].startswith(("rename ", "link ", "unlink ")):
             now = self.subject.there().get(subject.file)
-            wanted = (subject.texts[0], self.stored, self.alone[subject.draft])
-            assert now in wanted, f"neither text, before {found.after[:3]}"
-            ends = [subject.told(ended) for ended in (subject.done, subject.refused)]
-            assert subject.told(found.ended) in ends, found.ended
+            assert now in (subject.texts[0], self.stored, self.alone[subject.draft]), f"neither text, before {found.after[:3]}"
+            assert subject.told(found.ended) in map(subject.told, (subject.done, subject.refused)), found.ended
             return "an unseen draft"
         if found.has_placed(subject.draft):
             return self.ends(found, subject.done, self.last, "last")
@@ -359,19 +340,13 @@ class Coming:
             return {"an unseen text": 1 if self.changed() == subject.file else 2}
         return {}
 
-    def outcomes(self):
-        """Does the act at each call. Returns how many of the outcomes follow each rule or exception."""
-        found = []
+    def is_as_promised(self):
+        """Does the act at each call, counts the outcomes that follow each rule or exception, and checks that no other exceptions occur."""
+        found = collections.Counter()
         for number in self.numbers():
             with named(f"at call {number}"):
-                found.append(self.at(number))
-        return collections.Counter(found)
-
-    def is_as_promised(self):
-        """Does the act at each call, and checks that no other exceptions occur."""
-        found = self.outcomes()
-        met_exceptions = {name: found[name] for name in EXCEPTIONS if found[name]}
-        assert met_exceptions == self.exceptions(), found
+                found[self.at(number)] += 1
+        assert {name: found[name] for name in EXCEPTIONS if found[name]} == self.exceptions(), found
         assert len(found) > 1, found
         # While a draft is there, another command is refused.
         assert self.act is not TWO_COMMANDS or found["the act fails"], found

@@ -1,4 +1,5 @@
 """The answers of a desk, and a desk that is asked line by line."""
+import contextlib
 import os
 import re
 import select
@@ -38,18 +39,26 @@ def written(answers):
     return b"".join(answer.written() for answer in answers)
 
 
+def first_of(text):
+    """The answer with which a text begins, and the rest of the text; None if the answer isn't complete."""
+    if not (header := HEADER.match(text)):
+        holds(f"no header: {text[:80]!r}", len(text) < LONGEST_HEADER)
+        return None
+    status, lines, size = map(int, header.groups())
+    answer, rest = Answer(status, text[header.end():header.end() + size]), text[header.end() + size:]
+    if len(answer.text) < size:
+        return None
+    same("lines of an answer", answer.text.count(b"\n"), lines)
+    return answer, rest
+
+
 def answers_in(output):
     """The answers in an output."""
     answers = []
     while output:
-        header = HEADER.match(output)
-        holds(f"no header: {output[:80]!r}", header)
-        status, lines, size = map(int, header.groups())
-        text = output[header.end():header.end() + size]
-        same("bytes of an answer", len(text), size)
-        same("lines of an answer", text.count(b"\n"), lines)
-        answers.append(Answer(status, text))
-        output = output[header.end() + size:]
+        holds(f"no whole answer: {output[:80]!r}", found := first_of(output))
+        answer, output = found
+        answers.append(answer)
     return answers
 
 
@@ -64,17 +73,13 @@ def desk(*words, given=b"", **options):
     return run([DESK, *words], given, **options)
 
 
-class Desk:
+class Desk(contextlib.AbstractContextManager):
     """A desk that is asked line by line."""
 
     def __init__(self, *words, program=(), **options):
         pipes = {"stdin": subprocess.PIPE, "stdout": subprocess.PIPE, "stderr": subprocess.PIPE}
-        command = [*program, DESK, *words]
-        self.process = subprocess.Popen(command, bufsize=0, **(pipes | options))
+        self.process = subprocess.Popen([*program, DESK, *words], bufsize=0, **(pipes | options))
         self.held = b""
-
-    def __enter__(self):
-        return self
 
     def __exit__(self, *_):
         self.process.kill()
@@ -97,16 +102,10 @@ class Desk:
 
     def answer(self):
         """The next answer."""
-        while not (header := HEADER.match(self.held)):
-            holds(f"no header: {self.held[:80]!r}", len(self.held) < LONGEST_HEADER)
-            holds(f"it ended after {self.held!r}", self.more())
-        status, lines, size = map(int, header.groups())
-        end = header.end() + size
-        while len(self.held) < end:
-            holds("it ended within an answer", self.more())
-        text, self.held = self.held[header.end():end], self.held[end:]
-        same("lines of an answer", text.count(b"\n"), lines)
-        return Answer(status, text)
+        while not (found := first_of(self.held)):
+            holds(f"it ended after {self.held[:80]!r}", self.more())
+        answer, self.held = found
+        return answer
 
     def ask(self, line):
         self.say(line.encode() + b"\n")

@@ -35,9 +35,7 @@ class Plan(typing.NamedTuple):
 
 def half_minutes(field):
     """The time in a field of five characters; None if it is blank."""
-    if not field.strip():
-        return None
-    return 2 * (60 * int(field[:2]) + int(field[2:4])) + (field[4] == "H")
+    return 2 * (60 * int(field[:2]) + int(field[2:4])) + (field[4] == "H") if field.strip() else None
 
 
 def times_of(line):
@@ -112,10 +110,6 @@ def columns_at(line, kind):
             return line[19:22], "", line[22:25], line[15:19]
 
 
-def shown(public):
-    return "" if public == "0000" else public
-
-
 def front(time, kind, identity, uid, stp, at):
     """The first columns of a docker line: those before the platform."""
     clock = f"{time // 120:02}{time // 2 % 60:02}{'H' if time % 2 else ' '}"
@@ -140,16 +134,10 @@ def rows_of_train(plan, place, day, uid, start):
         if at[2:9] != place or start + event.midnights * ONE_DAY != day:
             continue
         platform, track, path, public = columns_at(at, event.kind)
-        text = front(event.time, event.kind, identity_at(lines, event), uid, stp, at) + f"{platform:3} {track:3} {path:3} {shown(public):4} {ends}"
+        text = front(event.time, event.kind, identity_at(lines, event), uid, stp, at)
+        text += f"{platform:3} {track:3} {path:3} {public if public != '0000' else '':4} {ends}"
         rank = (event.time, ORDER.index(event.kind), uid, start, event.number, "")
         yield rank, text + origin(start, event, lines, None)
-
-
-def partner_identity(plan, association, start):
-    """The identity of the associated train."""
-    day = start + {"N": 1, "P": -1}.get(association[36], 0) * ONE_DAY
-    train = train_on(plan, association[9:15], day)
-    return train[1][0][32:36] if train else "????"
 
 
 def rows_of_group(plan, day, group, start):
@@ -163,10 +151,10 @@ def rows_of_group(plan, day, group, start):
     event = next((it for it in events_of(lines) if lines[it.at][2:10] == place + suffix), None)
     if not kind or association[36] not in "S NP" or not event or start + event.midnights * ONE_DAY != day:
         return
-    at = lines[event.at]
-    platform = columns_at(at, event.kind)[0]
+    at, of_partner = lines[event.at], train_on(plan, partner, start + {"N": 1, "P": -1}.get(association[36], 0) * ONE_DAY)
+    identity = of_partner[1][0][32:36] if of_partner else "????"
     text = front(event.time, kind, identity_at(lines, event), base, association[79], at)
-    text += f"{platform:3}{'':14}{partner}  {partner_identity(plan, association, start)}   "
+    text += f"{columns_at(at, event.kind)[0]:3}{'':14}{partner}  {identity}   "
     rank = (event.time, ORDER.index(kind), base, start, event.number, partner)
     yield rank, text + origin(start, event, lines, association)
 

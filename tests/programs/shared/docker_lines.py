@@ -5,8 +5,7 @@ import re
 from programs import ROOT
 
 CONSTANT = re.compile(r'^pub const (\w+): &\[u8\] =\s+b"(.{56})";$', re.MULTILINE)
-SOURCE = ROOT / "crates/test_records/src/dockers.rt"
-LINES = dict(CONSTANT.findall(SOURCE.read_text(encoding="utf-8")))
+LINES = dict(CONSTANT.findall((ROOT / "crates/test_records/src/dockers.rt").read_text(encoding="utf-8")))
 # The docker of COLWELL on 11 June 2024, for `examples/association.cif`.
 EVENING_AT_COLWELL = (
     "0004H A 1C65 C60005 P   2           0005 ASHFELD DUNMERE",

@@ -2,6 +2,7 @@
 They also have the counts of everything that is live, and the schedule of a UID that runs on a day.
 
 It follows docs/FORMATS.md and shares nothing with the program. Files are a tuple of their texts, and a horizon is a date."""
+import collections
 import datetime
 import functools
 import typing
@@ -114,12 +115,8 @@ def live_of(files, horizon=FIRST_DAY):
 
 def counts_of(live):
     """For each TIPLOC, the number of live schedules that have a location record there."""
-    counts = {}
-    for key, lines in live.items():
-        if key[0] == "3":
-            for code in {line[2:9] for line in lines if line[:2] in LOCATIONS}:
-                counts[code] = counts.get(code, 0) + 1
-    return counts
+    calls = ({line[2:9] for line in lines if line[:2] in LOCATIONS} for key, lines in live.items() if key[0] == "3")
+    return collections.Counter(code for codes in calls for code in codes)
 
 
 @functools.cache
@@ -130,7 +127,7 @@ def places_text(files, horizon=FIRST_DAY):
     text = ""
     for key in sorted(key for key in live if key[0] == "1"):
         code, line = key[1], live[key][0]
-        text += f"{code} {line[53:56]} {line[44:49]} {line[18:44]} {counts.get(code, 0):10}\n"
+        text += f"{code} {line[53:56]} {line[44:49]} {line[18:44]} {counts[code]:10}\n"
     return text.encode()
 
 

@@ -1,6 +1,7 @@
 """Runs something else just before one of a program's calls of the file system (tests/device).
 
 So the work of another program is tried between any two calls, and doesn't depend on luck."""
+import contextlib
 import fcntl
 import itertools
 import os
@@ -30,8 +31,7 @@ class Met(typing.NamedTuple):
 
 def met(library, number, line, command, given=b""):
     """Runs a program, and this line of the shell just before its call with this number. Returns None if the program makes fewer calls."""
-    settings = {"CALLS": "calls", "MEET_AT": number, "MEET": line}
-    ended = run(["timeout", "10", *preloading(library, **settings), *command], given)
+    ended = run(["timeout", "10", *preloading(library, CALLS="calls", MEET_AT=number, MEET=line), *command], given)
     # The program names some files by their absolute paths.
     noted = held("calls").decode().replace(f"{os.path.realpath('.')}/", "")
     os.remove("calls")
@@ -49,25 +49,16 @@ def calls_of(library, command, given=b""):
 
 def at_each_call(trial):
     """Calls `trial` with 1, 2, 3 and so on, until it returns None. Returns all that it returned before."""
-    found = []
-    for number in itertools.count(1):
+    def named_trial(number):
         with named(f"at call {number}"):
-            outcome = trial(number)
-        if outcome is None:
-            return found
-        found.append(outcome)
+            return trial(number)
 
-
-def what_is(name):
-    """The target of a link, the text of a file, or the mode of anything else."""
-    if os.path.islink(name):
-        return os.readlink(name)
-    return held(name) if os.path.isfile(name) else os.stat(name).st_mode
+    return list(itertools.takewhile(lambda outcome: outcome is not None, map(named_trial, itertools.count(1))))
 
 
 def all_that_is_there():
-    """The content of the folder, by name."""
-    return {name: what_is(name) for name in os.listdir()}
+    """The content of the folder, by name: the target of a link, the text of a file, or the mode of anything else."""
+    return {it.name: os.readlink(it) if it.is_symlink() else held(it) if it.is_file() else it.stat().st_mode for it in os.scandir()}
 
 
 # Files that may have the name of a draft: whether a running command has locked the file, and its mode. A draft has a mark until it is in place.
@@ -78,7 +69,7 @@ DRAFTS = {
 }
 
 
-class Draft:
+class Draft(contextlib.AbstractContextManager):
     """The file `draft`, which will get the name of a draft."""
 
     TEXT = b"DKS2 a draft"
@@ -91,14 +82,24 @@ class Draft:
             fcntl.flock(self.file, fcntl.LOCK_EX)
         self.seen = os.fstat(self.file)
 
-    def __enter__(self):
-        return self
-
     def __exit__(self, *_):
         os.close(self.file)
 
     def is_under(self, name):
         """Checks that the file has this name and is unchanged."""
         now = os.lstat(name)
-        assert (now.st_ino, now.st_mode) == (self.seen.st_ino, self.seen.st_mode)
-        assert held(name) == self.TEXT
+        assert (now.st_ino, now.st_mode, held(name)) == (self.seen.st_ino, self.seen.st_mode, self.TEXT)
+
+
+def replaces_a_new_draft(device, state, draft, command, given, wanted):
+    """At each call from the making of a draft to its last look or lock, another draft takes its place. The program has to end like this, and leave all as it is."""
+    before, new = held(state), f"{state}.new"
+    calls = calls_of(device, command, given)
+    last = max(at for at, call in enumerate(calls) if call in ("flock", f"statx {new}"))
+    for number in range(calls.index(f"create {new}") + 2, last + 2):
+        give(before, state)
+        with Draft(*draft) as other:
+            found = met(device, number, f"mv -f draft {new}", command, given)
+            assert (found.ended, found.status, held(state)) == (wanted, 0, before)
+            other.is_under(new)
+        os.remove(new)

@@ -8,7 +8,7 @@ import desk_extracts as extracts
 import lists
 from checks import same
 from desks import DAY_REFUSED, DEVICE, DONE, NOT_SAVED, NOTHING, Answer, Desk, docker, ends_well
-from programs import give
+from programs import give, held
 from records import extract, header
 
 # The given states: the files that each knows, and its horizon.
@@ -33,10 +33,8 @@ def given(name):
 
 def ran(text, command, *words):
     """Runs a command of `docker` on a state of this text. Returns its answer, and the state's text after it."""
-    state = CHANGED / "held"
-    state.write_bytes(text)
-    answer = docker(command, str(state), *words)
-    return answer, state.read_bytes()
+    give(text, CHANGED / "held")
+    return docker(command, str(CHANGED / "held"), *words), held(CHANGED / "held")
 
 
 @functools.cache
@@ -48,24 +46,21 @@ def by_docker(text, command, *words):
 @functools.cache
 def joined(text, other):
     """Merges a state of another text, and returns what `ran` returns."""
-    path = CHANGED / "other"
-    path.write_bytes(other)
-    return ran(text, "merge", str(path))
+    give(other, CHANGED / "other")
+    return ran(text, "merge", str(CHANGED / "other"))
 
 
 @functools.cache
 def empty():
-    path = CHANGED / "new"
-    same("docker new", docker("new", str(path)), DONE)
-    return path.read_bytes()
+    same("docker new", docker("new", str(CHANGED / "new")), DONE)
+    return held(CHANGED / "new")
 
 
 @functools.cache
 def state_of(*names, horizon=""):
     """The text of the state that knows these good files and a horizon."""
     text = empty()
-    commands = [("take", given(name)) for name in names]
-    for words in commands + ([("horizon", horizon)] if horizon else []):
+    for words in [("take", given(name)) for name in names] + ([("horizon", horizon)] if horizon else []):
         answer, text = by_docker(text, *words)
         same(f"docker {words}", answer, DONE)
     return text
@@ -104,35 +99,24 @@ class Mirror:
         match verb:
             case "print" | "files":
                 return by_docker(self.text, verb, *words)[0]
-            case "train":
-                return self.train(*words)
-            case "places" | "known":
-                return self.listed(verb)
+            case "train" | "places" | "known":
+                return self.listed(verb, *words)
             case "take" | "merge" | "horizon":
                 return self.change(verb, words[0])
-            case "renew":
-                return self.renew()
-            case "save":
-                return self.save()
+            case "renew" | "save":
+                return getattr(self, verb)()
 
     def agrees(self, asked, *lines):
         """Asks a desk these lines, and compares its answers."""
         for line in lines:
             same(f"the answer to {line}", asked.ask(line), self.answer(*line.split()))
 
-    def train(self, uid, date):
+    def listed(self, verb, *words):
         names, horizon = self.known
-        if date < horizon:
-            return DAY_REFUSED
-        files = tuple(sorted(extracts.GOOD[name] for name in names))
-        return Answer(0, lists.train_text(files, uid, date))
-
-    def listed(self, verb):
-        names, horizon = self.known
-        files = tuple(sorted(extracts.GOOD[name] for name in names))
-        day = datetime.date.fromisoformat(horizon) if horizon else lists.FIRST_DAY
-        text = lists.places_text if verb == "places" else lists.known_text
-        return Answer(0, text(files, day))
+        files, day = tuple(sorted(extracts.GOOD[name] for name in names)), datetime.date.fromisoformat(horizon or "1960-01-01")
+        if verb == "train":
+            return DAY_REFUSED if words[1] < horizon else Answer(0, lists.train_text(files, *words))
+        return Answer(0, {"places": lists.places_text, "known": lists.known_text}[verb](files, day))
 
     def learn(self, names, horizon):
         self.known = self.known[0] | set(names), max(self.known[1], horizon)
@@ -142,7 +126,7 @@ class Mirror:
         answer, text = by_docker(self.text, verb, path)
         if answer == DONE:
             self.text, self.is_unsaved = text, True
-            self.learn(*learned(verb, word))
+            self.learn(*{"take": ([word], ""), "merge": STATES.get(word), "horizon": ([], word)}[verb])
         return answer
 
     def renew(self):
@@ -162,10 +146,9 @@ class Mirror:
 
     def take_beside(self, name):
         """Another `docker take` puts a file into STATE."""
-        _, self.stored = by_docker(self.stored, "take", given(name))
-        self.stored_known = self.stored_known[0] | {name}, self.stored_known[1]
-        self.past.append((self.stored, self.stored_known))
-        self.is_seen = False
+        _, stored = by_docker(self.stored, "take", given(name))
+        self.past.append((stored, (self.stored_known[0] | {name}, self.stored_known[1])))
+        self.put_back(-1)
 
     def put_back(self, number):
         """Another program puts back a text that STATE held before."""
@@ -177,35 +160,20 @@ class Mirror:
         return (1, NOT_SAVED) if self.is_unsaved else (0, b"")
 
 
-def learned(verb, word):
-    """The files and the horizon that became known by a change that was done."""
-    match verb:
-        case "take":
-            return [word], ""
-        case "merge":
-            return STATES[word]
-    return [], word
-
-
 # Desks over a STATE that knows these good files and this horizon.
 
 
 @contextlib.contextmanager
-def reading(*names, horizon=""):
+def reading(*names, horizon="", words=("STATE",), **options):
     """A desk that only reads. It has to end well."""
     give(state_of(*names, horizon=horizon))
-    with Desk("STATE") as asked:
+    with Desk(*words, **options) as asked:
         yield asked
         ends_well(asked)
 
 
-@contextlib.contextmanager
-def writing(*names, horizon="", **options):
-    """A desk that may write. It has to end well, with nothing unsaved."""
-    give(state_of(*names, horizon=horizon))
-    with Desk("--write", "STATE", **options) as asked:
-        yield asked
-        ends_well(asked)
+# A desk that may write. It has to end well, with nothing unsaved.
+writing = functools.partial(reading, words=("--write", "STATE"))
 
 
 @contextlib.contextmanager

@@ -33,8 +33,7 @@ def accepted(records, changes):
 
 def docker_text(place, date, *lines, name=""):
     """The text of a docker. Each line has 56 characters and a line feed."""
-    texts = [f"DOCKER {place:7} {date} {name:26}", *lines, "END"]
-    return "".join(f"{text:56}\n" for text in texts).encode()
+    return "".join(f"{text:56}\n" for text in [f"DOCKER {place:7} {date} {name:26}", *lines, "END"]).encode()
 
 
 def prints(place, date, *lines, name=""):

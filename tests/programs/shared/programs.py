@@ -48,6 +48,16 @@ def docker(*words, before=(), **options):
     return run([*before, DOCKER, *words], **options)
 
 
+def piped(line, *words, **options):
+    """Runs a command of `docker` whose standard input is a pipe from this line of the shell."""
+    with subprocess.Popen(["setsid", "sh", "-c", line], stdout=subprocess.PIPE) as source:
+        try:
+            return docker(*words, stdin=source.stdout, **options)
+        finally:
+            source.stdout.close()
+            source.terminate()
+
+
 def in_memory(kilobytes):
     """The words that run the program with at most this much memory."""
     return ("prlimit", f"--as={kilobytes * 1024}")
@@ -65,8 +75,7 @@ def on_disk(kilobytes):
 
 def ended_on_disk(kilobytes):
     """The words that let a file grow only to this size. A write beyond it kills the program."""
-    limits = ("prlimit", f"--fsize={kilobytes * 1024}", "--core=0")
-    return ("env", "--default-signal=XFSZ", *limits)
+    return ("env", "--default-signal=XFSZ", "prlimit", f"--fsize={kilobytes * 1024}", "--core=0")
 
 
 def redirected(text):
@@ -80,15 +89,12 @@ CLOSED = ["<&-", ">&-", "2>&-", "<&- >&-", "<&- 2>&-", ">&- 2>&-", "<&- >&- 2>&-
 
 def preloading(library, **settings):
     """The words that run the program with this library and these settings for it."""
-    words = [f"{name}={value}" for name, value in settings.items()]
-    return ("env", f"LD_PRELOAD={library}", *words)
+    return ("env", f"LD_PRELOAD={library}", *(f"{name}={value}" for name, value in settings.items()))
 
 
 def as_nobody():
     """The words that run the program as a user that may not write anywhere, if this user may do so."""
-    if os.getuid():
-        return ()
-    return ("setpriv", "--reuid=65534", "--regid=65534", "--clear-groups")
+    return () if os.getuid() else ("setpriv", "--reuid=65534", "--regid=65534", "--clear-groups")
 
 
 def builds():
@@ -139,6 +145,12 @@ def give(text, name="STATE"):
     """Makes a file with this text."""
     pathlib.Path(name).write_bytes(text)
     return text
+
+
+def renames(text, name="STATE"):
+    """A new file with this text takes the place of a file."""
+    give(text, "renamed")
+    os.replace("renamed", name)
 
 
 def held(name="STATE"):

@@ -1,5 +1,5 @@
-use Rattle.docker_program.proofs.TwoOfficesSteps.{exchanged}
-use Rattle.docker_program.proofs.two_offices.exchange.Goals as goal
+use Rattle.offices_agree.proofs.TwoOfficesSteps.{exchanged}
+use Rattle.offices_agree.proofs.two_offices.exchange.Goals as goal
 
 -- src/two_offices.rt:62:1
 pub returns-clause-learn : goal.returns-clause-learn

@@ -25,8 +25,8 @@ use Rattle.cif_laws.proofs.lists.Membership.{Contains-cons, Contains-single, con
 use Rattle.cif_laws.proofs.orders.Orders.{exact_key}
 use Rattle.state_laws.proofs.states.OneJoin.{docker_unique}
 use Rattle.state_laws.proofs.states.OnePlainTable.{one_plain_table}
-use Rattle.docker_program.proofs.TwoOfficesFiles.{full_file, update_file, first_key, second_key, second_schedule, revised_schedule, place}
-use Rattle.docker_program.proofs.TwoOfficesFiles.{first_schedule, description, changes_of_full, changes_of_update}
+use Rattle.offices_agree.proofs.TwoOfficesFiles.{full_file, update_file, first_key, second_key, second_schedule, revised_schedule, place}
+use Rattle.offices_agree.proofs.TwoOfficesFiles.{first_schedule, description, changes_of_full, changes_of_update}
 
 -- ---- the plain table of the two files
 

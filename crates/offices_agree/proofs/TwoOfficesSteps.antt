@@ -25,15 +25,15 @@ use Rattle.docker_program.specs.SourceNames.{SourceNames, file_and_input, first_
 use Rattle.docker_program.specs.Sources.{SourcesRead, with_files_read, with_look_at}
 use Rattle.docker_program.specs.Program.{Performs, Tells, ending_status}
 use Rattle.docker_program.specs.Commands.{HoldsKnown, IsDone, IsKnownText, Prints, PrintsKnown, Run, Stores, of_file}
-use Rattle.docker_program.specs.TwoOffices.{HaveNotFailed, KnowBoth, LearnBoth}
+use Rattle.offices_agree.specs.TwoOffices.{HaveNotFailed, KnowBoth, LearnBoth}
 use Rattle.docker_program.proofs.CommandLemmas.{prints_known, stores_known}
 use Rattle.docker_program.proofs.EndingLemmas.{run_done}
 use Rattle.cif_laws.proofs.lists.Membership.{Contains-cons, Contains-single, cons-Contains, cons-Contains-first}
 use Rattle.jiff_core.specs.Calendar.{days_from_civil, day_count, days_of_years, days_of_months}
 use Rattle.docker_model.specs.run.Knowledge.{HaveSameFiles}
 use Rattle.docker_program.proofs.VersionLemmas.{plain_known_docker}
-use Rattle.docker_program.proofs.TwoOfficesFiles.{full_file, full_is, full_text, place, update_file, update_is, update_text}
-use Rattle.docker_program.proofs.TwoOfficesDocker.{both, both_distinct, text_of_both, the_docker}
+use Rattle.offices_agree.proofs.TwoOfficesFiles.{full_file, full_is, full_text, place, update_file, update_is, update_text}
+use Rattle.offices_agree.proofs.TwoOfficesDocker.{both, both_distinct, text_of_both, the_docker}
 
 -- ---- no device has failed
 
@@ -63,11 +63,11 @@ stay_sound words old new sound performs = record {
 
 -- ---- the texts on a shelf
 
-after_append : (texts : Texts) (events more : List Event) → after_events texts (events ++ more) ≡ after_events (after_events texts events) more
+pub after_append : (texts : Texts) (events more : List Event) → after_events texts (events ++ more) ≡ after_events (after_events texts events) more
 after_append texts [] more = refl
 after_append texts (event ∷ events) more = after_append (after_event texts event) events more
 
-met_behind : (texts : Texts) (events more : List Event) → AreMet texts (events ++ more) → AreMet (after_events texts events) more
+pub met_behind : (texts : Texts) (events more : List Event) → AreMet texts (events ++ more) → AreMet (after_events texts events) more
 met_behind texts [] more met = met
 met_behind texts (event ∷ events) more met = met_behind (after_event texts event) events more met.1
 
@@ -79,7 +79,7 @@ pub record IsGained (old new : HostView) (name : Text) (known : Known) : Type 0 
   pub texts : text_under new.history ≡ with_text name text (text_under old.history)
   pub unprinted : new.output ≡ old.output
 
-met_front : (texts : Texts) (events more : List Event) → AreMet texts (events ++ more) → AreMet texts events
+pub met_front : (texts : Texts) (events more : List Event) → AreMet texts (events ++ more) → AreMet texts events
 met_front texts [] more met = tt
 met_front texts (event ∷ events) more met = (met.0, met_front (after_event texts event) events more met.1)
 
@@ -132,10 +132,10 @@ abbrev behind : List Text → List Text
 behind [] = []
 behind (word ∷ words) = words
 
-none_some : (name : Text) → ◌≡◌ {A = Option Text} None (Some name) → ⊥
+pub none_some : (name : Text) → ◌≡◌ {A = Option Text} None (Some name) → ⊥
 none_some name is = cc
 
-some_name : (one two : Text) → ◌≡◌ {A = Option Text} (Some one) (Some two) → one ≡ two
+pub some_name : (one two : Text) → ◌≡◌ {A = Option Text} (Some one) (Some two) → one ≡ two
 some_name one two same = cc
 
 -- if the first word is `new`, the task is `new_task`
@@ -334,7 +334,7 @@ pub record IsPrinted (old new : HostView) (known : Known) (place : List ℕ) (da
   pub kept : text_under new.history ≡ text_under old.history
 
 -- the word names only one place, if it has seven bytes
-one_place : (word place : List ℕ) → length word ≡ 7 → NamesPlace word place → place ≡ word
+pub one_place : (word place : List ℕ) → length word ≡ 7 → NamesPlace word place → place ≡ word
 one_place word place long names =
     names.padded ∙ ap (λ (n : ℕ). word ++ spaces n) (let none : 7 - length word ≡ 0 = omega arith in none) ∙ append-nil word
 
@@ -415,11 +415,11 @@ abbrev pub update_name : Text
 update_name = codes "update.cif"
 
 -- the shelf has both files
-record HasBoth (host : HostView) (full update : List (List ℕ)) : Type 0 where
+pub record HasBoth (host : HostView) (full update : List (List ℕ)) : Type 0 where
   pub first : HoldsFile (text_under host.history full_name) full
   pub second : HoldsFile (text_under host.history update_name) update
 
-still_both : (old new : HostView) (name : Text) (known : Known) (full update : List (List ℕ)) → IsGained old new name known
+pub still_both : (old new : HostView) (name : Text) (known : Known) (full update : List (List ℕ)) → IsGained old new name known
     → bytes_eq name full_name ≡ false → bytes_eq name update_name ≡ false → HasBoth old full update → HasBoth new full update
 still_both old new name known full update gains one two has = record {
   first = keeps (λ (b : Bytes). HoldsFile b full) old new name full_name known gains one has.first;
@@ -427,7 +427,7 @@ still_both old new name known full update gains one two has = record {
 }
 
 -- an office that knows a full extract, and an update twice, knows these two files
-same_files : (full update : List (List ℕ)) → HaveSameFiles (full ∷ update ∷ []) (full ∷ update ∷ update ∷ [])
+pub same_files : (full update : List (List ℕ)) → HaveSameFiles (full ∷ update ∷ []) (full ∷ update ∷ update ∷ [])
 same_files full update file = (
   λ among. there (Contains-cons full (update ∷ []) file among),
   λ among. back (Contains-cons full (update ∷ update ∷ []) file among),
@@ -548,7 +548,7 @@ exchanged a b c d e f g h j k to_b to_c to_d to_e to_f to_g to_h to_j to_k full 
 -- ---- what both offices print
 
 -- an office that knows both files prints the docker of their plain table
-printed_both : (old new : HostView) (known : Known) → HaveSameFiles both known.files → old.output ≡ Some [] → IsPrinted old new known place 23537
+pub printed_both : (old new : HostView) (known : Known) → HaveSameFiles both known.files → old.output ≡ Some [] → IsPrinted old new known place 23537
     → new.output ≡ Some the_docker
 printed_both old new known same empty printed =
     subst (λ (o : Bytes). Takes o printed.text new.output) empty printed.takes ∙ ap Some text_is
@@ -558,7 +558,7 @@ printed_both old new known same empty printed =
         let plain = plain_known_docker known place 23537 printed.text printed.is (both_distinct known.files same) in
         text_of_both known.files plain.0 printed.text same plain.1 plain.2
 
-date_is : date_number (digits_in (codes "2024-06-10")) ≡ 23537
+pub date_is : date_number (digits_in (codes "2024-06-10")) ≡ 23537
 unfolding days_from_civil day_count days_of_years days_of_months
 date_is = refl
 
@@ -587,15 +587,6 @@ both_print a k m n p full update empty learn to_m same fresh to_p = (
 
     second : IsPrinted n p knows.south.known place 23537
     second = print_shows south place (codes "2024-06-10") 23537 knows.south.known n p refl refl date_is to_p.1 south_n to_p.0
-
--- the two files on a new shelf
-pub on_shelf : (events : List Event) (full update : List ℕ) → events ≡ placed full_name (Some full) ∷ placed update_name (Some update) ∷ []
-    → full ≡ full_text → update ≡ update_text
-    → (text_under events full_name ≡ Some full_text) × (text_under events update_name ≡ Some update_text)
-on_shelf events full update put one two = (
-  ap (λ (es : List Event). text_under es full_name) put ∙ ap Some one,
-  ap (λ (es : List Event). text_under es update_name) put ∙ ap Some two,
-)
 
 -- both sinks have taken the docker
 pub sinks_agree : (one two : List ℕ) (first second : Bytes) → Some one ≡ first → Some two ≡ second → (first ≡ Some the_docker) × (second ≡ Some the_docker)

@@ -1,0 +1,545 @@
+-- What a session of the desk on `north` leaves in its folder, and what it answers.
+use Rattle.std.proofs.Common.{◌≡◌, ℕ, ◌+◌, ◌<◌, Bool, true, false, List, [], ◌∷◌, ◌++◌, length, refl, sym, ◌∙◌, ap, subst, arith, append-nil}
+use Rattle.std.proofs.Common.{Some, None, Ok, Err, inl, inr, codes}
+use Rattle.std.specs.Prelude.{Option, Result, ⊤, decimal, slice_index}
+use Rattle.std.proofs.lemmas.Fmt.{decimal_digit}
+use Rattle.std.proofs.lemmas.List.Sums.{AllPass-from_list_all}
+use Rattle.docker_model.specs.records.Record.{is_printable}
+use Rattle.docker_model.specs.state.Lapse.{IsDayRefused}
+use Rattle.docker_model.specs.state.State.{State}
+use Rattle.docker_model.specs.state.StateText.{dks_2, state_text}
+use Rattle.docker_model.specs.run.Run.{Known, united}
+use Rattle.cif_line.proofs.DateFields.{digits_in-day_text}
+use Rattle.docker_host.specs.Folder.{FolderView}
+use Rattle.docker_host.specs.History.{Bytes, Event, Text, closed, drafted, looked, opened, placed}
+use Rattle.docker_host.specs.SessionHost.{SessionHostView}
+use Rattle.docker_host.specs.Shelf.{IsShelfHistory, no_texts, text_under}
+use Rattle.docker_bytes.specs.SourceRead.{JoinsState}
+use Rattle.docker_office.specs.declared.fault.OfficeFault.{OfficeFault}
+use Rattle.docker_office.specs.declared.fault.OfficeFault.TheVariants as office
+use Rattle.docker_cmd.specs.FaultLine.{IsCounted, status_of}
+use Rattle.docker_cmd.specs.JobLine.{words_in}
+use Rattle.docker_cmd.specs.Prepared.{most_bytes}
+use Rattle.docker_cmd.specs.Words.{OfTwo}
+use Rattle.docker_cmd.specs.declared.fault.Fault.TheVariants.{Office}
+use Rattle.docker_program.specs.Commands.{HoldsKnown, PrintsKnown}
+use Rattle.docker_program.proofs.CommandLemmas.{IsKnown, known_held, known_joined, known_text}
+use Rattle.docker_desk.specs.Answers.{answer_text, line_count}
+use Rattle.docker_desk.specs.Lines.{AreLines, LineView, whole_line}
+use Rattle.docker_desk.specs.Requests.{ArePlaceAndDay, HasRest, IsRequestOf, RequestView, after_word, first_word, name_of, verb_named, verb_of}
+use Rattle.docker_desk.specs.Requests.{print_request, permanent_request, detail_request, permanent_detail_request, train_request, trains_request, files_request}
+use Rattle.docker_desk.specs.Requests.{places_request, known_request, renew_request, take_request, merge_request, horizon_request, save_request}
+use Rattle.docker_desk.specs.declared.requests.Verb.{Verb}
+use Rattle.docker_desk.specs.declared.requests.Verb.TheVariants as verb
+use Rattle.docker_desk.specs.Desk.{DeskView, EndsReceiving, EndsSaving, IsDockerAnswer}
+use Rattle.docker_desk.specs.Reading.{Reading, StopsInState, opening_of}
+use Rattle.docker_desk.specs.Replies.{AnswerView, answer_body, answer_bytes, answer_status, done_with, no_request, refused_for}
+use Rattle.docker_desk.specs.SessionViews.{SessionView, Setting, Step, setting}
+use Rattle.docker_desk.specs.Doing.{AreSteps, AsksOf, DoesAsked, DoesRequest, IsStep, Joins, Saves, answer_of, desk_by}
+use Rattle.docker_desk.specs.Answering.{EndsSession, answers_text, lines_of}
+use Rattle.docker_desk.specs.Serving.{BeginsAt, IsServed, Serves, ending_status, session_words}
+use Rattle.docker_desk.specs.declared.ending.Ending.{Ending}
+use Rattle.docker_desk.specs.declared.ending.Ending.TheVariants.{Ended, InputFailed, InputEndless, OutputFailed}
+use Rattle.offices_agree.specs.DeskAndOffice.{AreDone, IsServedNorth}
+use Rattle.offices_agree.proofs.TwoOfficesFiles.{place}
+use Rattle.offices_agree.proofs.TwoOfficesSteps.{after_append, date_is, met_behind, met_front, north, one_place, south}
+
+-- ---- the lines of the input
+
+abbrev merge_line : List ℕ
+merge_line = codes "merge south"
+
+abbrev save_line : List ℕ
+save_line = codes "save"
+
+abbrev print_line : List ℕ
+print_line = codes "print ASHFELD 2024-06-10"
+
+abbrev pub session_input : List ℕ
+session_input = codes "merge south\nsave\nprint ASHFELD 2024-06-10\n"
+
+abbrev three_lines : List LineView
+three_lines = whole_line merge_line ∷ whole_line save_line ∷ whole_line print_line ∷ []
+
+lines_are : AreLines session_input three_lines
+lines_are = (
+  codes "save\nprint ASHFELD 2024-06-10\n",
+  (
+    record { whole = refl; line_text = record { short = omega arith; printable = AllPass-from_list_all is_printable merge_line refl } },
+    (
+      codes "print ASHFELD 2024-06-10\n",
+      (
+        record { whole = refl; line_text = record { short = omega arith; printable = AllPass-from_list_all is_printable save_line refl } },
+        (
+          [],
+          (record { whole = refl; line_text = record { short = omega arith; printable = AllPass-from_list_all is_printable print_line refl } }, refl),
+        ),
+      ),
+    ),
+  ),
+)
+
+-- a text divides into lines in only one way
+abbrev pub HasOneReading : Type 0
+HasOneReading = (text : List ℕ) (lines others : List LineView) → AreLines text lines → AreLines text others → lines ≡ others
+
+-- ---- the requests of the lines
+
+named_back : (v : Verb) → verb_named (name_of v) ≡ Some v
+unfolding verb_named
+named_back verb.Print = refl
+named_back verb.Permanent = refl
+named_back verb.Detail = refl
+named_back verb.PermanentDetail = refl
+named_back verb.Train = refl
+named_back verb.Trains = refl
+named_back verb.Files = refl
+named_back verb.Places = refl
+named_back verb.Known = refl
+named_back verb.Renew = refl
+named_back verb.Take = refl
+named_back verb.Merge = refl
+named_back verb.Horizon = refl
+named_back verb.Save = refl
+
+-- what a request with this verb and this rest of its line is, for the verbs of the input
+abbrev IsWith : Verb → List ℕ → RequestView → Type 0
+IsWith verb.Merge rest request = request ≡ merge_request rest
+IsWith verb.Save rest request = request ≡ save_request
+IsWith verb.Print rest request =
+    (place : List ℕ) × ((day : ℕ) × ((request ≡ print_request place day) × OfTwo (ArePlaceAndDay place day) (words_in rest)))
+IsWith _ rest request = ⊤
+
+is_with : (rest : List ℕ) (request : RequestView) → HasRest request rest → IsWith (verb_of request) rest request
+is_with rest (merge_request other) has = ap merge_request has.same
+is_with rest save_request has = refl
+is_with rest (print_request there day) has = (there, (day, (refl, has)))
+is_with rest (permanent_request there day) has = tt
+is_with rest (detail_request there day) has = tt
+is_with rest (permanent_detail_request there day) has = tt
+is_with rest (train_request uid day) has = tt
+is_with rest (trains_request identity day) has = tt
+is_with rest files_request has = tt
+is_with rest places_request has = tt
+is_with rest known_request has = tt
+is_with rest renew_request has = tt
+is_with rest (take_request file) has = tt
+is_with rest (horizon_request day) has = tt
+
+-- the first word of a line determines the verb of its request
+with_verb : (line : List ℕ) (v : Verb) (request : RequestView) → first_word line ≡ name_of v → IsRequestOf true line request
+    → IsWith v (after_word line) request
+with_verb line v request first is = subst (λ (u : Verb). IsWith u (after_word line) request) same (is_with (after_word line) request is.rest)
+  where
+    same : verb_of request ≡ v
+    same =
+        let both : Some (verb_of request) ≡ Some v = sym (named_back (verb_of request)) ∙ ap verb_named (sym is.name ∙ first) ∙ named_back v in cc
+
+-- ---- the answers
+
+-- the first byte of an answer is the digit of its status
+first_digit : (status : ℕ) (text more : List ℕ) → status < 10 → slice_index (answer_text status text ++ more) 0 ≡ 48 + status
+first_digit status text more small =
+    ap (λ (digits : List ℕ). slice_index (digits ++ codes " " ++ decimal (line_count text) ++ codes " " ++ decimal (length text)
+    ++ codes "\n" ++ text ++ more) 0) (decimal_digit status small)
+
+-- the status of a fault is a digit other than 0
+fault_status : (fault : OfficeFault) → (0 < status_of (Office fault)) × (status_of (Office fault) < 10)
+fault_status (office.File fault) = (omega arith, omega arith)
+fault_status (office.State fault) = (omega arith, omega arith)
+fault_status office.Lapsed = (omega arith, omega arith)
+fault_status office.Source = (omega arith, omega arith)
+fault_status office.Sink = (omega arith, omega arith)
+fault_status office.Memory = (omega arith, omega arith)
+
+-- if an answer begins with the digit 0, its request succeeded
+abbrev IsDone : AnswerView → Type 0
+IsDone answer = (text : List ℕ) × (answer ≡ done_with text)
+
+done_by : (answer : AnswerView) (more : List ℕ) → slice_index (answer_bytes answer ++ more) 0 ≡ 48 → IsDone answer
+done_by (done_with text) more first = (text, refl)
+done_by (refused_for fault) more first =
+    let few = fault_status fault in
+    let digit = first_digit (status_of (Office fault)) (answer_body (refused_for fault)) more few.1 in
+    let never : ⊥ = omega (arith, first, digit, few.0) in
+    absurd never
+done_by no_request more first =
+    let digit = first_digit 2 (answer_body no_request) more (omega arith) in let never : ⊥ = omega (arith, first, digit) in absurd never
+
+-- an answer with status 0 and no text
+pub empty_told : answer_bytes (done_with []) ≡ codes "0 0 0\n"
+empty_told = ap (λ (zero : List ℕ). zero ++ codes " " ++ zero ++ codes " " ++ zero ++ codes "\n" ++ []) (decimal_digit 0 (omega arith))
+
+-- ---- the three steps
+
+-- `merge` joined the desk's state with the state that the named file held
+pub record IsMerged (other : Text) (before after : SessionView) : Type 0 where
+  pub held : Bytes
+  pub left : Bytes
+  pub history : after.history ≡ before.history ++ opened other held ∷ closed left ∷ []
+  pub joins : JoinsState dks_2 most_bytes held before.desk.state after.desk.state
+
+merged : (other : Text) (text : List ℕ) (before after : SessionView) → Joins other StopsInState EndsReceiving before (done_with text) after
+    → (text ≡ []) × IsMerged other before after
+merged other text before after does = by does.result does.opens.read does.told does.opens.asked does.opens.ends
+  where
+    by : (result : Result ⊤ OfficeFault) (read : Option Reading) → done_with text ≡ answer_of result
+        → after.history ≡ before.history ++ opening_of other read
+        → EndsReceiving before.desk.state after.desk.state result read → (text ≡ []) × IsMerged other before after
+    by (Ok done) (Some read) told asked ends = (cc, record { held = read.held; left = read.left; history = asked; joins = ends })
+    by (Ok done) None told asked ends = absurd ends
+    by (Err fault) read told asked ends = let never : ⊥ = cc in absurd never
+
+-- `save` replaced the state's file with the text of the desk's state
+pub record IsStoredSo (name : Text) (before after : SessionView) : Type 0 where
+  pub history : after.history
+      ≡ before.history ++ drafted name before.look ∷ placed name (Some (state_text dks_2 before.desk.state)) ∷ looked name ∷ []
+  pub state : after.desk.state ≡ before.desk.state
+
+stored_so : (name : Text) (text : List ℕ) (before after : SessionView) → Saves (setting name true true) before (done_with text) after
+    → (text ≡ []) × IsStoredSo name before after
+stored_so name text before after does = by does.result does.told does.stores does.desk
+  where
+    by : (result : Result ⊤ OfficeFault) → done_with text ≡ answer_of result
+        → EndsSaving true name before.look (state_text dks_2 before.desk.state) before.history after.history result
+        → after.desk ≡ desk_by result before.desk → (text ≡ []) × IsStoredSo name before after
+    by (Ok done) told stores same = (cc, record { history = stores; state = ap (λ (desk : DeskView). desk.state) same })
+    by (Err fault) told stores same = let never : ⊥ = cc in absurd never
+
+-- a step whose request succeeded made the request of its line
+asked_done : (its : Setting) (line text : List ℕ) (request : Option RequestView) (before after : SessionView)
+    → AsksOf true (whole_line line) request → DoesAsked its request before (done_with text) after
+    → (it : RequestView) × (IsRequestOf true line it × DoesRequest its it before (done_with text) after)
+asked_done its line text (Some it) before after asks does = (it, (asks.1, does))
+asked_done its line text None before after asks does = let told = does.0 in let never : ⊥ = cc in absurd never
+
+module _ (its : Setting) (text : List ℕ) (request : Option RequestView) (before after : SessionView) where
+  merge_done : AsksOf true (whole_line merge_line) request → DoesAsked its request before (done_with text) after → (text ≡ []) × IsMerged south before after
+  merge_done asks does =
+      let asked = asked_done its merge_line text request before after asks does in
+      let same : asked.0 ≡ merge_request south = with_verb merge_line verb.Merge asked.0 refl asked.1.0 in
+      merged south text before after (subst (λ (r : RequestView). DoesRequest its r before (done_with text) after) same asked.1.1)
+
+  print_done : AsksOf true (whole_line print_line) request → DoesAsked its request before (done_with text) after
+      → IsDockerAnswer before.desk.state place 23537 (done_with text) × (after ≡ before)
+  print_done asks does =
+      let asked = asked_done its print_line text request before after asks does in
+      let print = with_verb print_line verb.Print asked.0 refl asked.1.0 in
+      let place_is : print.0 ≡ place = one_place place print.0 refl print.1.1.1.named in
+      let dated = print.1.1.1.dated in
+      let day_is : print.1.0 ≡ 23537 = sym (digits_in-day_text print.1.0 dated.within (codes "2024-06-10") dated.written).1 ∙ date_is in
+      let same : asked.0 ≡ print_request place 23537 = print.1.1.0 ∙ (λ i. print_request (place_is i) (day_is i)) in
+      subst (λ (r : RequestView). DoesRequest its r before (done_with text) after) same asked.1.1
+
+save_done : (name text : List ℕ) (request : Option RequestView) (before after : SessionView) → AsksOf true (whole_line save_line) request
+    → DoesAsked (setting name true true) request before (done_with text) after → (text ≡ []) × IsStoredSo name before after
+save_done name text request before after asks does =
+    let asked = asked_done (setting name true true) save_line text request before after asks does in
+    let same : asked.0 ≡ save_request = with_verb save_line verb.Save asked.0 refl asked.1.0 in
+    stored_so name text before after (subst (λ (r : RequestView). DoesRequest (setting name true true) r before (done_with text) after) same asked.1.1)
+
+-- a day isn't refused if there is no horizon
+pub not_refused : (known : Known) (state : State) (day : ℕ) → IsKnown known state → ¬ IsDayRefused state.horizon day → ¬ IsDayRefused known.horizon day
+not_refused known state day is allowed refused = allowed (subst (λ (h : ℕ). IsDayRefused h day) (sym is.is.horizon_is) refused)
+
+-- ---- the session
+
+-- what the steps change: the history, the desk's state and the failure count
+module _ (old : List Event) (first one two three : SessionView) (begins : BeginsAt north old first) (merges : IsMerged south first one)
+    (saves : IsStoredSo north one two) (same : three ≡ two) (met : IsShelfHistory three.history) where
+  abbrev opening : List Event
+  opening = looked north ∷ opened north begins.held ∷ closed begins.left ∷ []
+
+  abbrev merging : List Event
+  merging = opened south merges.held ∷ closed merges.left ∷ []
+
+  abbrev storing : List Event
+  storing = drafted north one.look ∷ placed north (Some (state_text dks_2 one.desk.state)) ∷ looked north ∷ []
+
+  history_is : three.history ≡ old ++ opening ++ merging ++ storing
+  history_is =
+      ap (λ (m : SessionView). m.history) same ∙ saves.history
+      ∙ ap (λ (h : List Event). h ++ storing) (merges.history ∙ ap (λ (h : List Event). h ++ merging) begins.asked)
+
+  all_met : IsShelfHistory (old ++ opening ++ merging ++ storing)
+  all_met = subst IsShelfHistory history_is met
+
+  two_met : IsShelfHistory (old ++ opening ++ merging)
+  two_met = met_front no_texts (old ++ opening ++ merging) storing all_met
+
+  held_is : begins.held ≡ text_under old north
+  held_is = (met_behind no_texts old opening (met_front no_texts (old ++ opening) merging two_met)).1.0.0
+
+  other_is : merges.held ≡ text_under old south
+  other_is =
+      (met_behind no_texts (old ++ opening) merging two_met).0.0
+      ∙ ap (λ (texts : Text → Option Text). texts south) (after_append no_texts old opening)
+
+  text_is : text_under three.history north ≡ Some (state_text dks_2 one.desk.state)
+  text_is =
+      ap (λ (h : List Event). text_under h north) history_is
+      ∙ ap (λ (texts : Text → Option Text). texts north) (after_append no_texts (old ++ opening ++ merging) storing)
+
+  module _ (known heard : Known) (holds : HoldsKnown dks_2 (text_under old north) known) (also : HoldsKnown dks_2 (text_under old south) heard) where
+    knows : IsKnown (united known heard) one.desk.state
+    knows =
+        known_joined known heard first.desk.state merges.joins.received one.desk.state
+        (known_held known begins.held first.desk.state (subst (λ (b : Bytes). HoldsKnown dks_2 b known) (sym held_is) holds) begins.state)
+        (known_held heard merges.held merges.joins.received (subst (λ (b : Bytes). HoldsKnown dks_2 b heard) (sym other_is) also) merges.joins.read)
+        merges.joins.join
+
+    pub holds_all : HoldsKnown dks_2 (text_under three.history north) (united known heard)
+    holds_all = (state_text dks_2 one.desk.state, text_is, known_text (united known heard) one.desk.state (state_text dks_2 one.desk.state) knows refl)
+
+    pub prints_all : (text : List ℕ) → IsDockerAnswer two.desk.state place 23537 (done_with text) → PrintsKnown (united known heard) place 23537 text
+    prints_all text is =
+        let told = subst (λ (s : State). IsDockerAnswer s place 23537 (done_with text)) saves.state is in
+        record {
+          good = knows.good;
+          allowed = not_refused (united known heard) one.desk.state 23537 knows told.1;
+          state = one.desk.state;
+          is = knows.is;
+          docker = told.0;
+        }
+
+-- ---- the whole session
+
+abbrev pub desk_words : List Text
+desk_words = codes "--write" ∷ north ∷ []
+
+-- the session's name and its right to write
+named_so : (name : Text) (may_write : Bool) → desk_words ≡ session_words name may_write → (name ≡ north) × (may_write ≡ true)
+named_so name true same = (cc, refl)
+named_so name false same = let never : ⊥ = cc in absurd never
+
+ended_well : (ending : Ending) (unsaved : Bool) → ending_status ending unsaved ≡ 0 → ending ≡ Ended
+ended_well Ended unsaved none = refl
+ended_well InputFailed unsaved none = let never : ⊥ = omega (arith, none) in absurd never
+ended_well InputEndless unsaved none = let never : ⊥ = omega (arith, none) in absurd never
+ended_well OutputFailed unsaved none = let never : ⊥ = omega (arith, none) in absurd never
+
+-- a folder didn't fail in a step whose request succeeded
+counted_none : (text : List ℕ) (before after : ℕ) → IsCounted (answer_status (done_with text)) before after → after ≡ before
+counted_none text before after counted = counted.1 (λ four. omega (arith, four))
+
+-- the points and the answers of three steps, if each answer begins with the digit 0
+record AreThree (its : Setting) (first last : SessionView) (answers : List ℕ) : Type 0 where
+  pub one : SessionView
+  pub two : SessionView
+  pub merges : IsMerged south first one
+  pub saves : IsStoredSo north one two
+  pub docker : List ℕ
+  pub prints : IsDockerAnswer two.desk.state place 23537 (done_with docker)
+  pub same : last ≡ two
+  pub told : answers ≡ codes "0 0 0\n" ++ codes "0 0 0\n" ++ answer_text 0 docker
+  pub sound : last.failures ≡ first.failures
+
+done_step : (answer : AnswerView) (its : Setting) (line : List ℕ) (step : Step) → step.line ≡ whole_line line → IsStep its step
+    → (text : List ℕ) → step.answer ≡ done_with text
+    → AsksOf its.may_write (whole_line line) step.request × (DoesAsked its step.request step.before (done_with text) step.after
+    × (step.after.failures ≡ step.before.failures))
+done_step answer its line step is_line is text done = (
+  subst (λ (l : LineView). AsksOf its.may_write l step.request) is_line is.asks,
+  (
+    subst (λ (a : AnswerView). DoesAsked its step.request step.before a step.after) done is.does,
+    counted_none text step.before.failures step.after.failures
+        (subst (λ (a : AnswerView). IsCounted (answer_status a) step.before.failures step.after.failures) done is.counted),
+  ),
+)
+
+-- the first answer of a text, and the text after it
+module _ (taken : List ℕ) (a b c : AnswerView) (whole : taken ≡ answer_bytes a ++ (answer_bytes b ++ (answer_bytes c ++ []))) (done : AreDone taken) where
+  first_done : IsDone a
+  first_done = done_by a (answer_bytes b ++ (answer_bytes c ++ [])) (ap (λ (t : List ℕ). slice_index t 0) (sym whole) ∙ done.0)
+
+  after_one : a ≡ done_with [] → taken ≡ codes "0 0 0\n" ++ (answer_bytes b ++ (answer_bytes c ++ []))
+  after_one same = whole ∙ ap (λ (it : AnswerView). answer_bytes it ++ (answer_bytes b ++ (answer_bytes c ++ []))) same
+      ∙ ap (λ (t : List ℕ). t ++ (answer_bytes b ++ (answer_bytes c ++ []))) empty_told
+
+  second_done : a ≡ done_with [] → IsDone b
+  second_done same = done_by b (answer_bytes c ++ []) (ap (λ (t : List ℕ). slice_index t 6) (sym (after_one same)) ∙ done.1)
+
+  after_two : a ≡ done_with [] → b ≡ done_with [] → taken ≡ codes "0 0 0\n" ++ (codes "0 0 0\n" ++ (answer_bytes c ++ []))
+  after_two same also = after_one same ∙ ap (λ (it : AnswerView). codes "0 0 0\n" ++ (answer_bytes it ++ (answer_bytes c ++ []))) also
+      ∙ ap (λ (t : List ℕ). codes "0 0 0\n" ++ (t ++ (answer_bytes c ++ []))) empty_told
+
+  third_done : a ≡ done_with [] → b ≡ done_with [] → IsDone c
+  third_done same also = done_by c [] (ap (λ (t : List ℕ). slice_index t 12) (sym (after_two same also)) ∙ done.2)
+
+  after_three : (docker : List ℕ) → a ≡ done_with [] → b ≡ done_with [] → c ≡ done_with docker
+      → taken ≡ codes "0 0 0\n" ++ codes "0 0 0\n" ++ answer_text 0 docker
+  after_three docker same also then =
+      after_two same also ∙ ap (λ (it : AnswerView). codes "0 0 0\n" ++ (codes "0 0 0\n" ++ (answer_bytes it ++ []))) then
+      ∙ ap (λ (t : List ℕ). codes "0 0 0\n" ++ (codes "0 0 0\n" ++ t)) (append-nil (answer_text 0 docker))
+
+abbrev the_setting : Setting
+the_setting = setting north true true
+
+-- the three steps, one after another
+module _ (first last : SessionView) (x y z : Step) (taken : List ℕ) (lines : lines_of (x ∷ y ∷ z ∷ []) ≡ three_lines)
+    (are : AreSteps the_setting first (x ∷ y ∷ z ∷ []) last) (whole : taken ≡ answers_text (x ∷ y ∷ z ∷ [])) (done : AreDone taken) where
+  x_line : x.line ≡ whole_line merge_line
+  x_line = cc
+
+  y_line : y.line ≡ whole_line save_line
+  y_line = cc
+
+  z_line : z.line ≡ whole_line print_line
+  z_line = cc
+
+  x_done : IsDone x.answer
+  x_done = first_done taken x.answer y.answer z.answer whole done
+
+  x_does : AsksOf true (whole_line merge_line) x.request × (DoesAsked the_setting x.request x.before (done_with x_done.0) x.after
+      × (x.after.failures ≡ x.before.failures))
+  x_does = done_step x.answer the_setting merge_line x x_line are.1.0 x_done.0 x_done.1
+
+  x_merges : (x_done.0 ≡ []) × IsMerged south x.before x.after
+  x_merges = merge_done the_setting x_done.0 x.request x.before x.after x_does.0 x_does.1.0
+
+  x_is : x.answer ≡ done_with []
+  x_is = x_done.1 ∙ ap done_with x_merges.0
+
+  y_done : IsDone y.answer
+  y_done = second_done taken x.answer y.answer z.answer whole done x_is
+
+  y_does : AsksOf true (whole_line save_line) y.request × (DoesAsked the_setting y.request y.before (done_with y_done.0) y.after
+      × (y.after.failures ≡ y.before.failures))
+  y_does = done_step y.answer the_setting save_line y y_line are.1.1.1.0 y_done.0 y_done.1
+
+  y_saves : (y_done.0 ≡ []) × IsStoredSo north y.before y.after
+  y_saves = save_done north y_done.0 y.request y.before y.after y_does.0 y_does.1.0
+
+  y_is : y.answer ≡ done_with []
+  y_is = y_done.1 ∙ ap done_with y_saves.0
+
+  z_done : IsDone z.answer
+  z_done = third_done taken x.answer y.answer z.answer whole done x_is y_is
+
+  z_does : AsksOf true (whole_line print_line) z.request × (DoesAsked the_setting z.request z.before (done_with z_done.0) z.after
+      × (z.after.failures ≡ z.before.failures))
+  z_does = done_step z.answer the_setting print_line z z_line are.1.1.1.1.1.0 z_done.0 z_done.1
+
+  z_prints : IsDockerAnswer z.before.desk.state place 23537 (done_with z_done.0) × (z.after ≡ z.before)
+  z_prints = print_done the_setting z_done.0 z.request z.before z.after z_does.0 z_does.1.0
+
+  -- the points at which the steps meet
+  x_from : x.before ≡ first
+  x_from = are.0
+
+  y_from : y.before ≡ x.after
+  y_from = are.1.1.0
+
+  z_from : z.before ≡ y.after
+  z_from = are.1.1.1.1.0
+
+  last_is : last ≡ z.after
+  last_is = are.1.1.1.1.1.1
+
+  three_steps : AreThree the_setting first last taken
+  three_steps = record {
+    one = x.after;
+    two = y.after;
+    merges = subst (λ (m : SessionView). IsMerged south m x.after) x_from x_merges.1;
+    saves = subst (λ (m : SessionView). IsStoredSo north m y.after) y_from y_saves.1;
+    docker = z_done.0;
+    prints = subst (λ (m : SessionView). IsDockerAnswer m.desk.state place 23537 (done_with z_done.0)) z_from z_prints.0;
+    same = last_is ∙ z_prints.1 ∙ z_from;
+    told = after_three taken x.answer y.answer z.answer whole done z_done.0 x_is y_is z_done.1;
+    sound =
+        ap (λ (m : SessionView). m.failures) last_is ∙ z_does.1.1 ∙ ap (λ (m : SessionView). m.failures) z_from
+        ∙ y_does.1.1 ∙ ap (λ (m : SessionView). m.failures) y_from ∙ x_does.1.1 ∙ ap (λ (m : SessionView). m.failures) x_from;
+  }
+
+all_steps : (first last : SessionView) (steps : List Step) (taken : List ℕ) → lines_of steps ≡ three_lines → AreSteps the_setting first steps last
+    → taken ≡ answers_text steps → AreDone taken → AreThree the_setting first last taken
+all_steps first last [] taken lines are whole done = let never : ⊥ = cc in absurd never
+all_steps first last (x ∷ []) taken lines are whole done = let never : ⊥ = cc in absurd never
+all_steps first last (x ∷ y ∷ []) taken lines are whole done = let never : ⊥ = cc in absurd never
+all_steps first last (x ∷ y ∷ z ∷ []) taken lines are whole done = three_steps first last x y z taken lines are whole done
+all_steps first last (x ∷ y ∷ z ∷ w ∷ steps) taken lines are whole done = let never : ⊥ = cc in absurd never
+
+-- ---- what the session leaves
+
+-- a session ended with status 0, so the desk has answered its input
+pub was_served : (old new : SessionHostView) (status : ℕ) → status ≡ 0 → Serves desk_words true old new status → IsServed desk_words true old new 0
+was_served old new status none (inl asked) = let same = asked.words_are in let never : ⊥ = cc in absurd never
+was_served old new status none (inr (unasked, inl misused)) = let two = misused.status_is in absurd (omega (arith, none, two))
+was_served old new status none (inr (unasked, inr (inl refused))) =
+    let some = fault_status refused.fault in
+    let is = refused.status_is in
+    let never : ⊥ = omega (arith, none, is, some.0) in
+    absurd never
+was_served old new status none (inr (unasked, inr (inr served))) = subst (λ (s : ℕ). IsServed desk_words true old new s) none served
+
+some_text : (one two : List ℕ) → ◌≡◌ {A = Option (List ℕ)} (Some one) (Some two) → one ≡ two
+some_text one two equal = cc
+
+-- the session on the shelf
+module _ (old new : SessionHostView) (taken : List ℕ) (input : old.streams.input ≡ Some session_input) (output : old.streams.output ≡ Some [])
+    (told : new.streams.output ≡ Some taken) (done : AreDone taken) (one_reading : HasOneReading) (served : IsServed desk_words true old new 0) where
+  named : (served.name ≡ north) × (served.may_write ≡ true)
+  named = named_so served.name served.may_write served.words_are.words_are
+
+  begins_there : BeginsAt north old.history served.first
+  begins_there = subst (λ (n : Text). BeginsAt n old.history served.first) named.0 served.begins
+
+  ended : served.ending ≡ Ended
+  ended = ended_well served.ending _ (sym served.ends.status_is)
+
+  ends_so : EndsSession Ended (Some session_input) served.answers.steps (Some []) (Some taken)
+  ends_so =
+      subst (λ (b : Bytes). EndsSession Ended (Some session_input) served.answers.steps (Some []) b) told
+      (subst (λ (b : Bytes). EndsSession Ended (Some session_input) served.answers.steps b new.streams.output) output
+      (subst (λ (b : Bytes). EndsSession Ended b served.answers.steps old.streams.output new.streams.output) input
+      (subst (λ (e : Ending). EndsSession e old.streams.input served.answers.steps old.streams.output new.streams.output) ended served.answers.ends)))
+
+  steps_are : AreSteps the_setting served.first served.answers.steps served.last
+  steps_are =
+      subst (λ (n : Text). AreSteps (setting n true true) served.first served.answers.steps served.last) named.0
+      (subst (λ (w : Bool). AreSteps (setting served.name w true) served.first served.answers.steps served.last) named.1 served.answers.are)
+
+  three : AreThree the_setting served.first served.last taken
+  three =
+      all_steps served.first served.last served.answers.steps taken
+      (one_reading session_input (lines_of served.answers.steps) three_lines ends_so.0 lines_are) steps_are
+      (some_text taken (answers_text served.answers.steps) ends_so.1) done
+
+  -- no call of the folder failed
+  pub session_sound : new.folder_failures ≡ old.folder_failures
+  session_sound = served.failures ∙ three.sound ∙ served.none
+
+  -- `north` knows what both knew before, and the desk printed the docker
+  pub session_leaves : (folder : FolderView) → folder.events ≡ new.history → IsShelfHistory new.history → (known heard : Known)
+      → HoldsKnown dks_2 (text_under old.history north) known → HoldsKnown dks_2 (text_under old.history south) heard
+      → IsServedNorth folder taken known heard
+  session_leaves folder same met known heard holds also =
+      let there : IsShelfHistory served.last.history = subst IsShelfHistory served.history met in
+      record {
+        north = subst (λ (h : List Event). HoldsKnown dks_2 (text_under h north) (united known heard)) (sym served.history ∙ sym same)
+            (holds_all old.history served.first three.one three.two served.last begins_there three.merges three.saves three.same there known heard holds also);
+        docker = three.docker;
+        is = prints_all old.history served.first three.one three.two served.last begins_there three.merges three.saves three.same there known heard holds also
+            three.docker three.prints;
+        told = three.told;
+      }
+
+-- what the session leaves and answers, for a host `seen` that equals the new host
+pub served_told : (old seen new : SessionHostView) (status : ℕ) (taken : List ℕ) (folder : FolderView) (events : List Event)
+    → Serves desk_words true old new status → seen ≡ new → status ≡ 0 → old.streams.input ≡ Some session_input → old.streams.output ≡ Some []
+    → IsShelfHistory seen.history → seen.streams.output ≡ Some taken → AreDone taken → HasOneReading → folder.events ≡ seen.history → events ≡ old.history
+    → (known heard : Known) → HoldsKnown dks_2 (text_under events north) known → HoldsKnown dks_2 (text_under events south) heard
+    → IsServedNorth folder taken known heard
+served_told old seen new status taken folder events serves same none input output met told done one_reading left before known heard holds also =
+    session_leaves old seen taken input output told done one_reading
+    (subst (λ (h : SessionHostView). IsServed desk_words true old h 0) (sym same) (was_served old new status none serves)) folder left met known heard
+    (subst (λ (h : List Event). HoldsKnown dks_2 (text_under h north) known) before holds)
+    (subst (λ (h : List Event). HoldsKnown dks_2 (text_under h south) heard) before also)
+
+-- the folder didn't fail in the session
+pub served_sound : (old seen new : SessionHostView) (status : ℕ) (taken : List ℕ) → Serves desk_words true old new status → seen ≡ new → status ≡ 0
+    → old.streams.input ≡ Some session_input → old.streams.output ≡ Some [] → seen.streams.output ≡ Some taken → AreDone taken → HasOneReading
+    → old.folder_failures ≡ 0 → seen.folder_failures ≡ 0
+served_sound old seen new status taken serves same none input output told done one_reading sound =
+    session_sound old seen taken input output told done one_reading
+    (subst (λ (h : SessionHostView). IsServed desk_words true old h 0) (sym same) (was_served old new status none serves)) ∙ sound

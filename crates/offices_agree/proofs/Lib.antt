@@ -1,0 +1,5 @@
+pub mod TwoOfficesFiles
+pub mod TwoOfficesDocker
+pub mod TwoOfficesSteps
+pub mod DeskSteps
+pub mod DeskAndOfficeSteps

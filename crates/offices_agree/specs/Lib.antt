@@ -1,0 +1,2 @@
+pub mod TwoOffices
+pub mod DeskAndOffice
