@@ -36,4 +36,3 @@ pub data Event : Type 0 where
 abbrev pub named_if : Bool → Text → Bytes
 named_if true text = Some text
 named_if false text = None
-

@@ -18,7 +18,7 @@ impl Model for Exchanges {
 
 /// A call that is about to be added to a history of exchanges.
 #[derive(Clone, Copy, Drop)]
-pub enum Call<'a> {
+pub enum StreamCall<'a> {
     /// The input was read, and returned these bytes.
     Read(&'a [u8]),
     /// The input was read, and failed.
@@ -40,7 +40,7 @@ impl Exchanges {
     }
 
     /// Returns the history with this call appended.
-    pub fn then(&self, _call: &Call<'_>) -> Exchanges
+    pub fn then(&self, _call: &StreamCall<'_>) -> Exchanges
         ensures { result.events ≡ self.now.events ++ exchange_of _call.now ∷ [] }
     {
         Exchanges {}

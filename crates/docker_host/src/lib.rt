@@ -27,7 +27,7 @@ mod version;
 
 pub use draft_end::end_draft;
 pub use draft_file::DraftFile;
-pub use exchanges::{Call, Exchanges};
+pub use exchanges::{Exchanges, StreamCall};
 pub use fault_sink::tell_text;
 pub use folder::{Drafted, Folder, OpenFault};
 pub use history::{History, Note, Position};

@@ -3,7 +3,7 @@ ghost use Rattle.std.specs.Prelude.{◌≡◌, ◌-◌, ◌^◌, ◌<◌, ◌≤
 ghost use Rattle.docker_host.specs.Exchanges.{wrote};
 ghost use Rattle.docker_host.specs.Streams.{EndsWriting, ReadsOnce, Writes, after_unread, after_unwritten};
 
-use crate::exchanges::{Call, Exchanges};
+use crate::exchanges::{Exchanges, StreamCall};
 use cif_device::{Failed, Sink, Source};
 use std::marker::Model;
 
@@ -72,11 +72,11 @@ impl<S: Source, K: Sink> Streams<S, K> {
     {
         match self.input.read(into) {
             Ok(n) => {
-                self.exchanges = self.exchanges.then(&Call::Read(&into[..n]));
+                self.exchanges = self.exchanges.then(&StreamCall::Read(&into[..n]));
                 Ok(n)
             }
             Err(failed) => {
-                self.exchanges = self.exchanges.then(&Call::Unread);
+                self.exchanges = self.exchanges.then(&StreamCall::Unread);
                 Err(failed)
             }
         }
@@ -96,11 +96,11 @@ impl<S: Source, K: Sink> Streams<S, K> {
     {
         match self.output.write(piece) {
             Ok(n) => {
-                self.exchanges = self.exchanges.then(&Call::Wrote(&piece[..n]));
+                self.exchanges = self.exchanges.then(&StreamCall::Wrote(&piece[..n]));
                 Ok(n)
             }
             Err(failed) => {
-                self.exchanges = self.exchanges.then(&Call::Unwritten);
+                self.exchanges = self.exchanges.then(&StreamCall::Unwritten);
                 Err(failed)
             }
         }

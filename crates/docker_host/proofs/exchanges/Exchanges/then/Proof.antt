@@ -27,7 +27,7 @@ use denote.Triple.Walked.{says, Stays, stay_none_ref, walk_of, Walks, AllGo, Goe
 use Rattle.docker_host.proofs.Making.{empty_struct, made_of_nothing}
 use Rattle.docker_host.specs.Calls.{exchange_of}
 use Rattle.docker_host.specs.contracts.exchanges.Exchanges as exchanges
-use Rattle.docker_host.specs.contracts.exchanges.Call as call
+use Rattle.docker_host.specs.contracts.exchanges.StreamCall as call
 use Rattle.docker_host.specs.contracts.exchanges.Exchanges.then as clauses_of
 use Rattle.docker_host.specs.contracts.exchanges.Exchanges.then.Key.{name as #then}
 use Rattle.docker_host.proofs.exchanges.Exchanges.then.Statement as goal
