@@ -231,19 +231,19 @@ class World:
         self.seen.update(event for _, event in found)
 
     def learns(self, office):
-        """What an office may know after a run: the files that it lists. Those that it never knew before are among the files that came, or another office knew them when
-        it sent its state. If files with one stamp differ, each of them is possible until a docker shows which it is."""
+        """What an office may know after a run: the files that it lists. Those that it didn't know before it has known earlier, or they are among the files that came, or
+        another office knew them when it sent its state. If files with one stamp differ, each of them is possible until a docker shows which it is."""
         possible = [{}]
         for line in docker("files", office.state).decode("ascii").splitlines():
             stamp = lists.Stamp(datetime.date.fromisoformat(line[:10]), line[11:15], line[16:23])
-            contents = self.ever[office].get(stamp) or self.sources(office, stamp)
+            contents = self.ever[office].get(stamp, set()) | (set() if stamp in self.known[office][0] else self.sources(office, stamp))
             assert contents, f"nobody made {line}"
             possible = [{**one, stamp: content} for one in possible for content in contents]
         return possible
 
     def sources(self, office, stamp):
         """The contents of the files with a stamp that an office may have got."""
-        found = {it for it in self.came[office] if it[:2] == b"HD" and records_of(it)[-1][:2] == "ZZ" and lists.stamp_of(records_of(it)) == stamp}
+        found = {it for it in self.came[office] if it.isascii() and it[:2] == b"HD" and records_of(it)[-1][:2] == "ZZ" and lists.stamp_of(records_of(it)) == stamp}
         return found.union(*(self.of_stamp(known, stamp) for other, (_, known) in self.sent.items() if other != office))
 
     @staticmethod
