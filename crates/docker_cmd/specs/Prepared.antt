@@ -192,9 +192,9 @@ IsWhyRefused sources first left second second_left office.Sink = ⊥
 -- reading the sources ended with this result. If the result is a value, it has the property
 -- `IsMade`, and each file was read to its end. If the result is a fault, the sources may be refused
 -- for this fault
-abbrev pub EndsReadingSources : {A : Type 0} → (A → Type 0) → Sources → DeviceBytes → DeviceBytes → DeviceBytes → DeviceBytes → Result A OfficeFault → Type 0
-EndsReadingSources IsMade sources first left second second_left (Ok made) = IsMade made × HasReadToEnd sources left second_left
-EndsReadingSources IsMade sources first left second second_left (Err fault) = IsWhyRefused sources first left second second_left fault
+abbrev pub IsMadeOrRefused : {A : Type 0} → (A → Type 0) → Sources → DeviceBytes → DeviceBytes → DeviceBytes → DeviceBytes → Result A OfficeFault → Type 0
+IsMadeOrRefused IsMade sources first left second second_left (Ok made) = IsMade made × HasReadToEnd sources left second_left
+IsMadeOrRefused IsMade sources first left second second_left (Err fault) = IsWhyRefused sources first left second second_left fault
 
 -- the sources were read in order, no further than the result needs, and `Ends` holds
 pub record ReadsFew (sources : Sources) (first left second second_left : DeviceBytes) (Ends : Type 0) : Type 0 where
@@ -206,7 +206,7 @@ pub record ReadsFew (sources : Sources) (first left second second_left : DeviceB
 -- `IsMade`, or a fault
 abbrev pub ReadsSources : {A : Type 0} → (A → Type 0) → Sources → DeviceBytes → DeviceBytes → DeviceBytes → DeviceBytes → Result A OfficeFault → Type 0
 ReadsSources IsMade sources first left second second_left result =
-    ReadsFew sources first left second second_left (EndsReadingSources IsMade sources first left second second_left result)
+    ReadsFew sources first left second second_left (IsMadeOrRefused IsMade sources first left second second_left result)
 
 -- the prepared job consists of this job and of what its task makes from its sources
 abbrev pub IsPreparedFor : JobView → DeviceBytes → DeviceBytes → PreparedView → Type 0
