@@ -19,6 +19,7 @@ mod compare;
 mod endless;
 mod failing;
 mod horizons;
+mod indexes;
 mod merged;
 mod migrated;
 mod parts;
