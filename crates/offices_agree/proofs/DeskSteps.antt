@@ -167,7 +167,7 @@ done_by no_request more first =
     let digit = first_digit 2 (answer_body no_request) more (omega arith) in let never : ⊥ = omega (arith, first, digit) in absurd never
 
 -- an answer with status 0 and no text
-pub empty_told : answer_bytes (done_with []) ≡ codes "0 0 0\n"
+empty_told : answer_bytes (done_with []) ≡ codes "0 0 0\n"
 empty_told = ap (λ (zero : List ℕ). zero ++ codes " " ++ zero ++ codes " " ++ zero ++ codes "\n" ++ []) (decimal_digit 0 (omega arith))
 
 -- ---- the three steps
@@ -238,8 +238,8 @@ save_done name text request before after asks does =
     let same : asked.0 ≡ save_request = with_verb save_line verb.Save asked.0 refl asked.1.0 in
     stored_so name text before after (subst (λ (r : RequestView). DoesRequest (setting name true true) r before (done_with text) after) same asked.1.1)
 
--- a day isn't refused if there is no horizon
-pub not_refused : (known : Known) (state : State) (day : ℕ) → IsKnown known state → ¬ IsDayRefused state.horizon day → ¬ IsDayRefused known.horizon day
+-- a day that isn't refused under the state's horizon isn't refused under the known horizon
+not_refused : (known : Known) (state : State) (day : ℕ) → IsKnown known state → ¬ IsDayRefused state.horizon day → ¬ IsDayRefused known.horizon day
 not_refused known state day is allowed refused = allowed (subst (λ (h : ℕ). IsDayRefused h day) (sym is.is.horizon_is) refused)
 
 -- ---- the session
@@ -323,7 +323,7 @@ counted_none : (text : List ℕ) (before after : ℕ) → IsCounted (answer_stat
 counted_none text before after counted = counted.1 (λ four. omega (arith, four))
 
 -- the points and the answers of three steps, if each answer begins with the digit 0
-record AreThree (its : Setting) (first last : SessionView) (answers : List ℕ) : Type 0 where
+record AreThree (first last : SessionView) (answers : List ℕ) : Type 0 where
   pub one : SessionView
   pub two : SessionView
   pub merges : IsMerged south first one
@@ -334,11 +334,11 @@ record AreThree (its : Setting) (first last : SessionView) (answers : List ℕ) 
   pub told : answers ≡ codes "0 0 0\n" ++ codes "0 0 0\n" ++ answer_text 0 docker
   pub sound : last.failures ≡ first.failures
 
-done_step : (answer : AnswerView) (its : Setting) (line : List ℕ) (step : Step) → step.line ≡ whole_line line → IsStep its step
+done_step : (its : Setting) (line : List ℕ) (step : Step) → step.line ≡ whole_line line → IsStep its step
     → (text : List ℕ) → step.answer ≡ done_with text
     → AsksOf its.may_write (whole_line line) step.request × (DoesAsked its step.request step.before (done_with text) step.after
     × (step.after.failures ≡ step.before.failures))
-done_step answer its line step is_line is text done = (
+done_step its line step is_line is text done = (
   subst (λ (l : LineView). AsksOf its.may_write l step.request) is_line is.asks,
   (
     subst (λ (a : AnswerView). DoesAsked its step.request step.before a step.after) done is.does,
@@ -392,7 +392,7 @@ module _ (first last : SessionView) (x y z : Step) (taken : List ℕ) (lines : l
 
   x_does : AsksOf true (whole_line merge_line) x.request × (DoesAsked the_setting x.request x.before (done_with x_done.0) x.after
       × (x.after.failures ≡ x.before.failures))
-  x_does = done_step x.answer the_setting merge_line x x_line are.1.0 x_done.0 x_done.1
+  x_does = done_step the_setting merge_line x x_line are.1.0 x_done.0 x_done.1
 
   x_merges : (x_done.0 ≡ []) × IsMerged south x.before x.after
   x_merges = merge_done the_setting x_done.0 x.request x.before x.after x_does.0 x_does.1.0
@@ -405,7 +405,7 @@ module _ (first last : SessionView) (x y z : Step) (taken : List ℕ) (lines : l
 
   y_does : AsksOf true (whole_line save_line) y.request × (DoesAsked the_setting y.request y.before (done_with y_done.0) y.after
       × (y.after.failures ≡ y.before.failures))
-  y_does = done_step y.answer the_setting save_line y y_line are.1.1.1.0 y_done.0 y_done.1
+  y_does = done_step the_setting save_line y y_line are.1.1.1.0 y_done.0 y_done.1
 
   y_saves : (y_done.0 ≡ []) × IsStoredSo north y.before y.after
   y_saves = save_done north y_done.0 y.request y.before y.after y_does.0 y_does.1.0
@@ -418,7 +418,7 @@ module _ (first last : SessionView) (x y z : Step) (taken : List ℕ) (lines : l
 
   z_does : AsksOf true (whole_line print_line) z.request × (DoesAsked the_setting z.request z.before (done_with z_done.0) z.after
       × (z.after.failures ≡ z.before.failures))
-  z_does = done_step z.answer the_setting print_line z z_line are.1.1.1.1.1.0 z_done.0 z_done.1
+  z_does = done_step the_setting print_line z z_line are.1.1.1.1.1.0 z_done.0 z_done.1
 
   z_prints : IsDockerAnswer z.before.desk.state place 23537 (done_with z_done.0) × (z.after ≡ z.before)
   z_prints = print_done the_setting z_done.0 z.request z.before z.after z_does.0 z_does.1.0
@@ -436,7 +436,7 @@ module _ (first last : SessionView) (x y z : Step) (taken : List ℕ) (lines : l
   last_is : last ≡ z.after
   last_is = are.1.1.1.1.1.1
 
-  three_steps : AreThree the_setting first last taken
+  three_steps : AreThree first last taken
   three_steps = record {
     one = x.after;
     two = y.after;
@@ -452,7 +452,7 @@ module _ (first last : SessionView) (x y z : Step) (taken : List ℕ) (lines : l
   }
 
 all_steps : (first last : SessionView) (steps : List Step) (taken : List ℕ) → lines_of steps ≡ three_lines → AreSteps the_setting first steps last
-    → taken ≡ answers_text steps → AreDone taken → AreThree the_setting first last taken
+    → taken ≡ answers_text steps → AreDone taken → AreThree first last taken
 all_steps first last [] taken lines are whole done = let never : ⊥ = cc in absurd never
 all_steps first last (x ∷ []) taken lines are whole done = let never : ⊥ = cc in absurd never
 all_steps first last (x ∷ y ∷ []) taken lines are whole done = let never : ⊥ = cc in absurd never
@@ -499,7 +499,7 @@ module _ (old new : SessionHostView) (taken : List ℕ) (input : old.streams.inp
       subst (λ (n : Text). AreSteps (setting n true true) served.first served.answers.steps served.last) named.0
       (subst (λ (w : Bool). AreSteps (setting served.name w true) served.first served.answers.steps served.last) named.1 served.answers.are)
 
-  three : AreThree the_setting served.first served.last taken
+  three : AreThree served.first served.last taken
   three =
       all_steps served.first served.last served.answers.steps taken
       (one_reading session_input (lines_of served.answers.steps) three_lines ends_so.0 lines_are) steps_are
