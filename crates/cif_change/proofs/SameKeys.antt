@@ -1,6 +1,5 @@
 -- The conversion of keys from the code's type to the definitions' type is injective.
 use Rattle.std.proofs.Common.{◌≡◌, refl, ap, arith}
-use Rattle.docker_model.specs.file.Change as model
 use Rattle.cif_line.specs.Letter.{stp_letter}
 use Rattle.cif_line.specs.declared.letter.Stp.{Stp}
 use Rattle.cif_line.specs.declared.letter.Stp.TheVariants as stp

@@ -59,7 +59,8 @@ line_leads format at entries key stamp n is state lines taken line good taken_is
 -- a line is a bad part if it can't follow the lines of its schedule that were read before it. A line that can follow them is refused only if there is no memory
 -- for it
 pub line_bad : (format : Format) (at : Stage) (entries : ℕ) (key : code.ScheduleKey) (stamp : stamps.Stamp) (n : ℕ) → at ≡ stage.Line entries key stamp n
-    → (state : State) (lines : List (List ℕ)) (line : List ℕ) (cause : Option model.StateCause) → IsUpToRefusal state (schedule_key_meant key) n lines line cause
+    → (state : State) (lines : List (List ℕ)) (line : List ℕ) (cause : Option model.StateCause)
+    → IsUpToRefusal state (schedule_key_meant key) n lines line cause
     → AreGood format (stage_meant at state lines) → IsBadHere format (stage_meant at state lines) line cause
 line_bad format at entries key stamp n is state lines line cause refused good =
     subst (λ (p : Stage). IsBadHere format (stage_meant p state lines) line cause) (sym is) (by cause refused)

@@ -1,5 +1,5 @@
 -- The events of a folder, oldest first: the calls to the folder, and their results.
-use Rattle.std.specs.Prelude.{◌≡◌, ℕ, Bool, true, false, List, Option, None, Some}
+use Rattle.std.specs.Prelude.{ℕ, Bool, true, false, List, Option, None, Some}
 
 -- the bytes of a name or of a text
 abbrev pub Text : Type 0
