@@ -231,8 +231,9 @@ class World:
         self.seen.update(event for _, event in found)
 
     def learns(self, office):
-        """What an office may know after a run: the files that it lists. Those that it didn't know before it has known earlier, or they are among the files that came, or
-        another office knew them when it sent its state. If files with one stamp differ, each of them is possible until a docker shows which it is."""
+        """What an office may know after a run: the files that it lists. If it knew a file before the run, the file's content is what it was. The content of any other file
+        is one that the office knew earlier, one that came to it, or one that another office knew when it sent its state. If files with one stamp differ, each of them is
+        possible until a docker shows which it is."""
         possible = [{}]
         for line in docker("files", office.state).decode("ascii").splitlines():
             stamp = lists.Stamp(datetime.date.fromisoformat(line[:10]), line[11:15], line[16:23])

@@ -154,7 +154,7 @@ def test_unreadable(words):
     "print with standard output closed": ("print state_of_one ASHFELD 2024-06-10", ">&-", DEVICE),
 })
 def test_a_stream_that_is_full_or_closed(words, stream, wanted):
-    """Commands that use the stream fail; other commands don't."""
+    """Commands that read from the stream or write to it fail; other commands don't. A full standard error doesn't change how a command ends."""
     assert docker(*words.split(), before=redirected(stream)) == wanted
 
 

@@ -22,7 +22,7 @@ static void *grown(size_t before, void *block);
 
 void *malloc(size_t size) { return is_refused(size) ? NULL : grown(0, NEXT(malloc)(size)); }
 
-// A block that becomes smaller is no growth, so it isn't refused.
+// A size for which the block already has room is no growth, so it isn't refused.
 void *realloc(void *old, size_t size) {
   size_t before = malloc_usable_size(old);
   return before < size && is_refused(size) ? NULL : grown(before, NEXT(realloc)(old, size));

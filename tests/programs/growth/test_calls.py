@@ -48,11 +48,6 @@ MANAGING = {
     "FileParser::finish",  # each row's file lacks its trailer: the answer is `NoEnd`, even if memory runs out at the last line
 }
 
-# Calls whose answer is the same without the memory.
-MANAGING = {
-    "FileParser::finish",  # each row's file lacks its trailer: the answer is `NoEnd`, even if memory runs out at the last line
-}
-
 
 def rows():
     """The rows that begin with the word `growth`, each under the rest of the row."""

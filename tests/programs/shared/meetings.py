@@ -92,7 +92,8 @@ class Draft(contextlib.AbstractContextManager):
 
 
 def replaces_a_new_draft(device, state, draft, command, given, wanted):
-    """At each call from the making of a draft to its last look or lock, another draft takes its place. The program has to end like this, and leave all as it is."""
+    """Another draft takes the place of a program's draft, at each call from the making of the draft to its last look or lock. Each time the program has to end as
+    `wanted` says, and leave the state and the other draft as they are."""
     before, new = held(state), f"{state}.new"
     calls = calls_of(device, command, given)
     last = max(at for at, call in enumerate(calls) if call in ("flock", f"statx {new}"))

@@ -113,9 +113,10 @@ class Mirror:
 
     def listed(self, verb, *words):
         names, horizon = self.known
-        files, day = tuple(sorted(extracts.GOOD[name] for name in names)), datetime.date.fromisoformat(horizon or "1960-01-01")
+        files = tuple(sorted(extracts.GOOD[name] for name in names))
         if verb == "train":
             return DAY_REFUSED if words[1] < horizon else Answer(0, lists.train_text(files, *words))
+        day = datetime.date.fromisoformat(horizon) if horizon else lists.FIRST_DAY
         return Answer(0, {"places": lists.places_text, "known": lists.known_text}[verb](files, day))
 
     def learn(self, names, horizon):
@@ -165,7 +166,7 @@ class Mirror:
 
 @contextlib.contextmanager
 def reading(*names, horizon="", words=("STATE",), **options):
-    """A desk that only reads. It has to end well."""
+    """A desk with these words, which only reads if there are no other words. It has to end well."""
     give(state_of(*names, horizon=horizon))
     with Desk(*words, **options) as asked:
         yield asked
