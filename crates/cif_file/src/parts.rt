@@ -9,6 +9,7 @@ pub struct FileParts {
     pub header: HeaderLine,
     /// How many records the file has, including the header and the trailer.
     pub records: u32,
-    /// The changes that the records make, in the order of the records.
+    /// The changes that the records make. `CifFile::into_parts` returns them in the order of the
+    /// records.
     pub changes: Vec<Change>,
 }

@@ -75,10 +75,11 @@ pub are_needed : (place : List ℕ) (day : ℕ) (all : List Change) (parts : Fil
     → AreThinParts place day all parts elsewhere → (uids : List (List ℕ))
     → ((uid : List ℕ) → Contains uids uid ↔ Contains (uids_named (map change_meant parts.changes.items)) uid) → (some : Vec Elsewhere)
     → some.items ≡ filter (λ (one : Elsewhere). is_wanted uids (key_meant (key.Schedule one.key))) elsewhere.items → (left : FileParts)
-    → left.header ≡ parts.header → map change_meant left.changes.items ≡ all_kept place parts.changes some
+    → left.header ≡ parts.header → left.records ≡ parts.records → map change_meant left.changes.items ≡ all_kept place parts.changes some
     → AreNeededParts (thin_of_parts place day all parts elsewhere) left
-are_needed place day all parts elsewhere is uids named some of left header are = record {
+are_needed place day all parts elsewhere is uids named some of left header records are = record {
   header = header;
+  records = records;
   uids = uids;
   has_uids = has_uids place parts.changes elsewhere (kept_are_good (thin_of_parts place day all parts elsewhere) is) uids named;
   same =

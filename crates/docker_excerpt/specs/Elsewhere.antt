@@ -26,7 +26,7 @@ elsewhere_meant place = with_ends (ends_elsewhere place)
 abbrev pub all_kept : List ℕ → Vec Change → Vec Elsewhere → List model.Change
 all_kept place made elsewhere = map change_meant made.items ++ map (elsewhere_meant place) elsewhere.items
 
--- says that two lists have the same changes, perhaps in another order
+-- says that two lists have the same changes, perhaps in another order or number
 abbrev pub HaveSame : List model.Change → List model.Change → Type 0
 HaveSame one other = (change : model.Change) → Contains one change ↔ Contains other change
 

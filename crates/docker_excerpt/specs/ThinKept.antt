@@ -51,8 +51,8 @@ with_keys thinned keys = record {
 abbrev pub HasKeysOf : BTreeSet ScheduleKey → List Change → Type 0
 HasKeysOf keys kept = (change : Change) → Contains kept change → (one : ScheduleKey) → key_meant (key.Schedule one) ≡ change.key → has_key keys one ≡ true
 
--- Says that a thinning of these changes for the place and the day was kept, though perhaps in another order. Also says that the keys of all kept changes are
--- in the set.
+-- Says that a thinning of these changes for the place and the day was kept, though perhaps in another order or number. Also says that the keys of all kept
+-- changes to schedules are in the set.
 pub record HasThinned (place : List ℕ) (day : ℕ) (thinned : Thinned) (all : List Change) : Type 0 where
   pub place_is : thinned.place ≡ place
   pub day_is : thinned.day ≡ day

@@ -19,7 +19,7 @@ pub record ThinRead : Type 0 where
   pub kept : List Change
 
 -- Says that the file was read from the records of a CIF file. Also says that the kept changes are a thinning of the file's changes for the place and the day,
--- though perhaps in another order.
+-- though perhaps in another order or number.
 pub record IsThinRead (thin : ThinRead) : Type 0 where
   pub read : IsRead thin.file
   pub thinned : List Change
@@ -40,10 +40,11 @@ thin_of_parts place day all parts elsewhere = record {
 abbrev pub AreThinParts : List ℕ → ℕ → List Change → FileParts → Vec Elsewhere → Type 0
 AreThinParts place day all parts elsewhere = IsThinRead (thin_of_parts place day all parts elsewhere)
 
--- Says that the parts have the header of the thin file, and the kept changes that its docker needs. The docker needs the changes to TIPLOCs and associations,
--- and the changes to schedules of certain UIDs.
+-- Says that the parts have the header and the number of records of the thin file, and the kept changes that its docker needs. The docker needs the changes
+-- to TIPLOCs and associations, and the changes to schedules of certain UIDs.
 pub record AreNeededParts (thin : ThinRead) (parts : FileParts) : Type 0 where
   pub header : parts.header ≡ thin.file.header_line
+  pub records : parts.records ≡ thin.file.record_count
   pub uids : List (List ℕ)
   pub has_uids : HasUidsOf thin.place thin.kept uids
   pub same : HaveSame (map change_meant parts.changes.items) (wanted_changes uids thin.kept)

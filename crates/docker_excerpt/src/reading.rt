@@ -1,4 +1,4 @@
-//! Reads a CIF file from a source, and keeps only what the docker of one place on one day needs.
+//! Reads a CIF file from a source, and keeps only what the docker of one place on one day may need.
 ghost use Rattle.std.specs.Prelude.{◌≡◌, ◌-◌, ◌^◌, ◌<◌, ◌≤◌};
 ghost use Rattle.cif_device.specs.Device.{IsNotPassed};
 ghost use Rattle.cif_file.specs.FileEnds.{EndsReadingFile};
@@ -13,8 +13,8 @@ use cif_line::{Day, Source, Tiploc};
 use std::alloc::Global;
 use std::marker::Brand;
 
-/// Reads a source to its end, like `read_file` of `cif_file`, but keeps only what the docker of this place on
-/// this day needs. Every record is checked, whether it is kept or not.
+/// Reads a source to its end, like `read_file` of `cif_file`, but keeps only what the docker of this
+/// place on this day may need. Every record is checked, whether it is kept or not.
 pub fn read_thin<S: Source>(
     alloc: Global,
     source: &mut S,

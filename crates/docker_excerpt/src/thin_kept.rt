@@ -1,4 +1,4 @@
-//! The keeper that keeps only what the docker of one place on one day needs.
+//! The keeper that keeps only what the docker of one place on one day may need.
 ghost use Rattle.std.specs.Prelude.{◌≡◌, []};
 ghost use Rattle.docker_excerpt.specs.ThinKept.{KeepsThin};
 
@@ -11,7 +11,7 @@ use cif_line::{Basic, Day, Line, Tiploc};
 use std::alloc::{AllocError, Global};
 use std::marker::PhantomData;
 
-/// A keeper of only those changes that the docker of one place on one day needs. The keeper also
+/// A keeper of only those changes that the docker of one place on one day may need. The keeper also
 /// holds the lines of the schedule that is being read, and whether this schedule runs near the day.
 /// The type `P` gives the place and the day.
 #[derive(Debug, Drop)]

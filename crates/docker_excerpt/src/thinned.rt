@@ -80,8 +80,8 @@ impl Thinned {
         }
     }
 
-    /// Appends a change that is to be kept, and adds its key to the set. The change already
-    /// contains only what the docker needs.
+    /// Appends a change that is to be kept, and adds its key to the set if it is the key of a
+    /// schedule. The change already contains only what the docker may need.
     fn keep(&mut self, change: Change) -> Result<(), AllocError>
         ensures { OnOk result ((place : List ℕ) (day : ℕ) (whole : model.Change)
             → may_matter place whole.key ≡ true

@@ -36,7 +36,8 @@ pub(crate) fn tiploc_body(bytes: &[u8]) -> Option<Body>
 /// Reads the body of the association with this key. Returns `None` if the bytes aren't a body of
 /// this association, or if the association ends before the horizon.
 pub(crate) fn assoc_body(key: &AssocKey, horizon: u16, bytes: &[u8]) -> Option<Body>
-    ensures { MatchOption result (¬ IsAssociationUnder horizon (association_key_meant key.now) bytes.now)
+    ensures { MatchOption result
+        (¬ IsAssociationUnder horizon (association_key_meant key.now) bytes.now)
         (λ body. (body_meant body ≡ association_body bytes.now)
         × IsAssociationUnder horizon (association_key_meant key.now) bytes.now) }
 {

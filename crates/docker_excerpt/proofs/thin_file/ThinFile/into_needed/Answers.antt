@@ -23,5 +23,5 @@ returns c =
     c.as_slice-2.ensures.value c.wanted-elsewhere.ensures in
     let left : FileParts = record { header = it.parts.header; records = it.parts.records; changes = c.in_ok-changes.changes } in
     subst (λ thin. AreNeededParts thin left) c.self.view_is
-    (are_needed it.place it.day it.so_far.changes it.parts it.elsewhere c.self.invariant uids named c.wanted-elsewhere.result of left refl
+    (are_needed it.place it.day it.so_far.changes it.parts it.elsewhere c.self.invariant uids named c.wanted-elsewhere.result of left refl refl
     c.in_ok-changes.ensures)
