@@ -5,16 +5,16 @@ use Rattle.std.specs.Prelude.{Option}
 use Rattle.docker_model.specs.file.File.{most_records}
 use Rattle.docker_model.specs.records.Record.{Kind, kind_of, tiploc_insert, tiploc_amend, tiploc_delete, association, basic_schedule}
 use Rattle.docker_model.specs.file.Change.{Change, Key, Act, acts_by_kind, changes_of_record, changes_from, changes, keeps_code}
-use Rattle.cif_file.specs.declared.ended.Ended.{Ended}
-use Rattle.cif_file.specs.declared.kept.FileSoFar.{FileSoFar}
-use Rattle.cif_file.specs.declared.tally.Tally.{Tally}
+use Rattle.cif_file.specs.declared.file.ended.Ended.{Ended}
+use Rattle.cif_file.specs.declared.keeper.kept.FileSoFar.{FileSoFar}
+use Rattle.cif_file.specs.declared.keeper.counting.CountingKeeper.{CountingKeeper}
 use Rattle.cif_file.specs.KeeperRead.{KeepsAll, CountsChanges}
 use Rattle.cif_file.specs.EndedRead.{file_ended, parts_ended, count_ended}
 use Rattle.cif_file.specs.MadeChanges.{ArePartsOfFile}
 use Rattle.cif_file.specs.FileRead.{IsRead, IsCounted}
 use Rattle.cif_file.specs.ParserRead.{IsOfFileText, IsCountOfFileText, IsEndedText, ParserState, WasFed, IsReading, EndsBy}
 use Rattle.cif_file.specs.SourceRead.{ReadsText, CountsText, ReadsEnded}
-use Rattle.cif_file.specs.declared.parser.FileReading.{FileReading}
+use Rattle.cif_file.specs.declared.read.parser.FileReading.{FileReading}
 use Rattle.cif_file.proofs.ParserLemmas.{reading_at_none}
 
 -- ---- how many changes the records of a file make
@@ -88,7 +88,7 @@ reads_parts limit left ended few reads = are_parts limit reads.text ended few re
 
 -- ---- the counts of a file
 
-pub of_count : (limit : ℕ) (text : List ℕ) (ended : Ended Tally) → limit ≤ most_records → IsEndedText CountsChanges limit text ended
+pub of_count : (limit : ℕ) (text : List ℕ) (ended : Ended CountingKeeper) → limit ≤ most_records → IsEndedText CountsChanges limit text ended
     → IsCountOfFileText (count_ended ended) limit text
 of_count limit text ended few is =
     let within = is.is_text.within in
@@ -103,12 +103,12 @@ of_count limit text ended few is =
       };
     }
 
-pub reads_count : (limit : ℕ) (left : Option (List ℕ)) (ended : Ended Tally) → limit ≤ most_records → ReadsEnded CountsChanges limit left ended
+pub reads_count : (limit : ℕ) (left : Option (List ℕ)) (ended : Ended CountingKeeper) → limit ≤ most_records → ReadsEnded CountsChanges limit left ended
     → CountsText limit left (count_ended ended)
 reads_count limit left ended few reads =
     record { text = reads.text; held = reads.held; of_text = of_count limit reads.text ended few reads.of_text }
 
-pub reads_counted : (limit : ℕ) (left : Option (List ℕ)) (ended : Ended Tally) → limit ≤ most_records → ReadsEnded CountsChanges limit left ended
+pub reads_counted : (limit : ℕ) (left : Option (List ℕ)) (ended : Ended CountingKeeper) → limit ≤ most_records → ReadsEnded CountsChanges limit left ended
     → IsCounted (count_ended ended)
 unfolding of_count
 reads_counted limit left ended few reads =

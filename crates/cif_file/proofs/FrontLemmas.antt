@@ -29,12 +29,12 @@ use Rattle.cif_line.specs.declared.kind_of_record.Kind as code
 use Rattle.cif_line.specs.declared.kind_of_record.Kind.TheVariants.{Header}
 use Rattle.cif_line.specs.Kind.{meaning}
 use Rattle.cif_change.specs.declared.key.Key.TheVariants as key
-use Rattle.cif_file.specs.declared.opened.Opened.{Opened}
-use Rattle.cif_file.specs.declared.front.Front.{Front}
-use Rattle.cif_file.specs.declared.front.FileStage.{FileStage}
-use Rattle.cif_file.specs.declared.front.FileStage.TheVariants.{BeforeHeader, BetweenUnits, InSchedule, AfterEnd}
+use Rattle.cif_file.specs.declared.keeper.opened.Opened.{Opened}
+use Rattle.cif_file.specs.declared.records.front.Front.{Front}
+use Rattle.cif_file.specs.declared.records.front.FileStage.{FileStage}
+use Rattle.cif_file.specs.declared.records.front.FileStage.TheVariants.{BeforeHeader, BetweenUnits, InSchedule, AfterEnd}
 use Rattle.cif_change.specs.Meaning.{key_meant}
-use Rattle.cif_file.specs.declared.ended.Ended.{Ended}
+use Rattle.cif_file.specs.declared.file.ended.Ended.{Ended}
 use Rattle.cif_file.specs.KeeperRead.{Keeps, change_opened, Begins, AddsLine, AddsSingle, Closes}
 use Rattle.cif_file.specs.EndedRead.{IsEnded}
 use Rattle.cif_change.specs.JourneyRead.{progress_meant, HasLines, Advances, IsScheduleCause, is_over_by}

@@ -18,7 +18,7 @@ use Rattle.cif_laws.proofs.files.ReportedFaults.{length_at_end}
 use Rattle.cif_change.specs.declared.cause.FileCause.TheVariants.{Memory, NoEnd}
 use Rattle.cif_change.specs.Cause.{cause_meant}
 use Rattle.cif_file.specs.declared.fault.FileFault.{FileFault}
-use Rattle.cif_file.specs.declared.parser.FileReading.{FileReading}
+use Rattle.cif_file.specs.declared.read.parser.FileReading.{FileReading}
 use Rattle.cif_file.specs.KeeperRead.{Keeps}
 use Rattle.cif_file.specs.RecordsRead.{GoesOnWith}
 use Rattle.cif_file.specs.ParserRead.{IsCauseAfter, IsFaultNext, IsLastOfFile, IsReading, IsRefused}

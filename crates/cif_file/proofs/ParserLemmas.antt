@@ -27,11 +27,11 @@ use Rattle.cif_laws.proofs.files.ReportedFaults.{fault_at_feed, fault_at_long, f
 use Rattle.cif_change.specs.declared.cause.FileCause.{FileCause}
 use Rattle.cif_change.specs.declared.cause.FileCause.TheVariants.{Memory}
 use Rattle.cif_file.specs.declared.fault.FileFault.{FileFault}
-use Rattle.cif_file.specs.declared.front.Front.{Front}
-use Rattle.cif_file.specs.declared.ended.Ended.{Ended}
-use Rattle.cif_file.specs.declared.kept.FileSoFar.{FileSoFar}
+use Rattle.cif_file.specs.declared.records.front.Front.{Front}
+use Rattle.cif_file.specs.declared.file.ended.Ended.{Ended}
+use Rattle.cif_file.specs.declared.keeper.kept.FileSoFar.{FileSoFar}
 use Rattle.cif_file.specs.declared.records.Records.{Records}
-use Rattle.cif_file.specs.declared.parser.FileReading.{FileReading}
+use Rattle.cif_file.specs.declared.read.parser.FileReading.{FileReading}
 use Rattle.cif_file.specs.Cut.{IsCut, BeginsWithEighty, before_rest}
 use Rattle.cif_file.proofs.TextLemmas.{record_cut}
 use Rattle.cif_change.specs.Cause.{cause_meant}

@@ -13,11 +13,11 @@ use Rattle.cif_device.specs.Taken.{AfterEach, HasFed, HasRefused, LosesOnePieceM
 use Rattle.cif_change.specs.declared.cause.FileCause.{FileCause}
 use Rattle.cif_change.specs.declared.cause.FileCause.TheVariants.{Length, Byte, Kind, Place, Field, Midnights, NoEnd, After, TooMany, Memory}
 use Rattle.cif_file.specs.declared.fault.FileFault.{FileFault}
-use Rattle.cif_file.specs.declared.fault.ReadFault.{ReadFault}
-use Rattle.cif_file.specs.declared.fault.ReadFault.TheVariants as read
+use Rattle.cif_file.specs.declared.fault.FileReadFault.{FileReadFault}
+use Rattle.cif_file.specs.declared.fault.FileReadFault.TheVariants as read
 use Rattle.cif_change.specs.Cause.{cause_meant}
-use Rattle.cif_file.specs.declared.ended.Ended.{Ended}
-use Rattle.cif_file.specs.declared.parser.FileReading.{FileReading}
+use Rattle.cif_file.specs.declared.file.ended.Ended.{Ended}
+use Rattle.cif_file.specs.declared.read.parser.FileReading.{FileReading}
 use Rattle.cif_file.specs.KeeperRead.{Keeps}
 use Rattle.cif_file.specs.FileTaken.{TakesFile, RefusesPiece}
 use Rattle.cif_file.proofs.ParserLemmas.{reading_tells_none}
@@ -105,7 +105,7 @@ refused_of limit text fault refused other = by (cause_meant fault.cause) refl re
     by (Some cause) h of = record { cause = cause; cause_is = h; is = of }
 
 -- if reading a source returns a fault of the file, the parser returned this fault, and its cause isn't `Memory`
-returned_as_file : (fault told : FileFault) (result : ReadFault) → (fault.cause ≡ Memory → result ≡ read.Memory)
+returned_as_file : (fault told : FileFault) (result : FileReadFault) → (fault.cause ≡ Memory → result ≡ read.Memory)
     → (fault.cause ≢ Memory → result ≡ read.File fault) → result ≡ read.File told → (fault ≡ told) × (fault.cause ≢ Memory)
 returned_as_file fault told result memory file is =
     let other : fault.cause ≢ Memory = λ same. let wanting : result ≡ read.Memory = memory same in cc in
@@ -125,7 +125,8 @@ memory_or_not TooMany = inr (λ same. cc)
 memory_or_not Memory = inl refl
 
 -- if reading a source returns `Memory`, the parser returned a fault with the cause `Memory`
-returned_as_memory : (fault : FileFault) (result : ReadFault) → (fault.cause ≢ Memory → result ≡ read.File fault) → result ≡ read.Memory → fault.cause ≡ Memory
+returned_as_memory : (fault : FileFault) (result : FileReadFault) → (fault.cause ≢ Memory → result ≡ read.File fault) → result ≡ read.Memory
+    → fault.cause ≡ Memory
 returned_as_memory fault result file is = by (memory_or_not fault.cause)
   where
     by : (fault.cause ≡ Memory) ⊎ (fault.cause ≢ Memory) → fault.cause ≡ Memory
@@ -135,9 +136,9 @@ returned_as_memory fault result file is = by (memory_or_not fault.cause)
 -- ---- faults of the text that a source held
 
 -- if reading a source returns the error `File` at the end of the text, its fault is a fault of the whole text
-pub fault_at_end : {A : Type 0} (limit : ℕ) (text : List ℕ) (fault told : FileFault) (result : ReadFault) → IsRefused limit text fault
+pub fault_at_end : {A : Type 0} (limit : ℕ) (text : List ℕ) (fault told : FileFault) (result : FileReadFault) → IsRefused limit text fault
     → (fault.cause ≡ Memory → result ≡ read.Memory) → (fault.cause ≢ Memory → result ≡ read.File fault)
-    → ◌≡◌ {A = Result A ReadFault} (Err result) (Err (read.File told)) → IsFaultOf limit text told
+    → ◌≡◌ {A = Result A FileReadFault} (Err result) (Err (read.File told)) → IsFaultOf limit text told
 fault_at_end limit text fault told result refused memory file is =
     let told_is : result ≡ read.File told = cc in
     let as_file = returned_as_file fault told result memory file told_is in
@@ -145,9 +146,9 @@ fault_at_end limit text fault told result refused memory file is =
 
 -- if memory runs out at the end of the text, it runs out at the last record
 pub memory_at_end : {K : Type 0} (keeps : Keeps K) (wants : Type 0) {A : Type 0} (limit : ℕ) (text : List ℕ) (reading : FileReading K) (fault : FileFault)
-    (result : ReadFault) → IsReading keeps reading limit text
+    (result : FileReadFault) → IsReading keeps reading limit text
     → IsRefused limit text fault → IsLater keeps wants reading fault → IsLast keeps reading fault → (fault.cause ≢ Memory → result ≡ read.File fault)
-    → ◌≡◌ {A = Result A ReadFault} (Err result) (Err read.Memory)
+    → ◌≡◌ {A = Result A FileReadFault} (Err result) (Err read.Memory)
     → wants × WantsMemoryAt limit (lines_of text) (length (lines_of text)) × IsFileText limit text (lines_of text)
 memory_at_end keeps wants limit text reading fault result has refused later last file is =
     let told_is : result ≡ read.Memory = cc in
@@ -179,7 +180,7 @@ HasRefusedFile keeps wants limit initial next reading fault =
 
 -- if a piece was refused with a fault, this fault is a fault of the text that the source held
 refused_before : {K : Type 0} (keeps : Keeps K) (wants : Type 0) (limit : ℕ) (initial next : Option (List ℕ)) (reading : FileReading K)
-    (fault told : FileFault) (result : ReadFault) → HasRefusedFile keeps wants limit initial next reading fault
+    (fault told : FileFault) (result : FileReadFault) → HasRefusedFile keeps wants limit initial next reading fault
     → (fault.cause ≡ Memory → result ≡ read.Memory) → (fault.cause ≢ Memory → result ≡ read.File fault) → result ≡ read.File told
     → RefusesText limit initial told
 refused_before keeps wants limit initial next reading fault told result has memory file is = by initial next has.more.lost
@@ -200,7 +201,7 @@ refused_before keeps wants limit initial next reading fault told result has memo
 
 -- if memory runs out before the end, it does so at a record that is complete only with the last piece
 wants_before : {K : Type 0} (keeps : Keeps K) (wants : Type 0) (limit : ℕ) (initial next : Option (List ℕ)) (reading : FileReading K)
-    (fault : FileFault) (result : ReadFault) → HasRefusedFile keeps wants limit initial next reading fault
+    (fault : FileFault) (result : FileReadFault) → HasRefusedFile keeps wants limit initial next reading fault
     → (fault.cause ≢ Memory → result ≡ read.File fault) → result ≡ read.Memory → WantsMemoryBy wants 65536 limit initial next
 wants_before keeps wants limit initial next reading fault result has file is =
     let wanting = returned_as_memory fault result file is in
@@ -245,7 +246,7 @@ uncounted_refused fault told failed failed_now is counted = uncounted fault (fee
 -- if all bytes of a source were read, reading ends with the result that the parser returns for
 -- these bytes
 pub ends_whole : {K : Type 0} (keeps : Keeps K) (wants : Type 0) (limit count : ℕ) (initial now : Option (List ℕ)) (reading : FileReading K)
-    (failed failed_now : ℕ) (result : Result (Ended K) ReadFault) → HasFed (TakesFile keeps) count limit [] initial now reading → IsEnd now
+    (failed failed_now : ℕ) (result : Result (Ended K) FileReadFault) → HasFed (TakesFile keeps) count limit [] initial now reading → IsEnd now
     → ReadsNoFurther 65536 limit initial now → failed_now ≡ failed → IfOk result (EndsBy keeps reading)
     → ((limit : ℕ) (text : List ℕ) → IsReading keeps reading limit text → (fault : FileFault) → result ≡ Err (read.File fault) → IsFaultOf limit text fault)
     → ((limit : ℕ) (text : List ℕ) → IsReading keeps reading limit text → result ≡ Err read.Memory
@@ -275,7 +276,7 @@ ends_whole keeps wants limit count initial now reading failed failed_now (Err re
 
 -- if a piece was refused, reading ends with the fault with which it was refused
 pub ends_early : {K : Type 0} (keeps : Keeps K) (wants : Type 0) (limit : ℕ) (initial next : Option (List ℕ)) (reading : FileReading K)
-    (failed failed_now : ℕ) (fault : FileFault) (result : ReadFault) → HasRefusedFile keeps wants limit initial next reading fault
+    (failed failed_now : ℕ) (fault : FileFault) (result : FileReadFault) → HasRefusedFile keeps wants limit initial next reading fault
     → ReadsNoFurther 65536 limit initial next → failed_now ≡ failed
     → (fault.cause ≡ Memory → result ≡ read.Memory) → (fault.cause ≢ Memory → result ≡ read.File fault) → result ≢ read.Source
     → StopsReadingFile limit initial next (IsWhyNoFile (WantsMemoryBy wants) limit initial next result) (CountsWhyNoFile result failed failed_now)
@@ -292,7 +293,7 @@ ends_early keeps wants limit initial next reading failed failed_now fault read.M
 
 -- if reading stops with a fault, and `wants` implies `wants_too`, the fault may also be explained by
 -- `wants_too`
-ends_with : (wants wants_too : Wanting) (limit : ℕ) (left left_now : Option (List ℕ)) (failed failed_now : ℕ) (fault : ReadFault)
+ends_with : (wants wants_too : Wanting) (limit : ℕ) (left left_now : Option (List ℕ)) (failed failed_now : ℕ) (fault : FileReadFault)
     → (wants 65536 limit left left_now → wants_too 65536 limit left left_now)
     → StopsReadingFile limit left left_now (IsWhyNoFile wants limit left left_now fault) (CountsWhyNoFile fault failed failed_now)
     → StopsReadingFile limit left left_now (IsWhyNoFile wants_too limit left left_now fault) (CountsWhyNoFile fault failed failed_now)
@@ -302,7 +303,7 @@ ends_with wants wants_too limit left left_now failed failed_now read.Memory too 
     record { no_further = ends.no_further; outcome = too ends.outcome; failures = ends.failures }
 
 -- if memory ran out where `WantsMemoryBy` allows it, it ran out where `WantsMemory` allows it
-pub wants_any : (wants : Type 0) (limit : ℕ) (left left_now : Option (List ℕ)) (failed failed_now : ℕ) (fault : ReadFault)
+pub wants_any : (wants : Type 0) (limit : ℕ) (left left_now : Option (List ℕ)) (failed failed_now : ℕ) (fault : FileReadFault)
     → StopsReadingFile limit left left_now (IsWhyNoFile (WantsMemoryBy wants) limit left left_now fault) (CountsWhyNoFile fault failed failed_now)
     → StopsReadingFile limit left left_now (IsWhyNoFile WantsMemory limit left left_now fault) (CountsWhyNoFile fault failed failed_now)
 wants_any wants limit left left_now failed failed_now fault ends =
@@ -313,7 +314,7 @@ wants_any wants limit left left_now failed failed_now fault ends =
     by (inr wanting) = inr wanting.1
 
 -- if the keeper can't run out of memory, reading returns `Memory` only before it has read a byte
-pub wants_none : (limit : ℕ) (left left_now : Option (List ℕ)) (failed failed_now : ℕ) (fault : ReadFault)
+pub wants_none : (limit : ℕ) (left left_now : Option (List ℕ)) (failed failed_now : ℕ) (fault : FileReadFault)
     → StopsReadingFile limit left left_now (IsWhyNoFile (WantsMemoryBy ⊥) limit left left_now fault) (CountsWhyNoFile fault failed failed_now)
     → StopsReadingFile limit left left_now (IsWhyNoFile WantsAtStart limit left left_now fault) (CountsWhyNoFile fault failed failed_now)
 wants_none limit left left_now failed failed_now fault ends =

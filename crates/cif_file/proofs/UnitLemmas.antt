@@ -4,10 +4,10 @@ use Rattle.std.specs.Prelude.{is_some}
 use Rattle.docker_model.specs.records.Record.{HasKind, kind_of}
 use Rattle.cif_laws.specs.FileStage.{unit_by_kind, between_units}
 use Rattle.cif_laws.specs.ScheduleStage.{is_first_line}
-use Rattle.cif_file.specs.declared.single.Single.{Single}
-use Rattle.cif_file.specs.declared.single.Single.TheVariants.{TiplocInsert, TiplocAmend, TiplocDelete, Association}
-use Rattle.cif_file.specs.declared.unit.Unit.{Unit}
-use Rattle.cif_file.specs.declared.unit.Unit.TheVariants as unit
+use Rattle.cif_file.specs.declared.keeper.single.Single.{Single}
+use Rattle.cif_file.specs.declared.keeper.single.Single.TheVariants.{TiplocInsert, TiplocAmend, TiplocDelete, Association}
+use Rattle.cif_file.specs.declared.records.unit.Unit.{Unit}
+use Rattle.cif_file.specs.declared.records.unit.Unit.TheVariants as unit
 use Rattle.cif_file.specs.UnitRead.{kind_of_single, line_of_single, IsUnitByKind, IsUnitOf, IsOfSome}
 use Rattle.cif_change.proofs.JourneyLemmas.{first_line_is}
 

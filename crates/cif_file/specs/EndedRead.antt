@@ -1,10 +1,10 @@
 -- Defines what the reader returns for a CIF file that was read to its trailer.
 use Rattle.std.specs.Prelude.{◌≡◌, ℕ, List, [], length, slice_index_or}
 use Rattle.docker_model.specs.file.Change.{changes}
-use Rattle.cif_file.specs.declared.ended.Ended.{Ended}
-use Rattle.cif_file.specs.declared.kept.FileSoFar.{FileSoFar}
-use Rattle.cif_file.specs.declared.parts.FileParts.{FileParts}
-use Rattle.cif_file.specs.declared.tally.Tally.{Tally}
+use Rattle.cif_file.specs.declared.file.ended.Ended.{Ended}
+use Rattle.cif_file.specs.declared.keeper.kept.FileSoFar.{FileSoFar}
+use Rattle.cif_file.specs.declared.file.parts.FileParts.{FileParts}
+use Rattle.cif_file.specs.declared.keeper.counting.CountingKeeper.{CountingKeeper}
 use Rattle.cif_file.specs.KeeperRead.{Keeps}
 use Rattle.cif_file.specs.MadeChanges.{file_of_parts}
 use Rattle.cif_file.specs.FileRead.{FileRead, FileCounted}
@@ -29,5 +29,5 @@ abbrev pub file_ended : Ended FileSoFar → FileRead
 file_ended ended = file_of_parts (parts_ended ended)
 
 -- converts the `Ended` of a keeper that only counts changes to the counts of the file
-abbrev pub count_ended : Ended Tally → FileCounted
+abbrev pub count_ended : Ended CountingKeeper → FileCounted
 count_ended ended = record { header_line = ended.header; record_count = ended.records; change_count = ended.keeper.changes }

@@ -7,7 +7,7 @@ use Rattle.docker_model.specs.file.FileFault as model
 use Rattle.cif_laws.proofs.files.ReportedBound.{text_without_fault_is_bounded}
 use Rattle.cif_change.specs.declared.cause.FileCause.TheVariants.{Memory}
 use Rattle.cif_file.specs.declared.fault.FileFault.{FileFault}
-use Rattle.cif_file.specs.declared.parser.FileReading.{FileReading}
+use Rattle.cif_file.specs.declared.read.parser.FileReading.{FileReading}
 use Rattle.cif_file.specs.KeeperRead.{Keeps}
 use Rattle.cif_file.specs.ParserRead.{IsReading, IsFaultReported}
 

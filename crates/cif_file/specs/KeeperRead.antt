@@ -5,10 +5,10 @@ use Rattle.docker_model.specs.file.File.{IsSchedule}
 use Rattle.docker_model.specs.file.Change.{Change, changes_of_record, schedule_body, delete, put}
 use Rattle.cif_change.specs.declared.key.Key.TheVariants as key
 use Rattle.cif_change.specs.JourneyRead.{progress_meant, HasLines}
-use Rattle.cif_file.specs.declared.opened.Opened.{Opened}
-use Rattle.cif_file.specs.declared.kept.FileSoFar.{FileSoFar}
+use Rattle.cif_file.specs.declared.keeper.opened.Opened.{Opened}
+use Rattle.cif_file.specs.declared.keeper.kept.FileSoFar.{FileSoFar}
 use Rattle.cif_file.specs.MadeChanges.{HasMade}
-use Rattle.cif_file.specs.declared.tally.Tally.{Tally}
+use Rattle.cif_file.specs.declared.keeper.counting.CountingKeeper.{CountingKeeper}
 use Rattle.cif_change.specs.Meaning.{key_meant}
 
 abbrev Lines : Type 0
@@ -62,6 +62,6 @@ AddsSingle keeps old number line new =
 abbrev pub KeepsAll : FileSoFar → Lines → List Change → Type 0
 KeepsAll kept lines changes = (kept.lines.items ≡ with_new_first lines) × HasMade kept.made changes
 
--- Says that a `Tally` has counted exactly these changes, if their number fits in 64 bits.
-abbrev pub CountsChanges : Tally → Lines → List Change → Type 0
+-- Says that a `CountingKeeper` has counted exactly these changes, if their number fits in 64 bits.
+abbrev pub CountsChanges : CountingKeeper → Lines → List Change → Type 0
 CountsChanges tally lines made = length made < 18_446_744_073_709_551_616 → tally.changes ≡ length made

@@ -4,7 +4,7 @@ use Rattle.std.specs.Global.{Vec}
 use Rattle.docker_model.specs.file.Change as model
 use Rattle.cif_change.specs.Meaning.{change_meant}
 use Rattle.cif_change.specs.declared.change.Change.{Change}
-use Rattle.cif_file.specs.declared.parts.FileParts.{FileParts}
+use Rattle.cif_file.specs.declared.file.parts.FileParts.{FileParts}
 use Rattle.cif_file.specs.FileRead.{FileRead, IsRead}
 
 -- Says that a vector has exactly these changes.

@@ -13,11 +13,11 @@ use Rattle.cif_laws.specs.CompleteLines.{open_line}
 use Rattle.cif_file.specs.declared.fault.FileFault.{FileFault}
 use Rattle.cif_change.specs.declared.cause.FileCause.{FileCause}
 use Rattle.cif_change.specs.declared.cause.FileCause.TheVariants.{Memory}
-use Rattle.cif_file.specs.declared.ended.Ended.{Ended}
-use Rattle.cif_file.specs.declared.front.Front.{Front}
-use Rattle.cif_file.specs.declared.kept.FileSoFar.{FileSoFar}
+use Rattle.cif_file.specs.declared.file.ended.Ended.{Ended}
+use Rattle.cif_file.specs.declared.records.front.Front.{Front}
+use Rattle.cif_file.specs.declared.keeper.kept.FileSoFar.{FileSoFar}
 use Rattle.cif_file.specs.declared.records.Records.{Records}
-use Rattle.cif_file.specs.declared.parser.FileReading.{FileReading}
+use Rattle.cif_file.specs.declared.read.parser.FileReading.{FileReading}
 use Rattle.cif_change.specs.Cause.{cause_meant}
 use Rattle.cif_file.specs.Cut.{before_rest}
 use Rattle.cif_file.specs.FileRead.{FileRead, FileCounted, IsOfRecords, IsCountOfRecords}

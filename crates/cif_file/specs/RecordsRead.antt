@@ -9,10 +9,10 @@ use Rattle.cif_laws.specs.FileStage.{before_header, between_units, in_schedule, 
 use Rattle.cif_laws.specs.FileStage as law
 use Rattle.cif_laws.specs.RecordCause.{cause_of}
 use Rattle.cif_change.specs.declared.key.Key.TheVariants as key
-use Rattle.cif_file.specs.declared.opened.Opened.{Opened}
-use Rattle.cif_file.specs.declared.front.FileStage.{FileStage}
-use Rattle.cif_file.specs.declared.front.FileStage.TheVariants.{BeforeHeader, BetweenUnits, InSchedule, AfterEnd}
-use Rattle.cif_file.specs.declared.front.Front.{Front}
+use Rattle.cif_file.specs.declared.keeper.opened.Opened.{Opened}
+use Rattle.cif_file.specs.declared.records.front.FileStage.{FileStage}
+use Rattle.cif_file.specs.declared.records.front.FileStage.TheVariants.{BeforeHeader, BetweenUnits, InSchedule, AfterEnd}
+use Rattle.cif_file.specs.declared.records.front.Front.{Front}
 use Rattle.cif_change.specs.declared.cause.FileCause.{FileCause}
 use Rattle.cif_change.specs.Meaning.{key_meant}
 use Rattle.cif_change.specs.Cause.{cause_meant}

@@ -3,7 +3,7 @@ use Rattle.std.specs.Prelude.{◌≡◌, Bool, true, false, List, [], ◌∷◌,
 use Rattle.docker_model.specs.file.Change.{Change, Act, put, schedule_body}
 use Rattle.cif_change.specs.declared.change.Change as code
 use Rattle.cif_change.specs.Meaning.{change_meant}
-use Rattle.cif_file.specs.declared.single.SingleChanges.{SingleChanges}
+use Rattle.cif_file.specs.declared.keeper.single.SingleChanges.{SingleChanges}
 
 -- the list of the first change, if there is one, and the last change
 abbrev pub listed_after : Option code.Change → Change → List Change

@@ -5,7 +5,7 @@ use Rattle.docker_model.specs.file.FaultSoFar.{IsFaultSoFar, sure_lines}
 use Rattle.docker_model.specs.file.FileFault.{FileCause, IsFileFault, IsFileText}
 use Rattle.docker_model.specs.file.FileFault as model
 use Rattle.cif_device.specs.Device.{Held, Reads}
-use Rattle.cif_file.specs.declared.ended.Ended.{Ended}
+use Rattle.cif_file.specs.declared.file.ended.Ended.{Ended}
 use Rattle.cif_file.specs.declared.fault.FileFault.{FileFault}
 use Rattle.cif_change.specs.Cause.{cause_meant}
 use Rattle.cif_file.specs.FileRead.{FileRead, FileCounted}

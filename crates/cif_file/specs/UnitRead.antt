@@ -3,10 +3,10 @@
 use Rattle.std.specs.Prelude.{◌≡◌, ℕ, List}
 use Rattle.docker_model.specs.records.Record.{Kind, HasKind, IsRecord, tiploc_insert, tiploc_amend, tiploc_delete, association, basic_schedule, trailer}
 use Rattle.docker_model.specs.records.Field.{HasGoodFields}
-use Rattle.cif_file.specs.declared.single.Single.{Single}
-use Rattle.cif_file.specs.declared.single.Single.TheVariants.{TiplocInsert, TiplocAmend, TiplocDelete, Association}
-use Rattle.cif_file.specs.declared.unit.Unit.{Unit}
-use Rattle.cif_file.specs.declared.unit.Unit.TheVariants as unit
+use Rattle.cif_file.specs.declared.keeper.single.Single.{Single}
+use Rattle.cif_file.specs.declared.keeper.single.Single.TheVariants.{TiplocInsert, TiplocAmend, TiplocDelete, Association}
+use Rattle.cif_file.specs.declared.records.unit.Unit.{Unit}
+use Rattle.cif_file.specs.declared.records.unit.Unit.TheVariants as unit
 
 -- the kind of a record that is a unit by itself
 abbrev pub kind_of_single : Single → Kind

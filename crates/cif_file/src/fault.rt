@@ -29,7 +29,7 @@ impl Error for FileFault {}
 
 /// The reason why no file could be read from a source.
 #[derive(Clone, Copy, PartialEq, Eq, Debug)]
-pub enum ReadFault {
+pub enum FileReadFault {
     /// The source failed.
     Source,
     /// The text in the source isn't a CIF file. The cause is never `Memory`.
@@ -38,16 +38,16 @@ pub enum ReadFault {
     Memory,
 }
 
-impl fmt::Display for ReadFault {
+impl fmt::Display for FileReadFault {
     ghost output = { λ fault. Some (read_fault_text fault) };
 
     fn fmt<W: fmt::Write>(&self, f: &mut fmt::Formatter<W>) -> fmt::Result {
         match self {
-            ReadFault::Source => f.write_str("the source failed"),
-            ReadFault::File(fault) => write!(f, "{fault}"),
-            ReadFault::Memory => f.write_str("want of memory"),
+            FileReadFault::Source => f.write_str("the source failed"),
+            FileReadFault::File(fault) => write!(f, "{fault}"),
+            FileReadFault::Memory => f.write_str("want of memory"),
         }
     }
 }
 
-impl Error for ReadFault {}
+impl Error for FileReadFault {}

@@ -4,7 +4,12 @@ ghost use Rattle.cif_change.specs.Meaning.{change_meant};
 ghost use Rattle.cif_file.specs.FileRead.{IsRead};
 ghost use Rattle.cif_file.specs.MadeChanges.{ArePartsOfFile, file_of_parts};
 
-use crate::parts::FileParts;
+pub(crate) mod count;
+pub(crate) mod ended;
+pub(crate) mod header_line;
+pub(crate) mod parts;
+
+use crate::file::parts::FileParts;
 use cif_change::Change;
 use cif_line::Header;
 use std::marker::Model;

@@ -5,15 +5,20 @@ ghost use Rattle.docker_model.specs.file.Change.{Change};
 ghost use Rattle.cif_file.specs.KeeperRead.{Begins, AddsLine, AddsSingle, Closes};
 ghost use Rattle.cif_file.specs.UnitRead.{kind_of_single, line_of_single};
 
-use crate::opened::Opened;
-use crate::single::Single;
+pub(crate) mod counting;
+pub(crate) mod kept;
+pub(crate) mod opened;
+pub(crate) mod single;
+
+use crate::keeper::opened::Opened;
+use crate::keeper::single::Single;
 use cif_line::{Basic, Line};
 use std::alloc::AllocError;
 
 /// A keeper, which decides what a reader keeps of a file's records, besides the header and the
 /// number of records. A keeper receives every record that makes changes, in the order of the file.
 /// [`read_kept`](crate::read_kept) reads a source with any keeper.
-pub trait Keeper: Drop + Sized {
+pub trait ChangeKeeper: Drop + Sized {
     // Says that the keeper holds these lines of the schedule that is being read, and these changes.
     ghost keeps: { Self → List (List ℕ) → List Change → Type 0 };
 

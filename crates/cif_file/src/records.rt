@@ -1,11 +1,14 @@
 //! Numbers the records of a file and checks the limit on their number.
 ghost use Rattle.std.specs.Prelude.{◌≤◌};
 
-use crate::ended::Ended;
+pub(crate) mod front;
+pub(crate) mod unit;
+
 use crate::fault::FileFault;
-use crate::front::Front;
-use crate::keeper::Keeper;
-use crate::next_record::{line_of, take_within};
+use crate::file::ended::Ended;
+use crate::keeper::ChangeKeeper;
+use crate::read::next_record::{line_of, take_within};
+use crate::records::front::Front;
 use cif_change::FileCause;
 use cif_line::Line;
 
@@ -23,7 +26,7 @@ pub(crate) struct Records<K> {
     ghost first: { 1 ≤ next },
 }
 
-impl<K: Keeper> Records<K> {
+impl<K: ChangeKeeper> Records<K> {
     ghost use Rattle.std.specs.Prelude.{ℕ, ◌+◌, ◌≤◌, ◌<◌, List, [], IfOk, IfErr, OnOk, Some};
     ghost use Rattle.cif_change.specs.Cause.{cause_meant};
     ghost use Rattle.cif_file.specs.ParserRead.{HasCounted, CountsNext, FaultsNext, IsLongNext, IsRefusedNext, EndsCounted, EndsUnended};

@@ -9,19 +9,19 @@ ghost use Rattle.docker_bytes.specs.ParserRead.{HasRead, HasFailed};
 use crate::fault::{StateFault, Step};
 use crate::reading::StateReading;
 use state_text::format::Format;
-use state_text::{Keeper, Maker, PartsSoFar, Received, Receiver, State};
+use state_text::{Maker, PartKeeper, PartsSoFar, Received, Receiver, State};
 use std::alloc::Global;
 use std::marker::Model;
 
 /// A parser of the text of one state. The parser is fed the text in pieces of any length. It passes
 /// each complete part to its keeper, and itself holds at most 80 bytes of the next part.
 #[derive(Debug, Drop)]
-pub(crate) struct Parser<K: Keeper> {
+pub(crate) struct Parser<K: PartKeeper> {
     reading: StateReading<K>,
     fault: Option<StateFault>,
 }
 
-impl<K: Keeper> Model for Parser<K> {
+impl<K: PartKeeper> Model for Parser<K> {
     ghost use Rattle.docker_bytes.specs.ParserRead.{ParserState, IsSound};
 
     ghost Value = { ParserState K };
@@ -31,7 +31,7 @@ impl<K: Keeper> Model for Parser<K> {
     ghost invariant = { λ parser. IsSound parser.reading parser.fault };
 }
 
-impl<K: Keeper> Parser<K> {
+impl<K: PartKeeper> Parser<K> {
     /// A parser of a text in this format, of at most `limit` bytes. The parser will pass the parts
     /// to `keeper`, which hasn't been given any part yet.
     pub(crate) fn new(alloc: Global, format: Format, limit: u64, keeper: K) -> Parser<K>

@@ -14,7 +14,7 @@ use crate::fault::StateFault;
 use crate::parser::Parser;
 use cif_line::{FeedFault, Source, Taker, feed_all};
 use state_text::format::Format;
-use state_text::{Indexing, Keeper, Maker, State, StateCause, Whole};
+use state_text::{Indexing, Maker, PartKeeper, State, StateCause, Whole};
 use std::alloc::Global;
 use std::error::Error;
 use std::fmt;
@@ -100,7 +100,7 @@ pub(crate) fn read_format<S: Source, K: Maker>(
 
 /// Feeds all bytes of a source to a parser that has read no bytes yet, in pieces of at most 65,536
 /// bytes. If a byte follows the state, the result is the fault `Tail`.
-pub(crate) fn read_pieces<S: Source, K: Keeper>(
+pub(crate) fn read_pieces<S: Source, K: PartKeeper>(
     alloc: Global,
     source: &mut S,
     parser: &mut Parser<K>,
@@ -123,7 +123,7 @@ pub(crate) fn read_pieces<S: Source, K: Keeper>(
     }
 }
 
-impl<K: Keeper> Taker for Parser<K> {
+impl<K: PartKeeper> Taker for Parser<K> {
     ghost use Rattle.docker_bytes.specs.StateTaken.{RefusesPart, StateSettings, TakesState, taken_is_bounded};
 
     type Fault = ReadFault;
@@ -142,7 +142,7 @@ impl<K: Keeper> Taker for Parser<K> {
 }
 
 /// Feeds bytes to a parser. If a byte follows the state, the result is the fault `Tail`.
-fn feed<K: Keeper>(parser: &mut Parser<K>, piece: &[u8]) -> Result<(), ReadFault>
+fn feed<K: PartKeeper>(parser: &mut Parser<K>, piece: &[u8]) -> Result<(), ReadFault>
     ensures read { (format : formats.Format) (limit : ℕ) (text : List ℕ) →
         HasRead parser.old format limit text → IsOk result →
         HasRead parser.new format limit (text ++ piece.now) }
@@ -180,7 +180,7 @@ fn finish<K: Maker>(parser: Parser<K>) -> Result<K::Made, ReadFault>
 
 /// The fault of a text in which a byte follows the state. Its offset is the number of bytes that
 /// the parser has read.
-fn tail<K: Keeper>(parser: &Parser<K>) -> StateFault
+fn tail<K: PartKeeper>(parser: &Parser<K>) -> StateFault
     requires { parser.now.fault ≡ None }
     ensures at { (format : formats.Format) (limit : ℕ) (text : List ℕ) →
         HasRead parser.now format limit text → result.at ≡ length text }

@@ -9,8 +9,8 @@ use arrayvec::ArrayVec;
 use fixed_text::put;
 use state_text::format::{Format, LINE};
 use state_text::{
-    Gathered, Keeper, Maker, PartsSoFar, Received, Receiver, ScheduleKey, Stage, State, StateCause,
-    judged_inner_line, put_head, step,
+    Gathered, Maker, PartKeeper, PartsSoFar, Received, Receiver, ScheduleKey, Stage, State,
+    StateCause, judged_inner_line, put_head, step,
 };
 use std::alloc::Global;
 
@@ -18,7 +18,7 @@ use std::alloc::Global;
 /// kind of the next part. It also keeps the bytes of the next part that were read, and the offset
 /// at which this part's item began.
 #[derive(Debug, Drop)]
-pub(crate) struct StateReading<K: Keeper> {
+pub(crate) struct StateReading<K: PartKeeper> {
     alloc: Global,
     format: Format,
     limit: u64,
@@ -30,7 +30,7 @@ pub(crate) struct StateReading<K: Keeper> {
     reached: u64,
 }
 
-impl<K: Keeper> StateReading<K> {
+impl<K: PartKeeper> StateReading<K> {
     /// A reading that hasn't read any byte, for a text in this format of at most `limit` bytes.
     pub(crate) fn new(
         alloc: Global,

@@ -3,8 +3,8 @@ use Rattle.std.proofs.Common.{◌≡◌, ℕ, arith, refl, inl, inr, Err}
 use Rattle.std.specs.Prelude.{Result}
 use Rattle.cif_file.specs.FileEnds.{CountsWhyNoFile, IsWhyNoFile, StopsReadingFile}
 use Rattle.cif_file.specs.SourceRead.{WantsAtStart}
-use Rattle.cif_file.specs.declared.fault.ReadFault as files
-use Rattle.cif_file.specs.declared.fault.ReadFault.TheVariants as file_faults
+use Rattle.cif_file.specs.declared.fault.FileReadFault as files
+use Rattle.cif_file.specs.declared.fault.FileReadFault.TheVariants as file_faults
 use Rattle.docker_model.specs.file.File.{most_records}
 use Rattle.docker_model.specs.state.StateText.{Format, dks_2}
 use Rattle.docker_bytes.specs.ReadEnds.{CountsWhy, IsWhyUnread, StopsReading}
@@ -74,7 +74,7 @@ file_failed_alone A one one_now two office.Sink counted = counted
 
 -- if checking the file in the only source ends with a fault, this fault is one for which the source
 -- may be refused
-pub check_refused : (left left_now second : DeviceBytes) (failed failed_now : ℕ) (cause : files.ReadFault)
+pub check_refused : (left left_now second : DeviceBytes) (failed failed_now : ℕ) (cause : files.FileReadFault)
     → StopsReadingFile most_records left left_now (IsWhyNoFile WantsAtStart most_records left left_now cause) (CountsWhyNoFile cause failed failed_now)
     → ReadsFew checked_file left left_now second second (IsWhyRefused checked_file left left_now second second (office_fault_of_file cause))
 check_refused left left_now second failed failed_now file_faults.Source ends =
@@ -86,7 +86,7 @@ check_refused left left_now second failed failed_now file_faults.Memory ends =
 
 -- if checking the file in the only source ends with a fault, the source has failed if and only if
 -- the fault is `Source`
-pub check_failed : (one one_now two : ℕ) (cause : files.ReadFault) → CountsWhyNoFile cause one one_now
+pub check_failed : (one one_now two : ℕ) (cause : files.FileReadFault) → CountsWhyNoFile cause one one_now
     → FailsBy one one_now two two (office_fault_of_file cause)
 check_failed one one_now two file_faults.Source counted = omega arith
 check_failed one one_now two (file_faults.File fault) counted = (counted, refl)

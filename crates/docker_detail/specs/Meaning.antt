@@ -6,7 +6,7 @@ use Rattle.docker_model.specs.records.Field.{HasGoodFields}
 use Rattle.docker_detail.specs.OriginText.{found_text}
 use Rattle.docker_detail.specs.Records.{EventRecords, Place, first_of, place_from}
 use Rattle.docker_detail.specs.declared.event_records.EventRecords as code
-use Rattle.docker_detail.specs.declared.origin.Origin.{Origin}
+use Rattle.docker_detail.specs.declared.origin.LineOrigin.{LineOrigin}
 use Rattle.docker_detail.specs.declared.record_walk.RecordWalk.{RecordWalk}
 
 -- the place that a walk finds for the event with this number
@@ -32,8 +32,8 @@ records_meant records = record {
   location = option_copied records.location;
 }
 
--- the text of the code's `Origin`
-abbrev pub origin_meant : Origin → List ℕ
+-- the text of the code's `LineOrigin`
+abbrev pub origin_meant : LineOrigin → List ℕ
 origin_meant origin = found_text origin.start origin.number (record {
   basic = option_copied origin.basic;
   extra = option_copied origin.extra;

@@ -2,7 +2,7 @@
 ghost use Rattle.std.specs.Prelude.{◌≡◌};
 ghost use Rattle.docker_detail.specs.Meaning.{origin_meant};
 
-use crate::origin::Origin;
+use crate::origin::LineOrigin;
 use docker_day::DockerLine;
 use std::marker::Model;
 
@@ -10,7 +10,7 @@ use std::marker::Model;
 #[derive(Debug, Drop)]
 pub struct DetailedLine<'a> {
     pub(crate) line: DockerLine<'a>,
-    pub(crate) origin: Origin<'a>,
+    pub(crate) origin: LineOrigin<'a>,
 }
 
 impl<'a> Model for DetailedLine<'a> {
@@ -32,7 +32,7 @@ impl<'a> DetailedLine<'a> {
     }
 
     /// Where the docker line comes from.
-    pub(crate) fn origin(&self) -> &Origin<'a>
+    pub(crate) fn origin(&self) -> &LineOrigin<'a>
         ensures { origin_meant result.now ≡ self.now.1 }
     {
         &self.origin

@@ -3,7 +3,7 @@ use cif_line::{Day, Line};
 
 /// Where a docker line comes from. A record that there isn't is `None`.
 #[derive(Debug, Drop)]
-pub(crate) struct Origin<'a> {
+pub(crate) struct LineOrigin<'a> {
     /// The day on which the train starts.
     pub(crate) start: Day,
     /// The number of the event, counted from 1.

@@ -7,7 +7,7 @@ ghost use Rattle.docker_detail.specs.Finding.{AreFound, IsLineFound, firsts};
 
 use crate::detailed_line::DetailedLine;
 use crate::link_records::LinkRecords;
-use crate::origin::Origin;
+use crate::origin::LineOrigin;
 use crate::train_records::TrainRecords;
 use cif_line::{Memory, Tiploc};
 use docker_day::DockerLine;
@@ -56,7 +56,7 @@ impl<'a> Finder<'a> {
         let association = self.links.of_line(&line)?;
         let (start, number) = (line.start(), line.number());
         let records = self.trains.of_event(&line.uid(), start, number);
-        let origin = Origin {
+        let origin = LineOrigin {
             start,
             number,
             basic: records.basic,

@@ -17,7 +17,7 @@ ghost use Rattle.docker_detail.specs.Meaning.{origin_meant};
 
 use crate::detailed_line::DetailedLine;
 use crate::detailed_list::DetailedDocker;
-use crate::origin::Origin;
+use crate::origin::LineOrigin;
 use arrayvec::ArrayVec;
 use cif_line::{Day, Failed, Line, Sink, Tiploc, write_all};
 use docker_day::{heading, last_line, text_of_line};
@@ -113,7 +113,7 @@ fn text_of_detailed(line: &DetailedLine<'_>) -> ArrayVec<u8, ROOM>
 }
 
 /// Appends the text of an origin.
-fn put_origin(text: &mut ArrayVec<u8, ROOM>, origin: &Origin<'_>)
+fn put_origin(text: &mut ArrayVec<u8, ROOM>, origin: &LineOrigin<'_>)
     requires room { array_vec_len text.old ≡ 56 }
     ensures items { text.new.items ≡ text.old.items ++ origin_meant origin.now }
     ensures len { array_vec_len text.new ≤ 493 }

@@ -5,7 +5,7 @@ use Rattle.std.specs.Prelude.{Option}
 use Rattle.docker_model.specs.file.File.{most_records}
 use Rattle.docker_model.specs.file.Change.{Change}
 use Rattle.docker_laws.specs.Thinning.{IsThinning}
-use Rattle.cif_file.specs.declared.ended.Ended.{Ended}
+use Rattle.cif_file.specs.declared.file.ended.Ended.{Ended}
 use Rattle.docker_excerpt.specs.declared.thin_kept.ThinSoFar.{ThinSoFar}
 use Rattle.cif_file.specs.EndedRead.{IsEnded}
 use Rattle.cif_file.specs.FileRead.{IsOfRecords}

@@ -26,7 +26,7 @@ use Rattle.cif_change.specs.JourneyRead.{progress_meant, HasLines}
 use Rattle.cif_change.specs.contracts.key.ScheduleKeyOrd.TheImpl.Laws.{total-law}
 use Rattle.cif_change.specs.Meaning.{change_meant, key_meant}
 use Rattle.cif_change.proofs.SameKeys.{same_key}
-use Rattle.cif_file.specs.declared.opened.Opened.{Opened}
+use Rattle.cif_file.specs.declared.keeper.opened.Opened.{Opened}
 use Rattle.docker_excerpt.specs.declared.thinned.Thinned.{Thinned}
 use Rattle.docker_excerpt.specs.declared.elsewhere.Elsewhere.{Elsewhere}
 use Rattle.docker_excerpt.specs.Elsewhere.{elsewhere_meant, all_kept, HaveSame}

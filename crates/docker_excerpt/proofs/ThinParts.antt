@@ -13,7 +13,7 @@ use Rattle.cif_laws.proofs.lists.Membership.{Contains-map, map-Contains}
 use Rattle.cif_laws.proofs.lists.FilteredMembers.{filter_back, filter_forth}
 use Rattle.cif_change.specs.declared.key.Key.TheVariants as key
 use Rattle.cif_change.specs.Meaning.{change_meant, key_meant}
-use Rattle.cif_file.specs.declared.parts.FileParts.{FileParts}
+use Rattle.cif_file.specs.declared.file.parts.FileParts.{FileParts}
 use Rattle.cif_file.specs.FileRead.{IsOfRecords}
 use Rattle.docker_state.specs.MadeState.{HaveRecords, IsMadeState, MakeValid}
 use Rattle.docker_state.specs.Rows.{made_by}

@@ -1,7 +1,7 @@
 -- Defines what the reader of a thin file returns at the end of the file.
 use Rattle.std.specs.Prelude.{◌≡◌, ℕ, List, Option}
-use Rattle.cif_file.specs.declared.ended.Ended.{Ended}
-use Rattle.cif_file.specs.declared.parts.FileParts.{FileParts}
+use Rattle.cif_file.specs.declared.file.ended.Ended.{Ended}
+use Rattle.cif_file.specs.declared.file.parts.FileParts.{FileParts}
 use Rattle.cif_file.specs.SourceRead.{ReadsText}
 use Rattle.docker_excerpt.specs.declared.thin_kept.ThinSoFar.{ThinSoFar}
 use Rattle.docker_excerpt.specs.ThinRead.{ThinRead, thin_of_parts}

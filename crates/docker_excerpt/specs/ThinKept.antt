@@ -14,7 +14,7 @@ use Rattle.cif_change.specs.contracts.key.ScheduleKeyOrd.TheImpl as order
 use Rattle.std.specs.declared.cmp.Ordering.{Ordering}
 use Rattle.cif_change.specs.JourneyRead.{progress_meant, HasLines}
 use Rattle.cif_change.specs.Meaning.{key_meant}
-use Rattle.cif_file.specs.declared.opened.Opened.{Opened}
+use Rattle.cif_file.specs.declared.keeper.opened.Opened.{Opened}
 use Rattle.docker_excerpt.specs.declared.thinned.Thinned.{Thinned}
 use Rattle.docker_excerpt.specs.declared.thin_kept.ThinSoFar.{ThinSoFar}
 use Rattle.cif_file.specs.KeeperRead.{change_opened, with_new_first}

@@ -5,7 +5,7 @@ use Rattle.std.specs.Global.{Vec}
 use Rattle.docker_model.specs.file.Change.{Change}
 use Rattle.docker_laws.specs.Thinning.{IsThinning, HasUidsOf, wanted_changes}
 use Rattle.cif_change.specs.Meaning.{change_meant}
-use Rattle.cif_file.specs.declared.parts.FileParts.{FileParts}
+use Rattle.cif_file.specs.declared.file.parts.FileParts.{FileParts}
 use Rattle.cif_file.specs.FileRead.{FileRead, IsRead}
 use Rattle.docker_excerpt.specs.declared.elsewhere.Elsewhere.{Elsewhere}
 use Rattle.docker_excerpt.specs.Elsewhere.{all_kept, HaveSame}

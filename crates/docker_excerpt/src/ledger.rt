@@ -12,7 +12,7 @@ ghost use Rattle.docker_excerpt.specs.Values.{with_entries};
 
 use cif_change::Key;
 use cif_line::Memory;
-use state_text::{Entry, Given, Keeper, LedgerItem, Parts};
+use state_text::{Entry, Given, LedgerItem, PartKeeper, Parts};
 use std::alloc::Global;
 use std::fmt;
 use std::marker::Model;
@@ -140,7 +140,7 @@ impl Ledger {
     }
 }
 
-impl Keeper for Ledger {
+impl PartKeeper for Ledger {
     ghost given = { λ ledger. ledger };
 
     fn item(&mut self, item: LedgerItem) -> Result<(), Memory> {

@@ -1,5 +1,5 @@
 //! An excerpt whose place and day are determined by its type. A reader passes a state's parts to an
-//! `ExcerptingAt`, as to any `Keeper`.
+//! `ExcerptingAt`, as to any `PartKeeper`.
 ghost use Rattle.std.specs.Prelude.{◌≡◌, []};
 
 use crate::excerpt::Excerpt;
@@ -7,7 +7,7 @@ use crate::excerpting::Excerpting;
 use crate::place_day::PlaceDay;
 use cif_change::Key;
 use cif_line::{Day, Memory, Tiploc};
-use state_text::{Entry, Keeper, LedgerItem, Maker};
+use state_text::{Entry, LedgerItem, Maker, PartKeeper};
 use std::alloc::Global;
 use std::marker::{Model, PhantomData};
 
@@ -44,7 +44,7 @@ impl<P: PlaceDay> ExcerptingAt<P> {
     }
 }
 
-impl<P: PlaceDay> Keeper for ExcerptingAt<P> {
+impl<P: PlaceDay> PartKeeper for ExcerptingAt<P> {
     ghost given = { λ it. it };
 
     fn item(&mut self, item: LedgerItem) -> Result<(), Memory> {

@@ -8,7 +8,7 @@ ghost use Rattle.docker_excerpt.specs.ThinEnded.{ReadsThin};
 use crate::place_day::PlaceDay;
 use crate::thin_file::{ThinFile, thin_of};
 use crate::thin_kept::ThinSoFar;
-use cif_file::{MOST_RECORDS, ReadFault, read_kept};
+use cif_file::{FileReadFault, MOST_RECORDS, read_kept};
 use cif_line::{Day, Source, Tiploc};
 use std::alloc::Global;
 use std::marker::Brand;
@@ -21,7 +21,7 @@ pub fn read_thin<S: Source>(
     place: Tiploc,
     day: Day,
     limit: u32,
-) -> Result<ThinFile, ReadFault>
+) -> Result<ThinFile, FileReadFault>
     requires failures { S.failures source.old < 2 ^ 64 - 1 }
     requires limit { limit ≤ MOST_RECORDS }
     ensures reads { EndsReadingFile WantsMemory S.left S.failures limit
@@ -39,7 +39,7 @@ fn thin_at<P: PlaceDay, S: Source>(
     place: Tiploc,
     day: Day,
     limit: u32,
-) -> Result<ThinFile, ReadFault>
+) -> Result<ThinFile, FileReadFault>
     requires failures { S.failures source.old < 2 ^ 64 - 1 }
     requires limit { limit ≤ MOST_RECORDS }
     requires place { place ≡ P.place }

@@ -6,7 +6,7 @@ use crate::changes_so_far::{ChangesSoFar, OpenLines};
 use crate::place_day::PlaceDay;
 use crate::start_days::runs_near_unless_deleted;
 use crate::thinned::Thinned;
-use cif_file::{Keeper, Opened, Single, changes_of};
+use cif_file::{ChangeKeeper, Opened, Single, changes_of};
 use cif_line::{Basic, Day, Line, Tiploc};
 use std::alloc::{AllocError, Global};
 use std::marker::PhantomData;
@@ -55,7 +55,7 @@ impl<P: PlaceDay> ThinSoFar<P> {
     }
 }
 
-impl<P: PlaceDay> Keeper for ThinSoFar<P> {
+impl<P: PlaceDay> ChangeKeeper for ThinSoFar<P> {
     ghost use Rattle.std.specs.Prelude.{⊤};
 
     ghost keeps = { KeepsThin P.place P.day };

@@ -14,8 +14,8 @@ use Rattle.cif_file.specs.FileRead.{FileRead, IsOfRecords}
 use Rattle.cif_file.specs.FileEnds.{CountsWhyNoFile, IsWhyNoFile, StopsReadingFile}
 use Rattle.cif_file.specs.SourceRead.{ReadsText, RefusesText, WantsMemory}
 use Rattle.cif_file.specs.declared.fault.FileFault.{FileFault}
-use Rattle.cif_file.specs.declared.fault.ReadFault as files
-use Rattle.cif_file.specs.declared.fault.ReadFault.TheVariants as file_faults
+use Rattle.cif_file.specs.declared.fault.FileReadFault as files
+use Rattle.cif_file.specs.declared.fault.FileReadFault.TheVariants as file_faults
 use Rattle.docker_bytes.specs.Excerpts.{IsExcerptAt}
 use Rattle.cif_device.specs.Device.{IsEnd, Held}
 use Rattle.docker_bytes.specs.ReadEnds.{BytesLeft, CountsOutcome, CountsWhy, IsOutcome, IsWhyUnread, StopsReading, Wanting}
@@ -72,7 +72,7 @@ unread_by_office wants format limit left left_now failures failures_now (state_f
 unread_by_office wants format limit left left_now failures failures_now state_faults.Memory ends = ends
 
 -- if the reader of files returns a fault, the office returns a fault with the same meaning
-pub untaken : {A : Type 0} (limit : ℕ) (IsMade : A → Type 0) (left left_now : BytesLeft) (failures failures_now : ℕ) (cause : files.ReadFault)
+pub untaken : {A : Type 0} (limit : ℕ) (IsMade : A → Type 0) (left left_now : BytesLeft) (failures failures_now : ℕ) (cause : files.FileReadFault)
     → StopsReadingFile limit left left_now (IsWhyNoFile WantsMemory limit left left_now cause) (CountsWhyNoFile cause failures failures_now)
     → StopsReadingFile limit left left_now (IsTakingOutcome limit IsMade left left_now (Err (office_fault_of_file cause)))
     (CountsTaking {A = A} failures failures_now (Err (office_fault_of_file cause)))

@@ -1,8 +1,8 @@
 -- The faults of an office: which fault an office reports if a call that it makes has failed, and
 -- which faults each kind of call can return.
 use Rattle.std.specs.Prelude.{⊤}
-use Rattle.cif_file.specs.declared.fault.ReadFault as files
-use Rattle.cif_file.specs.declared.fault.ReadFault.TheVariants as file_faults
+use Rattle.cif_file.specs.declared.fault.FileReadFault as files
+use Rattle.cif_file.specs.declared.fault.FileReadFault.TheVariants as file_faults
 use Rattle.docker_bytes.specs.declared.read.ReadFault as states
 use Rattle.docker_bytes.specs.declared.read.ReadFault.TheVariants as state_faults
 use Rattle.docker_day.specs.declared.fault.DockerFault as dockers
@@ -11,7 +11,7 @@ use Rattle.docker_office.specs.declared.fault.OfficeFault.{OfficeFault}
 use Rattle.docker_office.specs.declared.fault.OfficeFault.TheVariants.{File, State, Lapsed, Source, Sink, Memory}
 
 -- the office's fault if a file couldn't be read because of this fault
-abbrev pub office_fault_of_file : files.ReadFault → OfficeFault
+abbrev pub office_fault_of_file : files.FileReadFault → OfficeFault
 office_fault_of_file file_faults.Source = Source
 office_fault_of_file (file_faults.File fault) = File fault
 office_fault_of_file file_faults.Memory = Memory

@@ -2,8 +2,8 @@
 use Rattle.std.specs.Prelude.{◌≡◌, ℕ, Option, Some, None, IsSomeAnd, Result, Ok, Err}
 use Rattle.cif_device.specs.Device.{IsEnd}
 use Rattle.cif_file.specs.FileEnds.{CountsWhyNoFile, IsWhyNoFile, StopsReadingFile}
-use Rattle.cif_file.specs.declared.fault.ReadFault as files
-use Rattle.cif_file.specs.declared.fault.ReadFault.TheVariants as file_faults
+use Rattle.cif_file.specs.declared.fault.FileReadFault as files
+use Rattle.cif_file.specs.declared.fault.FileReadFault.TheVariants as file_faults
 use Rattle.docker_bytes.specs.ReadEnds.{BytesLeft, EndsReadingBy}
 use Rattle.docker_bytes.specs.SourceRead.{WantsMemory}
 use Rattle.docker_bytes.specs.declared.read.ReadFault.{ReadFault}
@@ -34,7 +34,7 @@ EndsReadingState left failures format limit IsMade source source_now result =
 
 -- converts an office's fault to the fault with which the reader of a file stopped. The result is
 -- `None` if the office's fault doesn't come from taking a file
-abbrev pub why_untaken : OfficeFault → Option files.ReadFault
+abbrev pub why_untaken : OfficeFault → Option files.FileReadFault
 why_untaken (File fault) = Some (file_faults.File fault)
 why_untaken Source = Some file_faults.Source
 why_untaken Memory = Some file_faults.Memory

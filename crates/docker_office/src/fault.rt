@@ -29,17 +29,17 @@ pub enum OfficeFault {
     Memory,
 }
 
-impl From<cif_file::ReadFault> for OfficeFault {
+impl From<cif_file::FileReadFault> for OfficeFault {
     ghost use Rattle.docker_office.specs.Faults.{office_fault_of_file};
     ghost use Rattle.std.specs.Prelude.{◌≡◌};
 
     ghost from_gives = { λ cause fault. fault ≡ office_fault_of_file cause };
 
-    fn from(cause: cif_file::ReadFault) -> OfficeFault {
+    fn from(cause: cif_file::FileReadFault) -> OfficeFault {
         match cause {
-            cif_file::ReadFault::Source => OfficeFault::Source,
-            cif_file::ReadFault::File(fault) => OfficeFault::File(fault),
-            cif_file::ReadFault::Memory => OfficeFault::Memory,
+            cif_file::FileReadFault::Source => OfficeFault::Source,
+            cif_file::FileReadFault::File(fault) => OfficeFault::File(fault),
+            cif_file::FileReadFault::Memory => OfficeFault::Memory,
         }
     }
 }

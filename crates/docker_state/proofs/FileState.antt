@@ -22,7 +22,7 @@ use Rattle.state_laws.proofs.joins.RaisedHorizon.{plain_summary}
 use Rattle.cif_file.specs.FileRead.{FileRead}
 use Rattle.cif_change.specs.Meaning.{change_meant}
 use Rattle.cif_change.specs.declared.key.Key.{Key}
-use Rattle.cif_file.specs.declared.parts.FileParts.{FileParts}
+use Rattle.cif_file.specs.declared.file.parts.FileParts.{FileParts}
 use Rattle.cif_file.specs.MadeChanges.{file_of_parts}
 use Rattle.docker_join.specs.declared.entry.Entry.{Entry}
 use Rattle.docker_join.specs.declared.stamp.FileStamp as code

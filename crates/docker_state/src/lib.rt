@@ -25,7 +25,7 @@ pub use docker_join::Merge;
 pub use item::LedgerItem;
 pub use live::Live;
 pub use parts::Parts;
-pub use place_rows::{Numbered, PlaceRows};
+pub use place_rows::PlaceRows;
 pub use staging::Staging;
 pub use state::State;
 pub use timetable::Timetable;

@@ -1,4 +1,4 @@
-//! Iterators over the live rows at a place, found in an index or among all rows.
+//! An iterator over the live rows at a place, found in an index or among all rows.
 ghost use Rattle.std.specs.Prelude.{◌≡◌};
 ghost use Rattle.std.specs.Iterator.{YieldsFirstBy, item_count};
 ghost use Rattle.cif_change.specs.Meaning.{key_meant, body_meant};
@@ -6,14 +6,14 @@ ghost use Rattle.docker_state.specs.Walked.{rows_walked};
 
 use crate::sifted::SiftedRows;
 use cif_file::{Body, Key};
-use state_index::Numbered as NumberedRows;
+use state_index::IndexedRows;
 use std::marker::Model;
 
 /// How the live rows at a place are found.
 #[derive(Clone, Debug, Drop)]
 pub(crate) enum Walk<'a> {
     /// The rows are found with the postings of an index.
-    Numbered(NumberedRows<'a>),
+    Indexed(IndexedRows<'a>),
     /// The rows are found by a walk over all rows.
     Sifted(SiftedRows<'a>),
 }
@@ -25,7 +25,7 @@ impl<'a> Walk<'a> {
             rows_walked self.old result self.new }
     {
         match self {
-            Walk::Numbered(rows) => rows.next(),
+            Walk::Indexed(rows) => rows.next(),
             Walk::Sifted(rows) => rows.next(),
         }
     }
@@ -35,47 +35,18 @@ impl<'a> Walk<'a> {
 /// among all rows, the key and the body. No clause says that the row's index is right. A caller may
 /// use it as a hint about where to look first, but no result may depend on it.
 #[derive(Clone, Debug, Drop)]
-pub struct Numbered<'a> {
+pub struct PlaceRows<'a> {
     walk: Walk<'a>,
 }
 
-impl<'a> Model for Numbered<'a> {
+impl<'a> Model for PlaceRows<'a> {
     ghost use Rattle.std.specs.Prelude.{List};
     ghost use Rattle.docker_model.specs.state.Row.{Row};
     ghost use Rattle.docker_state.specs.Walked.{rows_walked};
 
     ghost Value = { List Row };
 
-    ghost view = { λ numbered. rows_walked numbered.walk };
-}
-
-impl<'a> Iterator for Numbered<'a> {
-    type Item = (usize, &'a Key, &'a Body);
-
-    ghost next_gives = { YieldsFirstBy
-        (λ row. (key_meant row.1.now, body_meant row.2.now)) (λ numbered. numbered) };
-
-    ghost remaining = { item_count (λ numbered. numbered) };
-
-    fn next(&mut self) -> Option<(usize, &'a Key, &'a Body)> {
-        self.walk.next()
-    }
-}
-
-/// An iterator over the live rows at a place, in key order. It returns the key and the body of each
-/// row.
-#[derive(Clone, Debug, Drop)]
-pub struct PlaceRows<'a> {
-    numbered: Numbered<'a>,
-}
-
-impl<'a> Model for PlaceRows<'a> {
-    ghost use Rattle.std.specs.Prelude.{List};
-    ghost use Rattle.docker_model.specs.state.Row.{Row};
-
-    ghost Value = { List Row };
-
-    ghost view = { λ rows. rows.numbered };
+    ghost view = { λ rows. rows_walked rows.walk };
 }
 
 impl<'a> PlaceRows<'a> {
@@ -83,32 +54,19 @@ impl<'a> PlaceRows<'a> {
     pub(crate) fn of(walk: Walk<'a>) -> PlaceRows<'a>
         ensures { result ≡ rows_walked walk.entry }
     {
-        PlaceRows {
-            numbered: Numbered { walk },
-        }
-    }
-
-    /// An iterator over the same rows that also returns each row's index among all rows, counted
-    /// from 0.
-    pub fn numbered(self) -> Numbered<'a>
-        ensures { result ≡ self.entry }
-    {
-        self.numbered
+        PlaceRows { walk }
     }
 }
 
 impl<'a> Iterator for PlaceRows<'a> {
-    type Item = (&'a Key, &'a Body);
+    type Item = (usize, &'a Key, &'a Body);
 
     ghost next_gives = { YieldsFirstBy
-        (λ row. (key_meant row.0.now, body_meant row.1.now)) (λ rows. rows) };
+        (λ row. (key_meant row.1.now, body_meant row.2.now)) (λ rows. rows) };
 
     ghost remaining = { item_count (λ rows. rows) };
 
-    fn next(&mut self) -> Option<(&'a Key, &'a Body)> {
-        match self.numbered.next() {
-            Some((_, key, body)) => Some((key, body)),
-            None => None,
-        }
+    fn next(&mut self) -> Option<(usize, &'a Key, &'a Body)> {
+        self.walk.next()
     }
 }

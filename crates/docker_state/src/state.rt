@@ -336,7 +336,7 @@ impl State {
     {
         let rows = self.entries.as_slice();
         match &self.index {
-            Some(index) => { PlaceRows::of(Walk::Numbered(index.calling(rows, tiploc).numbered())) }
+            Some(index) => { PlaceRows::of(Walk::Indexed(index.calling(rows, tiploc))) }
             None => PlaceRows::of(Walk::Sifted(SiftedRows::of(rows, tiploc, false))),
         }
     }
@@ -361,7 +361,7 @@ impl State {
     {
         let rows = self.entries.as_slice();
         match &self.index {
-            Some(index) => PlaceRows::of(Walk::Numbered(index.linked(rows, tiploc).numbered())),
+            Some(index) => PlaceRows::of(Walk::Indexed(index.linked(rows, tiploc))),
             None => PlaceRows::of(Walk::Sifted(SiftedRows::of(rows, tiploc, true))),
         }
     }
@@ -375,8 +375,8 @@ impl State {
     }
 
     /// Like `of_uid`, but first reads the row at index `near`, for example an index from
-    /// `PlaceRows::numbered`. If that row is a schedule of the UID, a few neighbouring rows are
-    /// read, and no search is needed.
+    /// `PlaceRows`. If that row is a schedule of the UID, a few neighbouring rows are read, and no
+    /// search is needed.
     pub fn of_uid_near(&self, uid: &Uid, near: usize) -> Live<'_>
         ensures { AreOfUid (live_table self.now) uid.now result }
     {

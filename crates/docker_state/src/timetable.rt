@@ -105,7 +105,7 @@ impl<'a> Timetable<'a> {
         ensures rows { AreCalling (live_in self.now) tiploc.now result }
         ensures good { IsOfGoodRows (live_in self.now) }
     {
-        TimetableRows::of(self.state.calling(tiploc).numbered(), self.permanent)
+        TimetableRows::of(self.state.calling(tiploc), self.permanent)
     }
 
     /// Those associations at a location that count. Each is returned with its line, in the order of
@@ -114,7 +114,7 @@ impl<'a> Timetable<'a> {
         ensures rows { AreLinked (live_in self.now) tiploc.now result }
         ensures good { IsOfGoodRows (live_in self.now) }
     {
-        TimetableRows::of(self.state.linked(tiploc).numbered(), self.permanent)
+        TimetableRows::of(self.state.linked(tiploc), self.permanent)
     }
 
     /// Those schedules of a UID that count. Each is returned with its lines, in the order of the

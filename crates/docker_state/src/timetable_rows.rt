@@ -7,7 +7,7 @@ ghost use Rattle.state_laws.specs.CountedRows.{counted_rows};
 ghost use Rattle.docker_state.specs.Timetables.{counts};
 
 use crate::live::Live;
-use crate::place_rows::Numbered;
+use crate::place_rows::PlaceRows;
 use cif_file::{Body, Key};
 use cif_line::Stp;
 use std::marker::Model;
@@ -17,7 +17,7 @@ use std::marker::Model;
 /// index is right: it is only a hint for a later search.
 #[derive(Clone, Debug, Drop)]
 pub struct TimetableRows<'a> {
-    rows: Numbered<'a>,
+    rows: PlaceRows<'a>,
     permanent: bool,
 }
 
@@ -35,7 +35,7 @@ impl<'a> Model for TimetableRows<'a> {
 impl<'a> TimetableRows<'a> {
     /// An iterator over these rows. If `permanent` is true, it skips the rows that aren't
     /// permanent.
-    pub(crate) fn of(rows: Numbered<'a>, permanent: bool) -> TimetableRows<'a>
+    pub(crate) fn of(rows: PlaceRows<'a>, permanent: bool) -> TimetableRows<'a>
         ensures { result ≡ counted_rows (counts permanent) rows.entry }
     {
         TimetableRows { rows, permanent }

@@ -2,8 +2,8 @@ ghost use Rattle.std.specs.Prelude.{◌<◌};
 
 use self::compare::{prints, same, same_in};
 use cif_file::{
-    Act, Body, Change, CifFile, FileCause, FileFault, FileParser, Journey, Key, Lines, ReadFault,
-    ScheduleKey, judge_file, read_pieces,
+    Act, Body, Change, CifFile, FileCause, FileFault, FileParser, FileReadFault, Journey, Key,
+    Lines, ScheduleKey, judge_file, read_pieces,
 };
 use cif_line::{Bytes, Day, Extract, Line, Stp, Tiploc, Uid};
 use std::alloc::Global;
@@ -114,15 +114,15 @@ fn fault_by(alloc: Global, text: &[u8], step: usize) -> Option<FileFault>
 
 /// Checks a text from a source with `judge_file`. Returns why the text is refused, or `None` if it
 /// is accepted.
-fn judged_fault(alloc: Global, text: &[u8]) -> Option<ReadFault> {
+fn judged_fault(alloc: Global, text: &[u8]) -> Option<FileReadFault> {
     let mut source = Bytes::new(text, 7);
     judge_file(alloc, &mut source, 1000).err()
 }
 
 /// Converts the fault of a text to the form in which `judge_file` returns it.
-fn read_fault(fault: Option<FileFault>) -> Option<ReadFault> {
+fn read_fault(fault: Option<FileFault>) -> Option<FileReadFault> {
     match fault {
-        Some(fault) => Some(ReadFault::File(fault)),
+        Some(fault) => Some(FileReadFault::File(fault)),
         None => None,
     }
 }

@@ -13,7 +13,7 @@ ghost use Rattle.state_index.specs.Spots.{IsIndexOf};
 
 use crate::memo::Memo;
 use crate::names::ascending_places;
-use crate::place_rows::{PlaceRows, postings_at};
+use crate::place_rows::{IndexedRows, postings_at};
 use crate::posting::Posting;
 use crate::postings::{post_rows, settle};
 use crate::survey::Survey;
@@ -139,13 +139,13 @@ impl Index {
 
     /// The live schedules that call at a TIPLOC, found by binary search. The index must be the
     /// index of `rows`.
-    pub fn calling<'a>(&'a self, rows: &'a [(Key, Entry)], tiploc: &Tiploc) -> PlaceRows<'a>
+    pub fn calling<'a>(&'a self, rows: &'a [(Key, Entry)], tiploc: &Tiploc) -> IndexedRows<'a>
         requires index { IsIndexOf (map row_meant rows.now) self.now }
         requires ascending { AreAscending (map row_meant rows.now) }
         ensures { (state : State) → state.entries ≡ map row_meant rows.now
             → AreCalling (live_table state) tiploc.now result }
     {
-        PlaceRows::of(
+        IndexedRows::of(
             rows,
             postings_at(
                 self.places.as_slice(),
@@ -173,13 +173,13 @@ impl Index {
 
     /// The live associations at a location, found by binary search. The index must be the index of
     /// `rows`.
-    pub fn linked<'a>(&'a self, rows: &'a [(Key, Entry)], tiploc: &Tiploc) -> PlaceRows<'a>
+    pub fn linked<'a>(&'a self, rows: &'a [(Key, Entry)], tiploc: &Tiploc) -> IndexedRows<'a>
         requires index { IsIndexOf (map row_meant rows.now) self.now }
         requires ascending { AreAscending (map row_meant rows.now) }
         ensures { (state : State) → state.entries ≡ map row_meant rows.now
             → AreLinked (live_table state) tiploc.now result }
     {
-        PlaceRows::of(
+        IndexedRows::of(
             rows,
             postings_at(
                 self.places.as_slice(),

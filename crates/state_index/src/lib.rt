@@ -14,5 +14,5 @@ mod survey;
 
 pub use index::Index;
 pub use laws::{indexes_of_rows, one_index_of_rows};
-pub use place_rows::{Numbered, PlaceRows};
+pub use place_rows::IndexedRows;
 pub use posting::Posting;

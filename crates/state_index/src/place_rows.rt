@@ -1,5 +1,5 @@
-//! Iterators over the rows at a place: either the schedules that call there or the associations
-//! there.
+//! An iterator over the rows at a place, found in an index: either the schedules that call there or
+//! the associations there.
 ghost use Rattle.std.specs.Prelude.{◌≡◌, List, length, map};
 ghost use Rattle.std.specs.Iterator.{YieldsFirstBy, item_count};
 ghost use Rattle.cif_change.specs.Meaning.{key_meant, body_meant};
@@ -23,12 +23,12 @@ use std::marker::Model;
 /// among all rows, the key and the body. No clause says that the row's index is right. A caller may
 /// use it as a hint about where to look first, but no result may depend on it.
 #[derive(Clone, Debug, Drop)]
-pub struct Numbered<'a> {
+pub struct IndexedRows<'a> {
     rows: &'a [(Key, Entry)],
     postings: &'a [Posting],
 }
 
-impl<'a> Model for Numbered<'a> {
+impl<'a> Model for IndexedRows<'a> {
     ghost use Rattle.std.specs.Prelude.{List, map};
     ghost use Rattle.docker_model.specs.state.Row.{Row};
     ghost use Rattle.docker_join.specs.Meaning.{row_meant};
@@ -36,17 +36,25 @@ impl<'a> Model for Numbered<'a> {
 
     ghost Value = { List Row };
 
-    ghost view = { λ numbered.
-        rows_at_postings (map row_meant numbered.rows.now) numbered.postings.now };
+    ghost view = { λ it. rows_at_postings (map row_meant it.rows.now) it.postings.now };
 }
 
-impl<'a> Iterator for Numbered<'a> {
+impl<'a> IndexedRows<'a> {
+    /// An iterator over the rows of these postings.
+    pub(crate) fn of(rows: &'a [(Key, Entry)], postings: &'a [Posting]) -> IndexedRows<'a>
+        ensures { result ≡ rows_at_postings (map row_meant rows.entry.now) postings.entry.now }
+    {
+        IndexedRows { rows, postings }
+    }
+}
+
+impl<'a> Iterator for IndexedRows<'a> {
     type Item = (usize, &'a Key, &'a Body);
 
     ghost next_gives = { YieldsFirstBy
-        (λ row. (key_meant row.1.now, body_meant row.2.now)) (λ numbered. numbered) };
+        (λ row. (key_meant row.1.now, body_meant row.2.now)) (λ rows. rows) };
 
-    ghost remaining = { item_count (λ numbered. numbered) };
+    ghost remaining = { item_count (λ rows. rows) };
 
     fn next(&mut self) -> Option<(usize, &'a Key, &'a Body)> {
         while let Some((posting, behind)) = self.postings.split_first() {
@@ -56,56 +64,6 @@ impl<'a> Iterator for Numbered<'a> {
             }
         }
         None
-    }
-}
-
-/// An iterator over the live rows at a place, in key order. It returns the key and the body of each
-/// row.
-#[derive(Clone, Debug, Drop)]
-pub struct PlaceRows<'a> {
-    numbered: Numbered<'a>,
-}
-
-impl<'a> Model for PlaceRows<'a> {
-    ghost use Rattle.std.specs.Prelude.{List};
-    ghost use Rattle.docker_model.specs.state.Row.{Row};
-
-    ghost Value = { List Row };
-
-    ghost view = { λ rows. rows.numbered };
-}
-
-impl<'a> PlaceRows<'a> {
-    /// An iterator over the rows of these postings.
-    pub(crate) fn of(rows: &'a [(Key, Entry)], postings: &'a [Posting]) -> PlaceRows<'a>
-        ensures { result ≡ rows_at_postings (map row_meant rows.entry.now) postings.entry.now }
-    {
-        PlaceRows {
-            numbered: Numbered { rows, postings },
-        }
-    }
-
-    /// An iterator over the same rows that also returns each row's index among all rows, from 0.
-    pub fn numbered(self) -> Numbered<'a>
-        ensures { result ≡ self.entry }
-    {
-        self.numbered
-    }
-}
-
-impl<'a> Iterator for PlaceRows<'a> {
-    type Item = (&'a Key, &'a Body);
-
-    ghost next_gives = { YieldsFirstBy
-        (λ row. (key_meant row.0.now, body_meant row.1.now)) (λ rows. rows) };
-
-    ghost remaining = { item_count (λ rows. rows) };
-
-    fn next(&mut self) -> Option<(&'a Key, &'a Body)> {
-        match self.numbered.next() {
-            Some((_, key, body)) => Some((key, body)),
-            None => None,
-        }
     }
 }
 

@@ -13,7 +13,7 @@ ghost use Rattle.state_text.specs.Head.{AreParts, IsBeforeBody, IsPutHead, Begin
 use crate::format::{
     ASSOC_TAG, LINE_COUNT, OP, PUT, SCHEDULE_KEY, SCHEDULE_TAG, STAMP, TAG, TIPLOC_TAG,
 };
-use crate::keeper::Keeper;
+use crate::keeper::PartKeeper;
 use crate::key::judged_key;
 use crate::parts_so_far::PartsSoFar;
 use crate::stage::{Stage, Tag};
@@ -29,7 +29,7 @@ const SCHEDULE_PUT: usize = SCHEDULE_KEY + STAMP + OP;
 /// Reads the key and the stamp of a put from its bytes between the tag and the body. Returns `None`
 /// if a part is bad, or if the op isn't a put.
 #[inline(always)]
-fn put_of<K: Keeper>(tag: Tag, parts: &PartsSoFar<K>, bytes: &[u8]) -> Option<(Key, Stamp)>
+fn put_of<K: PartKeeper>(tag: Tag, parts: &PartsSoFar<K>, bytes: &[u8]) -> Option<(Key, Stamp)>
     requires valid { IsValid parts.now }
     requires wide { length bytes.now ≡ key_width (tag_meant tag) + (STAMP + OP) }
     ensures { MatchOption result
@@ -55,7 +55,7 @@ fn put_of<K: Keeper>(tag: Tag, parts: &PartsSoFar<K>, bytes: &[u8]) -> Option<(K
 /// Reads the head of a TIPLOC's or an association's put from the bytes after its tag. The result is
 /// explained at `put_head`.
 #[inline(always)]
-fn body_head<K: Keeper>(
+fn body_head<K: PartKeeper>(
     tag: Tag,
     count: u64,
     parts: &PartsSoFar<K>,
@@ -80,7 +80,7 @@ fn body_head<K: Keeper>(
 /// Reads the head of a schedule's put, up to its lines, from the bytes after its tag. The result is
 /// explained at `put_head`.
 #[inline(always)]
-fn schedule_head<K: Keeper>(
+fn schedule_head<K: PartKeeper>(
     count: u64,
     parts: &PartsSoFar<K>,
     bytes: &[u8],
@@ -111,7 +111,7 @@ fn schedule_head<K: Keeper>(
 /// schedule also the number of its lines. Returns the stage after the head and the head's length in
 /// bytes. `count` is the number of all entries in the text. Returns `None` if and only if the bytes
 /// end before the head does, a part of the head is bad, or the op isn't a put.
-pub fn put_head<K: Keeper>(
+pub fn put_head<K: PartKeeper>(
     count: u64,
     parts: &PartsSoFar<K>,
     bytes: &[u8],

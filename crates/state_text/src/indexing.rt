@@ -1,7 +1,7 @@
 //! A keeper that keeps all parts and makes a state with an index from them.
 ghost use Rattle.std.specs.Prelude.{◌≡◌, []};
 
-use crate::keeper::{Keeper, Maker};
+use crate::keeper::{Maker, PartKeeper};
 use crate::whole::Whole;
 use cif_file::Key;
 use cif_line::{Day, Memory};
@@ -37,7 +37,7 @@ impl Indexing {
     }
 }
 
-impl Keeper for Indexing {
+impl PartKeeper for Indexing {
     ghost given = { λ indexing. indexing };
 
     fn item(&mut self, item: LedgerItem) -> Result<(), Memory> {

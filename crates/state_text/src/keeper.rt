@@ -16,7 +16,7 @@ use docker_state::LedgerItem;
 
 /// A keeper is given the parts of a state's text in order: first the ledger items, then the
 /// entries. It may keep all, some or none of them.
-pub trait Keeper: Drop + Sized {
+pub trait PartKeeper: Drop + Sized {
     // all ledger items and entries that the keeper was given, whether kept or not, as a state
     // without a horizon
     ghost given: { Self → State };
@@ -53,7 +53,7 @@ pub trait Keeper: Drop + Sized {
 }
 
 /// A keeper that makes a value from the parts.
-pub trait Maker: Keeper {
+pub trait Maker: PartKeeper {
     /// The type of the value that the keeper makes.
     type Made: Drop;
 

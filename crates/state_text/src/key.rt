@@ -13,7 +13,7 @@ use crate::format::{
     ASSOC_KEY, ASSOC_STP_AT, ASSOCIATED_AT, LOCATION_AT, RUNS_FROM_AT, SCHEDULE_KEY,
     SCHEDULE_STP_AT, START_AT, SUFFIX_AT, TIPLOC_KEY,
 };
-use crate::keeper::Keeper;
+use crate::keeper::PartKeeper;
 use crate::parts_so_far::PartsSoFar;
 use crate::stage::Tag;
 use cif_file::{AssocKey, Key, ScheduleKey};
@@ -85,7 +85,7 @@ fn key_in(tag: Tag, bytes: &[u8]) -> Option<Key>
 }
 
 /// Whether a key is above the keys of all entries that were read.
-fn is_above<K: Keeper>(parts: &PartsSoFar<K>, key: &Key) -> bool
+fn is_above<K: PartKeeper>(parts: &PartsSoFar<K>, key: &Key) -> bool
     requires { AreAscending parts.now.entries }
     ensures { IsTrue result ↔ IsAboveEntries parts.now (key_meant key.now) }
 {
@@ -96,7 +96,7 @@ fn is_above<K: Keeper>(parts: &PartsSoFar<K>, key: &Key) -> bool
 }
 
 /// Reads the key of the next entry, or returns why it is bad.
-pub(crate) fn judged_key<K: Keeper>(
+pub(crate) fn judged_key<K: PartKeeper>(
     tag: Tag,
     parts: &PartsSoFar<K>,
     bytes: &[u8],

@@ -5,7 +5,7 @@ ghost use Rattle.docker_model.specs.records.Date.{IsDay};
 ghost use Rattle.state_text.specs.PartsSoFar.{horizon_meant};
 
 use crate::given::Given;
-use crate::keeper::{Keeper, Maker};
+use crate::keeper::{Maker, PartKeeper};
 use cif_file::Key;
 use cif_line::{Day, Memory};
 use docker_join::Entry;
@@ -73,7 +73,7 @@ fn later(horizon: Option<Day>, day: Day) -> Day
     }
 }
 
-impl<D: HorizonDay> Keeper for Lapsing<D> {
+impl<D: HorizonDay> PartKeeper for Lapsing<D> {
     ghost given = { λ it. it };
 
     fn item(&mut self, item: LedgerItem) -> Result<(), Memory> {

@@ -34,7 +34,7 @@ pub use docker_state::{LedgerItem, Parts, State};
 pub use given::Given;
 pub use head::put_head;
 pub use indexing::Indexing;
-pub use keeper::{Keeper, Maker};
+pub use keeper::{Maker, PartKeeper};
 pub use lapsing::{HorizonDay, Lapsing};
 pub use length::encoded_len;
 pub use parts_so_far::PartsSoFar;

@@ -9,7 +9,7 @@ ghost use Rattle.docker_state.specs.Meaning.{item_meant};
 ghost use Rattle.docker_state.specs.Parts.{last_key, under};
 ghost use Rattle.state_text.specs.PartsSoFar.{with_item, with_row};
 
-use crate::keeper::{Keeper, Maker};
+use crate::keeper::{Maker, PartKeeper};
 use crate::received::Received;
 use crate::receiving::Receiver;
 use cif_file::Key;
@@ -20,12 +20,12 @@ use std::marker::Model;
 
 /// The horizon, if one was read, and the keeper that was given the other parts.
 #[derive(Debug, Drop)]
-pub struct PartsSoFar<K: Keeper> {
+pub struct PartsSoFar<K: PartKeeper> {
     horizon: Option<Day>,
     keeper: K,
 }
 
-impl<K: Keeper> Model for PartsSoFar<K> {
+impl<K: PartKeeper> Model for PartsSoFar<K> {
     ghost use Rattle.docker_model.specs.state.State as states;
     ghost use Rattle.docker_state.specs.Parts.{under};
     ghost use Rattle.state_text.specs.PartsSoFar.{horizon_meant};
@@ -35,7 +35,7 @@ impl<K: Keeper> Model for PartsSoFar<K> {
     ghost view = { λ it. under (horizon_meant it.horizon) (K.given it.keeper) };
 }
 
-impl<K: Keeper> PartsSoFar<K> {
+impl<K: PartKeeper> PartsSoFar<K> {
     /// Returns the parts that a keeper was given, without a horizon.
     pub fn new(keeper: K) -> PartsSoFar<K>
         ensures { result ≡ under 0 (K.given keeper) }

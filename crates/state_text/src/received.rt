@@ -4,7 +4,7 @@ ghost use Rattle.docker_model.specs.state.State.{State, IsValid, IsJoin};
 ghost use Rattle.docker_state.specs.Parts.{under};
 ghost use Rattle.state_text.specs.PartsSoFar.{horizon_meant};
 
-use crate::keeper::Keeper;
+use crate::keeper::PartKeeper;
 use crate::receiving::{Receiver, Receiving};
 use cif_file::Key;
 use cif_line::{Day, Memory};
@@ -70,7 +70,7 @@ impl<R: Receiver> Received<R> {
     }
 }
 
-impl<R: Receiver> Keeper for Received<R> {
+impl<R: Receiver> PartKeeper for Received<R> {
     ghost given = { λ received. received };
 
     fn item(&mut self, item: LedgerItem) -> Result<(), Memory> {

@@ -10,7 +10,7 @@ ghost use Rattle.state_text.specs.Lines.{BeginUpTo, AreLinesIn, AreLinesUpToIn, 
 use crate::body::is_first_of;
 use crate::cause::StateCause;
 use crate::format::LINE;
-use crate::keeper::Keeper;
+use crate::keeper::PartKeeper;
 use crate::parts_so_far::PartsSoFar;
 use cif_file::{Journey, Lines, ScheduleKey};
 use cif_line::Line;
@@ -214,7 +214,7 @@ impl Gathered {
 /// Whether the key and the horizon allow this line to come next. They allow any line after the
 /// first. The first line must have the transaction `N` and this key, and its schedule must not end
 /// before the horizon. `Journey::line` judges the other fields.
-fn may_follow<K: Keeper>(
+fn may_follow<K: PartKeeper>(
     key: &ScheduleKey,
     parts: &PartsSoFar<K>,
     lines: &Gathered,
@@ -231,7 +231,7 @@ fn may_follow<K: Keeper>(
 /// Judges the next line of the schedule with this key and `count` lines, and then adds the line.
 /// Returns `Body` if the line doesn't continue such a schedule, or if the schedule ended before the
 /// horizon that was read. Returns `Memory` if there is no memory for the line.
-pub fn judged_line<K: Keeper>(
+pub fn judged_line<K: PartKeeper>(
     key: &ScheduleKey,
     parts: &PartsSoFar<K>,
     count: u32,
@@ -258,7 +258,7 @@ pub fn judged_line<K: Keeper>(
 
 /// Does the same as `judged_line`, for any line but the last of the `count` lines.
 #[inline(always)]
-pub fn judged_inner_line<K: Keeper>(
+pub fn judged_inner_line<K: PartKeeper>(
     key: &ScheduleKey,
     parts: &PartsSoFar<K>,
     count: u32,

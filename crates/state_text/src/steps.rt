@@ -22,7 +22,7 @@ use crate::format::{
     TAG, TIPLOC_BODY, TIPLOC_TAG,
 };
 use crate::item::judged_item;
-use crate::keeper::Keeper;
+use crate::keeper::PartKeeper;
 use crate::key::judged_key;
 use crate::parts_so_far::PartsSoFar;
 use crate::schedule::{Gathered, judged_line};
@@ -61,7 +61,10 @@ fn after_mark(format: Format, bytes: &[u8]) -> Result<Stage, StateCause>
 }
 
 /// Reads the horizon and sets it. Returns `Horizon` if the bytes aren't a day number.
-fn after_horizon<K: Keeper>(parts: &mut PartsSoFar<K>, bytes: &[u8]) -> Result<Stage, StateCause>
+fn after_horizon<K: PartKeeper>(
+    parts: &mut PartsSoFar<K>,
+    bytes: &[u8],
+) -> Result<Stage, StateCause>
     ghost format: { formats.Format }
     requires fresh { IsFresh Stage.Horizon parts.old }
     requires wide { length bytes.now ≡ HORIZON }
@@ -79,7 +82,7 @@ fn after_horizon<K: Keeper>(parts: &mut PartsSoFar<K>, bytes: &[u8]) -> Result<S
 
 /// The stage after the ledger items that were read. The next part is another item or, if all
 /// `count` items were read, the number of entries.
-fn stage_in_ledger<K: Keeper>(count: u64, parts: &PartsSoFar<K>) -> Stage
+fn stage_in_ledger<K: PartKeeper>(count: u64, parts: &PartsSoFar<K>) -> Stage
     requires entries { parts.now.entries ≡ [] }
     ensures is { (lines : List (List ℕ)) →
         stage_meant result parts.now lines
@@ -95,7 +98,7 @@ fn stage_in_ledger<K: Keeper>(count: u64, parts: &PartsSoFar<K>) -> Stage
 
 /// The stage after the entries that were read. The next part is the tag of another entry. If all
 /// `count` entries were read, the text has ended.
-fn stage_in_entries<K: Keeper>(count: u64, parts: &PartsSoFar<K>) -> Stage
+fn stage_in_entries<K: PartKeeper>(count: u64, parts: &PartsSoFar<K>) -> Stage
     ensures is { (lines : List (List ℕ)) →
         stage_meant result parts.now lines ≡ after_entries count parts.now }
     ensures fresh { IsFresh result parts.now }
@@ -108,7 +111,7 @@ fn stage_in_entries<K: Keeper>(count: u64, parts: &PartsSoFar<K>) -> Stage
 }
 
 /// Reads a ledger item and gives it to the keeper. Fails if the item is bad or memory runs out.
-fn after_item<K: Keeper>(
+fn after_item<K: PartKeeper>(
     count: u64,
     parts: &mut PartsSoFar<K>,
     bytes: &[u8],
@@ -143,7 +146,7 @@ fn after_tag(count: u64, bytes: &[u8]) -> Result<Stage, StateCause>
 }
 
 /// Reads the key of an entry. Fails if the key is bad or isn't above the previous key.
-fn after_key<K: Keeper>(
+fn after_key<K: PartKeeper>(
     count: u64,
     tag: Tag,
     parts: &PartsSoFar<K>,
@@ -162,7 +165,7 @@ fn after_key<K: Keeper>(
 
 /// Reads the stamp of an entry. Returns `Stamp` if no change from a file in the ledger can have
 /// this stamp.
-fn after_stamp<K: Keeper>(
+fn after_stamp<K: PartKeeper>(
     count: u64,
     key: Key,
     parts: &PartsSoFar<K>,
@@ -182,7 +185,7 @@ fn after_stamp<K: Keeper>(
 }
 
 /// Gives the keeper an entry whose parts have all been read, and returns the next stage.
-fn give<K: Keeper>(
+fn give<K: PartKeeper>(
     count: u64,
     parts: &mut PartsSoFar<K>,
     key: Key,
@@ -204,7 +207,7 @@ fn give<K: Keeper>(
 
 /// Reads the op of an entry. The op of a put is followed by a body. Any other op completes the
 /// entry. Returns `Body` if the byte isn't an op of the format.
-fn after_op<K: Keeper>(
+fn after_op<K: PartKeeper>(
     format: Format,
     count: u64,
     key: Key,
@@ -229,7 +232,7 @@ fn after_op<K: Keeper>(
 }
 
 /// Reads the body of a TIPLOC, which completes the entry. Returns `Body` if a byte isn't printable.
-fn after_tiploc_body<K: Keeper>(
+fn after_tiploc_body<K: PartKeeper>(
     count: u64,
     code: Tiploc,
     stamp: Stamp,
@@ -253,7 +256,7 @@ fn after_tiploc_body<K: Keeper>(
 
 /// Reads the body of an association, which completes the entry. Returns `Body` if the bytes aren't
 /// a body for the key, or if the association ends before the horizon.
-fn after_assoc_body<K: Keeper>(
+fn after_assoc_body<K: PartKeeper>(
     count: u64,
     key: AssocKey,
     stamp: Stamp,
@@ -327,7 +330,7 @@ struct Schedule {
 
 /// Reads the last line of a schedule, which completes the entry. Returns `Body` if the lines aren't
 /// a schedule with this key.
-fn after_last_line<K: Keeper>(
+fn after_last_line<K: PartKeeper>(
     alloc: Global,
     count: u64,
     schedule: Schedule,
@@ -352,7 +355,7 @@ fn after_last_line<K: Keeper>(
 /// Reads the next part and returns the stage after it, or why it can't be read. If the
 /// part is a line, it must be the last line of its schedule: `judged_inner_line` reads the lines
 /// before it.
-pub fn step<K: Keeper>(
+pub fn step<K: PartKeeper>(
     alloc: Global,
     format: Format,
     stage: Stage,

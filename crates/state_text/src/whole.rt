@@ -1,7 +1,7 @@
 //! A keeper that keeps all parts and makes a state without an index from them.
 ghost use Rattle.std.specs.Prelude.{◌≡◌, []};
 
-use crate::keeper::{Keeper, Maker};
+use crate::keeper::{Maker, PartKeeper};
 use cif_file::Key;
 use cif_line::{Day, Memory};
 use docker_join::Entry;
@@ -37,7 +37,7 @@ impl Whole {
     }
 }
 
-impl Keeper for Whole {
+impl PartKeeper for Whole {
     ghost given = { λ whole. whole };
 
     fn item(&mut self, item: LedgerItem) -> Result<(), Memory> {

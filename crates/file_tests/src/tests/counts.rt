@@ -3,7 +3,7 @@ ghost use Rattle.std.specs.Prelude.{◌<◌};
 
 use super::compare::{same, same_in};
 use super::{LINKED, OVERLAID, at};
-use cif_file::{FileCause, ReadFault, judge_file};
+use cif_file::{FileCause, FileReadFault, judge_file};
 use cif_line::{Bytes, Extract};
 use std::alloc::Global;
 use std::process::Abort;
@@ -59,5 +59,5 @@ fn a_limit_on_records(rt: HostRuntime) {
     let mut source = Bytes::new(whole.as_slice(), 7);
     let fault = judge_file(rt.alloc(), &mut source, 4).err();
     let too_many = at(5, FileCause::TooMany);
-    same(&rt, fault, Some(ReadFault::File(too_many)));
+    same(&rt, fault, Some(FileReadFault::File(too_many)));
 }

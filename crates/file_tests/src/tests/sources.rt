@@ -3,7 +3,7 @@ ghost use Rattle.std.specs.Prelude.{◌<◌};
 
 use super::compare::{prints, same, same_in};
 use super::{at, check_morning};
-use cif_file::{FileCause, FileFault, ReadFault, judge_file, read_file};
+use cif_file::{FileCause, FileFault, FileReadFault, judge_file, read_file};
 use cif_line::{Bytes, Endless, Failed, Source};
 use std::alloc::Global;
 use std::process::Abort;
@@ -57,7 +57,7 @@ fn check_reads(rt: &impl Abort, alloc: Global, text: &[u8], step: usize)
     let mut source = Bytes::new(text, step);
     let fault = read_file(alloc, &mut source, 4).err();
     let too_many = at(5, FileCause::TooMany);
-    same(rt, fault, Some(ReadFault::File(too_many)));
+    same(rt, fault, Some(FileReadFault::File(too_many)));
 }
 
 #[test]
@@ -74,7 +74,7 @@ fn a_file_by_reads_of_any_length(rt: HostRuntime) {
 fn read_fails(rt: &impl Abort, alloc: Global, bytes: &[u8], name: &str) {
     let mut source = Broken { bytes, failures: 0 };
     let fault = read_file(alloc, &mut source, 5).err();
-    same_in(rt, name, fault, Some(ReadFault::Source));
+    same_in(rt, name, fault, Some(FileReadFault::Source));
     same_in(rt, name, source.failures, 1);
 }
 
@@ -83,7 +83,7 @@ fn read_fails(rt: &impl Abort, alloc: Global, bytes: &[u8], name: &str) {
 fn judging_fails(rt: &impl Abort, alloc: Global, bytes: &[u8], name: &str) {
     let mut source = Broken { bytes, failures: 0 };
     let fault = judge_file(alloc, &mut source, 5).err();
-    same_in(rt, name, fault, Some(ReadFault::Source));
+    same_in(rt, name, fault, Some(FileReadFault::Source));
     same_in(rt, name, source.failures, 1);
 }
 
@@ -122,10 +122,10 @@ fn endless_fails(
     let limit = u32::from(limit);
     let mut source = Endless::new(first, again, step);
     let found = read_file(alloc, &mut source, limit).err();
-    same(rt, found, Some(ReadFault::File(fault)));
+    same(rt, found, Some(FileReadFault::File(fault)));
     let mut source = Endless::new(first, again, step);
     let found = judge_file(alloc, &mut source, limit).err();
-    same(rt, found, Some(ReadFault::File(fault)));
+    same(rt, found, Some(FileReadFault::File(fault)));
 }
 
 /// Like `endless_fails`, but reads the source in pieces of several lengths.
@@ -159,7 +159,12 @@ fn sources_without_end(rt: HostRuntime) {
 fn printed_read_faults(rt: HostRuntime) {
     let alloc = rt.alloc();
     let bad_field = at(3, FileCause::Field(11));
-    prints(&rt, alloc, ReadFault::Source, "the source failed");
-    prints(&rt, alloc, ReadFault::File(bad_field), "record 3: Field 11");
-    prints(&rt, alloc, ReadFault::Memory, "want of memory");
+    prints(&rt, alloc, FileReadFault::Source, "the source failed");
+    prints(
+        &rt,
+        alloc,
+        FileReadFault::File(bad_field),
+        "record 3: Field 11",
+    );
+    prints(&rt, alloc, FileReadFault::Memory, "want of memory");
 }

@@ -31,7 +31,7 @@ fn add_place_rows(
     word: &[u8],
     rows: PlaceRows<'_>,
 ) {
-    for (number, key, body) in rows.numbered() {
+    for (number, key, body) in rows {
         add(rt, text, word);
         add_number(rt, alloc, text, number as u64);
         add(rt, text, b": ");

@@ -12,11 +12,11 @@ pub returns : goal.returns
 returns g c = λ limit records counted.
     elim c.if-self.branch [
       | then-self w ↦
-          refused_over g.K.Keeper.keeps c.args.self.now limit records (cause_meant c.args.cause) _ counted refl w.if-self.true (ap cause_meant w.first-is)
+          refused_over g.K.ChangeKeeper.keeps c.args.self.now limit records (cause_meant c.args.cause) _ counted refl w.if-self.true (ap cause_meant w.first-is)
       | else-self+then-is_ended w ↦
-          refused_within g.K.Keeper.keeps c.args.self.now limit records (cause_meant c.args.cause) _ true counted refl w.if-self.false
+          refused_within g.K.ChangeKeeper.keeps c.args.self.now limit records (cause_meant c.args.cause) _ true counted refl w.if-self.false
           (subst (λ b. (b ≡ true) ↔ IsFile records) w.if-is_ended.true (w.is_ended.ensures records counted.has)) (ap cause_meant w.first-is)
       | else-self+else-is_ended w ↦
-          refused_within g.K.Keeper.keeps c.args.self.now limit records (cause_meant c.args.cause) _ false counted refl w.if-self.false
+          refused_within g.K.ChangeKeeper.keeps c.args.self.now limit records (cause_meant c.args.cause) _ false counted refl w.if-self.false
           (subst (λ b. (b ≡ true) ↔ IsFile records) w.if-is_ended.false (w.is_ended.ensures records counted.has)) (ap cause_meant w.first-is)
     ]

@@ -10,16 +10,16 @@ use Rattle.cif_file.proofs.records.Records.take.Goals as goal
 pub returns-in-Ok-clause-read : goal.returns-in-Ok-clause-read
 returns-in-Ok-clause-read g c =
     on_ok_one c.take_line.result c.take_line.ensures.read
-    (subst (λ line. CountsNext g.K.Keeper.keeps c.args.self.now line c.take_line.new.self) c.in-Ok.ensures.ok.0)
+    (subst (λ line. CountsNext g.K.ChangeKeeper.keeps c.args.self.now line c.take_line.new.self) c.in-Ok.ensures.ok.0)
 
 pub returns-in-Ok-clause-err : goal.returns-in-Ok-clause-err
 returns-in-Ok-clause-err g c =
     if_err_by c.take_line.result
-    (λ fault. subst (λ line. FaultsNext g.K.Keeper.keeps g.K.Keeper.wants c.args.self.now line fault) c.in-Ok.ensures.ok.0)
+    (λ fault. subst (λ line. FaultsNext g.K.ChangeKeeper.keeps g.K.ChangeKeeper.wants c.args.self.now line fault) c.in-Ok.ensures.ok.0)
     c.take_line.ensures.err
 
 pub returns-in-Err-clause-err : goal.returns-in-Err-clause-err
 returns-in-Err-clause-err g c = λ limit records counted.
-    refused_line g.K.Keeper.wants limit records c.args.bytes.now (cause_meant c.in-Err.cause) c.refused.result (c.refused.ensures limit records counted)
+    refused_line g.K.ChangeKeeper.wants limit records c.args.bytes.now (cause_meant c.in-Err.cause) c.refused.result (c.refused.ensures limit records counted)
     (c.in-Err.ensures.bad refl)
     c.in-Err.ensures.err

@@ -5,7 +5,7 @@ use Rattle.docker_laws.specs.Thinning.{is_wanted}
 use Rattle.cif_change.specs.declared.change.Change.{Change}
 use Rattle.cif_change.specs.declared.key.Key.TheVariants as key
 use Rattle.cif_change.specs.Meaning.{change_meant, key_meant}
-use Rattle.cif_file.specs.declared.parts.FileParts.{FileParts}
+use Rattle.cif_file.specs.declared.file.parts.FileParts.{FileParts}
 use Rattle.docker_excerpt.specs.declared.elsewhere.Elsewhere.{Elsewhere}
 use Rattle.docker_excerpt.specs.Elsewhere.{uids_named}
 use Rattle.docker_excerpt.specs.ThinRead.{AreNeededParts}

@@ -8,7 +8,7 @@ use Rattle.docker_state.proofs.state.State.calling.Goals as goal
 
 pub returns-in-Some : goal.returns-in-Some
 returns-in-Some c =
-    subst (AreCalling (live_table c.args.self.now) c.args.tiploc.now) (sym (c.of.ensures ∙ c.numbered.ensures))
+    subst (AreCalling (live_table c.args.self.now) c.args.tiploc.now) (sym c.of.ensures)
     (c.calling.ensures c.args.self.now
     (ap (λ (s : State). s.entries) (sym c.self.view_is) ∙ ap (map row_meant) (sym c.as_slice-rows.ensures.rows)))
 

@@ -1,8 +1,8 @@
-use Rattle.std.proofs.Common.{List, ap, sym, ◌∙◌, subst}
+use Rattle.std.proofs.Common.{List, sym, subst}
 use Rattle.docker_model.specs.state.State.{IsValid, live_table}
 use Rattle.state_laws.specs.Index.{AreCalling}
 use Rattle.docker_model.specs.state.Row.{Row}
-use Rattle.state_laws.specs.CountedRows.{counted_table, counted_rows}
+use Rattle.state_laws.specs.CountedRows.{counted_table}
 use Rattle.state_laws.proofs.states.CountedRows.{counted_calling}
 use Rattle.docker_state.specs.Timetables.{Timetable, counts, live_in}
 use Rattle.docker_state.proofs.Timetables.{timetable_good}
@@ -14,7 +14,7 @@ returns-clause-rows c =
     let place = c.args.tiploc.now in
     subst (λ (t : Timetable). AreCalling (live_in t) place c.of.result) c.self.view_is
     (subst (λ (rows : List Row). AreCalling (counted_table (counts c.self.inside.permanent) live) place rows)
-    (sym (c.of.ensures ∙ ap (counted_rows (counts c.self.inside.permanent)) c.numbered.ensures))
+    (sym c.of.ensures)
     (counted_calling (counts c.self.inside.permanent) live place c.calling.result c.calling.ensures))
 
 pub returns-clause-good : goal.returns-clause-good
