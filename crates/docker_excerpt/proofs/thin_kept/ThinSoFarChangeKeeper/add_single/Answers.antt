@@ -2,7 +2,7 @@
 use Rattle.std.proofs.Common.{subst, ◌++◌, ◌∙◌}
 use Rattle.docker_excerpt.specs.ThinKept.{HasThinned}
 use Rattle.cif_file.proofs.FrontLemmas.{on_ok_one}
-use Rattle.docker_excerpt.proofs.thin_kept.ThinSoFarKeeper.add_single.Goals as goal
+use Rattle.docker_excerpt.proofs.thin_kept.ThinSoFarChangeKeeper.add_single.Goals as goal
 
 pub returns-clause-kept : goal.returns-clause-kept
 returns-clause-kept g c =

@@ -4,7 +4,7 @@ use Rattle.docker_model.specs.state.StatePart.{IsStampHere}
 use Rattle.cif_change.specs.Meaning.{key_meant}
 use Rattle.docker_join.specs.Meaning.{stamp_meant}
 use Rattle.state_text.proofs.LapsingLemmas.{kept_here}
-use Rattle.state_text.proofs.lapsing.LapsingKeeper.entry.Goals as goal
+use Rattle.state_text.proofs.lapsing.LapsingPartKeeper.entry.Goals as goal
 
 pub entry-requires-clause-here : goal.entry-requires-clause-here
 entry-requires-clause-here g c =

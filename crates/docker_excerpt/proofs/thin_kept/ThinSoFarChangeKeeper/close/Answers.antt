@@ -1,7 +1,7 @@
 -- The schedule's change was kept if the docker may need it, and dropped otherwise. No lines remain.
 use Rattle.std.proofs.Common.{◌∙◌, ◌++◌, ◌∷◌, []}
 use Rattle.cif_file.specs.KeeperRead.{change_renewed}
-use Rattle.docker_excerpt.proofs.thin_kept.ThinSoFarKeeper.close.Goals as goal
+use Rattle.docker_excerpt.proofs.thin_kept.ThinSoFarChangeKeeper.close.Goals as goal
 
 pub returns-clause-kept : goal.returns-clause-kept
 returns-clause-kept g c = λ lines made read whole keeps. record {
