@@ -5,12 +5,14 @@ use Rattle.docker_model.specs.file.Change.{Key, tiploc_key}
 use Rattle.docker_model.specs.state.Op.{Entry}
 use Rattle.docker_model.specs.state.State.{State, IsValid, AreEntries, live_table, raise_horizon}
 use Rattle.docker_model.specs.docker.DockerText.{description_in}
-use Rattle.docker_laws.specs.NearDay.{near_state, excerpt_on}
+use Rattle.docker_laws.specs.NearDay.{near_state}
+use Rattle.docker_laws.specs.Thinning.{shortened, excerpt_on}
 use Rattle.state_laws.proofs.joins.RaisedHorizon.{set_last}
 use Rattle.docker_laws.proofs.dockers.ExcerptWalk.{walk_is_excerpt}
 use Rattle.docker_laws.proofs.dockers.ExcerptDocker.{same_where_needed, excerpt_list_iff}
 use Rattle.docker_laws.proofs.dockers.NearDocker.{near_description}
-use Rattle.docker_laws.proofs.dockers.NearState.{near_part, near_valid, near_state_list, excerpt_on_valid}
+use Rattle.docker_laws.proofs.dockers.NearState.{near_part}
+use Rattle.docker_laws.proofs.dockers.Shortened.{same_tiploc, shortened_valid, shortened_list, excerpt_on_valid}
 use Rattle.docker_state.specs.Parts.{under}
 use Rattle.state_text.specs.PartsSoFar.{horizon_meant}
 use Rattle.docker_excerpt.specs.Values.{Excerpt, with_entries, StandsAt, IsExcerptOf}
@@ -32,10 +34,11 @@ horizon_set state raised horizon day plain read valid set =
 -- state
 pub docker_of_whole : (place : List ℕ) (day : ℕ) (state part : State) → IsExcerptOf place day state part → StandsAt place day state part
 docker_of_whole place day state part is = record {
-  described = ap description_in (same_where_needed place (live_table (near_state day state)) (live_table part) is.excerpt.live (tiploc_key place) refl)
+  described = ap description_in (same_where_needed place (live_table (shortened place day state)) (live_table part) is.excerpt.live (tiploc_key place) refl)
+      ∙ ap description_in (same_tiploc place day state is.valid)
       ∙ near_description day (live_table state) (live_table (near_state day state)) (near_part day state is.valid.entries.1) place;
-  list = λ lines listed. (near_state_list place day state lines is.valid).1
-      ((excerpt_list_iff place (live_table (near_state day state)) (live_table part) is.excerpt.live day lines).1 listed);
+  list = λ lines listed. (shortened_list place day state is.valid lines).1
+      ((excerpt_list_iff place (live_table (shortened place day state)) (live_table part) is.excerpt.live day lines).1 listed);
 }
 
 module _ (place : List ℕ) (day horizon : ℕ) (told : State) (valid : IsValid (under horizon told)) where
@@ -67,7 +70,7 @@ module _ (place : List ℕ) (day horizon : ℕ) (told : State) (valid : IsValid 
       IsExcerptOf place day (with_entries (excerpt_on place day (under horizon told)) all) (excerpt_on place day (under horizon told)))
       (sym given) (record {
         valid = valid;
-        excerpt = walk_is_excerpt place (near_state day (under horizon told)) (near_valid day (under horizon told) valid).entries.1;
+        excerpt = walk_is_excerpt place (shortened place day (under horizon told)) (shortened_valid place day (under horizon told) valid).entries.1;
       })))
 
   -- the state in the excerpt's value is the state whose parts were taken, under the given horizon

@@ -3,6 +3,7 @@ pub mod WalkSteps
 pub mod NameSearch
 pub mod GivenEntries
 pub mod NearFields
+pub mod MidnightLemmas
 pub mod NearWalk
 pub mod FinishedExcerpt
 pub mod ScheduleFields

@@ -4,7 +4,7 @@ use Rattle.std.proofs.Common.{◌≡◌, ℕ, ◌∙◌, inl, inr, Bool, true, f
 use Rattle.std.proofs.Common.{length, map, subst, refl, ap, sym, Some, None, arith, append_assoc}
 use Rattle.std.specs.Global.{Vec}
 use Rattle.std.proofs.lemmas.List.{map-append}
-use Rattle.std.specs.Prelude.{Option, Contains, ◌⊎◌, ◌||◌, not, slice_get}
+use Rattle.std.specs.Prelude.{Option, Contains, ◌⊎◌, ◌||◌, ◌&&◌, not, slice_get}
 use Rattle.std.specs.Ordering.{is_eq}
 use Rattle.std.specs.BTreeSet as set
 use Rattle.std.specs.BTreeSet.{BTreeSet}
@@ -16,7 +16,7 @@ use Rattle.docker_model.specs.records.Field.{is_deletion, as_new}
 use Rattle.docker_model.specs.file.File.{IsSchedule, first_record}
 use Rattle.docker_model.specs.file.Journey.{calls_at}
 use Rattle.docker_model.specs.file.Change.{Change, Act, tiploc_body, association_body, schedule_body, delete, put}
-use Rattle.docker_laws.specs.NearDay.{runs_near}
+use Rattle.docker_laws.specs.NearDay.{runs_near, may_reach}
 use Rattle.docker_laws.specs.Thinning.{may_matter, thin_act, thin_change, thin_lines, lines_for, HasNoChangeOf, IsThinning}
 use Rattle.docker_laws.proofs.dockers.ThinChanges.{thinning_at_first, thinning_kept, thinning_dropped, thinning_elsewhere, act_far, near_of_new}
 use Rattle.cif_change.specs.declared.change.Change as code
@@ -32,6 +32,8 @@ use Rattle.docker_excerpt.specs.declared.elsewhere.Elsewhere.{Elsewhere}
 use Rattle.docker_excerpt.specs.Elsewhere.{elsewhere_meant, all_kept, HaveSame}
 use Rattle.cif_file.specs.KeeperRead.{change_opened, with_new_first}
 use Rattle.cif_file.specs.SingleChanges.{puts_schedule, PutsNoSchedule, listed_after}
+use Rattle.docker_excerpt.specs.Midnights.{IsPutSchedule}
+use Rattle.docker_excerpt.proofs.MidnightLemmas.{put_of_new}
 use Rattle.docker_excerpt.specs.ThinKept.{schedule_cmp, has_key, KnowsMore, HasKeysOf, HasThinned, Thins, ThinsAll, SaysRunsNear}
 
 abbrev Lines : Type 0
@@ -132,7 +134,7 @@ made_pushed place made elsewhere change new pushed kept same =
     (sym (ap (map change_meant) pushed ∙ map-append change_meant made.items (change ∷ [])))
     (same_in_front kept (map change_meant made.items) (map (elsewhere_meant place) elsewhere.items) (change_meant change) same)
 
--- pushing a schedule that doesn't call at the place keeps its thin change
+-- pushing a schedule without an event at the place on the day keeps its thin change
 pub elsewhere_pushed : (place : List ℕ) (made : Vec code.Change) (elsewhere : Vec Elsewhere) (one : Elsewhere) (new : Vec Elsewhere)
     → new.items ≡ elsewhere.items ++ one ∷ [] → KeepsMore place made elsewhere (elsewhere_meant place one) made new
 elsewhere_pushed place made elsewhere one new pushed kept same =
@@ -240,12 +242,12 @@ module _ (place : List ℕ) (day : ℕ) (opened : Opened) (near : Bool) where
   -- lines that the docker of the place needs
   pub opened_puts : (lines : Lines) → HasLines (progress_meant opened.progress) lines → IsSchedule lines → SaysRunsNear day lines near
       → (progress_meant opened.progress).deletion ≡ false → near ≡ true
-      → thin_act place day (change_opened opened lines).act ≡ put (schedule_body (lines_for place (with_new_first lines)))
+      → thin_act place day (change_opened opened lines).act ≡ put (schedule_body (lines_for place day (with_new_first lines)))
   opened_puts [] read whole is stays runs = absurd (let size = ap (λ (l : Lines). length l) whole.whole in omega arith)
   opened_puts (basic ∷ others) read whole is stays runs =
       ap (thin_act place day) (act_put basic others is stays)
       ∙ (λ i. cond ((near_renewed basic others is (sym read.deletion_is ∙ stays) ∙ runs) i)
-      (put (schedule_body (lines_for place (as_new basic ∷ others)))) delete)
+      (put (schedule_body (lines_for place day (as_new basic ∷ others)))) delete)
 
 -- a key that may matter at the place of a `Thinned` may matter at the docker's place, since the two places are equal
 pub matters_here : (place : List ℕ) {day : ℕ} (change : Change) {thinned : Thinned} {all : List Change} (has : HasThinned place day thinned all)
@@ -289,30 +291,34 @@ neither false true h = (refl, refl)
 
 module _ (place : List ℕ) (day : ℕ) (opened : Opened) (near : Bool) (lines : Lines) (read : HasLines (progress_meant opened.progress) lines)
     (whole : IsSchedule lines) (is : SaysRunsNear day lines near) (stays : (progress_meant opened.progress).deletion ≡ false) (runs : near ≡ true)
-    (thinned : Thinned) (there : thinned.place ≡ place) (renewed : Lines) (same : renewed ≡ with_new_first lines) where
+    (thinned : Thinned) (there : thinned.place ≡ place) (dated : thinned.day ≡ day) (renewed : Lines) (same : renewed ≡ with_new_first lines)
+    (test : Bool) (tells : IsPutSchedule renewed → test ≡ (calls_at thinned.place renewed && may_reach thinned.day renewed)) where
   -- the change of a schedule with this body
   abbrev putting : Lines → Change
   putting body = record { number = opened.number; key = key_meant (key.Schedule opened.key); act = put (schedule_body body) }
 
-  by_test : (b : Bool) → calls_at thinned.place renewed ≡ b
+  by_test : (b : Bool) → test ≡ b
       → thin_change place day (change_opened opened lines) ≡ putting (cond b renewed (thin_lines place (first_record renewed)))
   by_test b h = λ i. record {
     number = opened.number;
     key = key_meant (key.Schedule opened.key);
-    act = (opened_puts place day opened near lines read whole is stays runs ∙ ap (λ ls. put (schedule_body (lines_for place ls))) (sym same)
+    act = (opened_puts place day opened near lines read whole is stays runs ∙ ap (λ ls. put (schedule_body (lines_for place day ls))) (sym same)
         ∙ (λ j. put (schedule_body (cond (tested j) renewed (thin_lines place (first_record renewed)))))) i;
   }
     where
-      tested : calls_at place renewed ≡ b
-      tested = ap (λ p. calls_at p renewed) (sym there) ∙ h
+      put_is : IsPutSchedule renewed
+      put_is = subst IsPutSchedule (sym same) (put_of_new lines whole (sym read.deletion_is ∙ stays))
 
-  -- if a schedule runs near the day and calls at the place, the thin form of its change has all its lines
-  pub opened_whole : (body : Lines) → body ≡ renewed → calls_at thinned.place renewed ≡ true
+      tested : (calls_at place renewed && may_reach day renewed) ≡ b
+      tested = (λ i. calls_at (sym there i) renewed && may_reach (sym dated i) renewed) ∙ sym (tells put_is) ∙ h
+
+  -- suppose that a schedule runs near the day and calls at the place. If an event of it may be on the day, the thin form of its change has all its lines
+  pub opened_whole : (body : Lines) → body ≡ renewed → test ≡ true
       → thin_change place day (change_opened opened lines) ≡ putting body
   opened_whole body copied calls = by_test true calls ∙ ap putting (sym copied)
 
-  -- if a schedule runs near the day but doesn't call at the place, the thin form of its change has its basic schedule
-  pub opened_elsewhere : (basic : List ℕ) → basic ≡ first_record renewed → calls_at thinned.place renewed ≡ false
+  -- if a schedule runs near the day but has no event at the place on the day, the thin form of its change has its basic schedule
+  pub opened_elsewhere : (basic : List ℕ) → basic ≡ first_record renewed → test ≡ false
       → thin_change place day (change_opened opened lines) ≡ elsewhere_meant place (record { number = opened.number; key = opened.key; basic = basic })
   opened_elsewhere basic first apart = by_test false apart ∙ ap (λ line. putting (thin_lines place line)) (sym first)
 

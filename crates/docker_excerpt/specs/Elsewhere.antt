@@ -1,4 +1,4 @@
--- Schedules that run near the day of a docker, but don't call at its place.
+-- Schedules that run near the day of a docker, but have no event at its place on this day.
 use Rattle.std.specs.Prelude.{◌↔◌, ℕ, List, ◌∷◌, ◌++◌, map, Contains, Option, Some, None}
 use Rattle.std.specs.List.{filter_map}
 use Rattle.std.specs.Global.{Vec}
@@ -18,11 +18,11 @@ with_ends ends one = record {
   act = put (schedule_body (one.basic ∷ ends));
 }
 
--- the thin change of a schedule that doesn't call at the place
+-- the thin change of a schedule without an event at the place on the day
 abbrev pub elsewhere_meant : List ℕ → Elsewhere → model.Change
 elsewhere_meant place = with_ends (ends_elsewhere place)
 
--- the changes in a vector, followed by the thin changes of schedules that don't call at the place
+-- the changes in a vector, followed by the thin changes of the other schedules
 abbrev pub all_kept : List ℕ → Vec Change → Vec Elsewhere → List model.Change
 all_kept place made elsewhere = map change_meant made.items ++ map (elsewhere_meant place) elsewhere.items
 

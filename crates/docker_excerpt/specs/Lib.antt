@@ -2,6 +2,7 @@ pub mod Walked
 pub mod ExcerptWalk
 pub mod DayWalk
 pub mod Values
+pub mod Midnights
 pub mod Ledger
 pub mod Elsewhere
 pub mod ThinRead

@@ -11,7 +11,7 @@ use Rattle.docker_model.specs.state.Op.{Entry}
 use Rattle.docker_model.specs.state.State.{State, IsValid, live_table}
 use Rattle.docker_laws.specs.Excerpt.{IsExcerptState}
 use Rattle.docker_laws.specs.FileSummary.{latest_entries}
-use Rattle.docker_laws.specs.NearDay.{near_state}
+use Rattle.docker_laws.specs.Thinning.{shortened}
 use Rattle.cif_file.specs.FileRead.{FileRead}
 
 -- the value of an excerpt that isn't finished: its place, its day, and the parts of the state that
@@ -46,8 +46,8 @@ pub record StandsAt (place : List ℕ) (day : ℕ) (state part : State) : Type 0
   pub described : description_in (live_table part (tiploc_key place)) ≡ description_in (live_table state (tiploc_key place))
   pub list : (lines : List DockerLine) → IsDockerList (live_table part) place day lines → IsDockerList (live_table state) place day lines
 
--- says that the state is valid, and that `part` is the state's excerpt for the place, without the
--- entries that can't count on the day
+-- says that the state is valid, and that `part` is an excerpt for the place of the shortened state,
+-- which has only the entries that may count on the day
 pub record IsExcerptOf (place : List ℕ) (day : ℕ) (state part : State) : Type 0 where
   pub valid : IsValid state
-  pub excerpt : IsExcerptState place (near_state day state) part
+  pub excerpt : IsExcerptState place (shortened place day state) part

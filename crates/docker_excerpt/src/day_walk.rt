@@ -1,15 +1,16 @@
-//! Walks over a state's entries for the docker of one place and one day, and skips the schedules
-//! that can't count on that day.
+//! Walks over a state's entries for the docker of one place and one day. Skips the schedules that
+//! can't count on that day, and shortens those that call at the place on other days only.
 ghost use Rattle.std.specs.Prelude.{◌≡◌, [], ◌∷◌, ◌++◌, map, IsOk, IsErr, IfOk};
 ghost use Rattle.docker_model.specs.state.State as states;
 ghost use Rattle.docker_model.specs.state.State.{IsOpOf};
 ghost use Rattle.docker_model.specs.state.StatePart.{IsAboveEntries};
-ghost use Rattle.docker_laws.specs.NearDay.{excerpt_on};
+ghost use Rattle.docker_laws.specs.Thinning.{excerpt_on};
 ghost use Rattle.cif_change.specs.Meaning.{key_meant};
 ghost use Rattle.docker_join.specs.Meaning.{entry_meant, row_meant};
 ghost use Rattle.docker_excerpt.specs.Walked.{state_of_entries};
 ghost use Rattle.docker_excerpt.specs.DayWalk.{HasPassed};
 
+use crate::excerpt_entry::excerpt_entry;
 use crate::near::may_count;
 use crate::walk::ExcerptWalk;
 use cif_change::Key;
@@ -20,6 +21,7 @@ use std::alloc::Global;
 /// A walk over those entries of a state that may count on a day.
 #[derive(Drop)]
 pub(crate) struct DayWalk {
+    alloc: Global,
     day: Day,
     walk: ExcerptWalk,
     near: Given,
@@ -33,6 +35,7 @@ impl DayWalk {
         ensures day { result.day ≡ day }
     {
         DayWalk {
+            alloc,
             day,
             walk: ExcerptWalk::new(alloc, place),
             near: Given::new(),
@@ -68,6 +71,8 @@ impl DayWalk {
         if !may_count(self.day, &key, &entry.op) {
             return Ok(());
         }
+        let place = self.walk.place();
+        let entry = excerpt_entry(self.alloc, &place, self.day, &key, entry)?;
         let near = Given::with(&self.near, &key, &entry);
         self.walk.entry(&self.near, key, entry)?;
         self.near = near;

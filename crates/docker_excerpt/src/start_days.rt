@@ -4,6 +4,7 @@ ghost use Rattle.std.specs.Prelude.{◌≡◌, ◌&&◌, nat_le, false};
 ghost use Rattle.docker_model.specs.records.Record.{HasKind, basic_schedule};
 ghost use Rattle.docker_model.specs.records.Field.{HasGoodFields, is_deletion};
 ghost use Rattle.docker_model.specs.records.Date.{runs_on_weekday, weekday_of};
+ghost use Rattle.docker_model.specs.docker.Choice.{schedule_runs};
 ghost use Rattle.docker_laws.specs.NearDay.{near_starts, runs_near};
 
 use cif_line::{Basic, Day, Line};
@@ -51,6 +52,34 @@ fn runs_within(first: u16, last: u16, flags: &[u8; 7], start: u16) -> bool
         && runs_on_weekday flags.now (weekday_of start)) }
 {
     (first <= start) && (start <= last) && flags[((start as u32 + 4) % 7) as usize] == b'1'
+}
+
+/// Whether a basic schedule runs on a start day, given as a day number. The result has no meaning
+/// for a deletion, whose days aren't checked.
+pub(crate) fn runs_on(basic: &Basic<'_>, start: u16) -> bool
+    ensures { is_deletion basic.now ≡ false → result ≡ schedule_runs basic.now start }
+{
+    let line = basic.line();
+    if line.is_deletion() {
+        return false;
+    }
+    line_runs_on(line, start)
+}
+
+/// Whether the basic schedule in this line runs on a start day, given as a day number.
+#[tactic(auto, using(crate::proofs::ScheduleFields::schedule_fields))]
+fn line_runs_on(line: &Line, start: u16) -> bool
+    requires kind { HasKind basic_schedule line.now }
+    requires good { HasGoodFields line.now }
+    requires no_deletion { is_deletion line.now ≡ false }
+    ensures { result ≡ schedule_runs line.now start }
+{
+    let first = line.day(10).number();
+    let last = match line.end_unless_deleted(16) {
+        Some(last) => last.number(),
+        None => unreachable!(),
+    };
+    runs_within(first, last, line.field(22), start)
 }
 
 /// Whether a basic schedule runs on a start day near a day. The result has no meaning for a

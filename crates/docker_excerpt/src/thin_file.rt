@@ -69,7 +69,8 @@ impl ThinFile {
     }
 
     /// Takes the thin file apart. The parts have only the kept changes that the docker needs. If a
-    /// schedule doesn't call at the place, the change that puts it has a made-up origin and terminus.
+    /// schedule has no event at the place on the day, the change that puts it has a made-up origin and
+    /// terminus.
     pub fn into_needed(self, alloc: Global) -> Result<FileParts, AllocError>
         ensures { IfOk result (AreNeededParts self) }
     {

@@ -10,15 +10,16 @@ ghost use Rattle.docker_excerpt.specs.ThinKept.{has_key, with_keys, KnowsMore, H
 
 use crate::elsewhere::Elsewhere;
 use crate::needs::may_matter;
+use crate::reach::may_call_on;
 use cif_change::{Act, Body, Change, Key, ScheduleKey};
-use cif_file::{Opened, SingleChanges, body_of, calls_at};
+use cif_file::{Opened, SingleChanges, body_of};
 use cif_line::{Day, Line, Tiploc};
 use std::alloc::{AllocError, Global};
 use std::collections::BTreeSet;
 
 /// The changes that are kept for the docker of one place on one day, and the set of the keys of
-/// their schedules. A schedule that doesn't call at the place is in `elsewhere`, without a body. All
-/// other changes are in `made`.
+/// their schedules. A schedule without an event at the place on the day is in `elsewhere`, without a
+/// body. All other changes are in `made`.
 #[derive(Debug, Drop)]
 pub(crate) struct Thinned {
     alloc: Global,
@@ -93,7 +94,7 @@ impl Thinned {
         Ok(())
     }
 
-    /// Keeps a schedule that doesn't call at the place, and adds its key to the set.
+    /// Keeps a schedule without an event at the place on the day, and adds its key to the set.
     fn keep_elsewhere(&mut self, schedule: Elsewhere) -> Result<(), AllocError>
         ensures { OnOk result ((place : List ℕ) (day : ℕ) (whole : model.Change)
             → may_matter place whole.key ≡ true
@@ -165,7 +166,7 @@ impl Thinned {
         if opened.progress.is_deletion() | !runs_near {
             return self.delete(opened.number, opened.key);
         }
-        if calls_at(&self.place, lines) {
+        if may_call_on(&self.place, self.day, lines) {
             let body = body_of(self.alloc, lines)?;
             return self.keep(Change {
                 number: opened.number,

@@ -1,4 +1,4 @@
-//! Which schedules the docker of a place needs, of those that don't call at the place.
+//! Which schedules the docker of a place needs, of those without an event at the place on the day.
 ghost use Rattle.std.specs.Prelude.{◌≡◌, ◌↔◌, ℕ, List, map, filter, Contains, IfOk};
 ghost use Rattle.std.specs.List.Sorted.{IsSorted};
 ghost use Rattle.docker_model.specs.state.Order.{bytes_cmp};

@@ -29,6 +29,7 @@ pub mod NearDocker
 pub mod NearState
 pub mod ThinBody
 pub mod ThinDocker
+pub mod Shortened
 pub mod ThinChanges
 pub mod ThinState
 pub mod NeededChanges

@@ -1,9 +1,9 @@
 -- Thinning removes from a table what the docker of one place on one day doesn't need. It removes
 -- TIPLOCs and associations of other places, and schedules that run on no start day near the day. Of
--- a schedule that doesn't call at the place, it leaves only the basic schedule, followed by a
--- made-up origin and terminus. Each change can be thinned by itself.
+-- a schedule that can't have an event at the place on the day, it leaves only the basic schedule,
+-- followed by a made-up origin and terminus. Each change can be thinned by itself.
 use Rattle.std.specs.Prelude.{◌≡◌, ℕ, Bool, true, if◌then◌else◌, List, [], ◌∷◌, ◌++◌, map, filter, codes}
-use Rattle.std.specs.Prelude.{fold, Option, Some, None, option_and_then, not, Contains, ◌↔◌}
+use Rattle.std.specs.Prelude.{fold, ◌&&◌, Option, Some, None, option_and_then, not, Contains, ◌↔◌}
 use Rattle.std.specs.Ordering.{is_eq}
 use Rattle.std.specs.List.{list_any}
 use Rattle.std.specs.Str.{bytes_eq}
@@ -14,12 +14,13 @@ use Rattle.docker_model.specs.file.Change.{Key, tiploc_key, association_key, sch
 use Rattle.docker_model.specs.file.Change.{Body, schedule_body, association_body, Act, delete, put, Change}
 use Rattle.docker_model.specs.state.Order.{IsAtMost}
 use Rattle.docker_model.specs.state.Stamp.{ledger_item_of}
-use Rattle.docker_model.specs.state.Op.{key_cmp, put_with, Entry}
+use Rattle.docker_model.specs.state.Op.{Op, key_cmp, put_with, Entry}
 use Rattle.docker_model.specs.state.Table.{Table, empty_table, after_change}
 use Rattle.docker_model.specs.state.State.{State, AreAscending, IsGreatestAmong}
 use Rattle.docker_model.specs.state.Summary.{entry_of}
 use Rattle.docker_laws.specs.Excerpt.{IsSublist}
-use Rattle.docker_laws.specs.NearDay.{may_count}
+use Rattle.docker_laws.specs.ExcerptWalk.{excerpt_for}
+use Rattle.docker_laws.specs.NearDay.{may_count, may_reach, near_entries}
 
 -- a made-up origin and terminus at this TIPLOC, both with the time 0000
 abbrev pub ends_at : List ℕ → List (List ℕ)
@@ -34,16 +35,16 @@ ends_elsewhere place = if bytes_eq place (codes "NOWHERE") then ends_at (codes "
 abbrev pub thin_lines : List ℕ → List ℕ → List (List ℕ)
 thin_lines place basic = basic ∷ ends_elsewhere place
 
--- the records of a schedule that the docker of the place needs: all records if the schedule calls
--- at the place, and otherwise the thin records
-abbrev pub lines_for : List ℕ → List (List ℕ) → List (List ℕ)
-lines_for place lines = if calls_at place lines then lines else thin_lines place (first_record lines)
+-- the records of a schedule that the docker of the place and the day needs: all records if the
+-- schedule calls at the place and an event of it may be on the day, and otherwise the thin records
+abbrev pub lines_for : List ℕ → ℕ → List (List ℕ) → List (List ℕ)
+lines_for place day lines = if calls_at place lines && may_reach day lines then lines else thin_lines place (first_record lines)
 
--- the body that the docker of the place needs: the thin records of a schedule that doesn't call at
--- the place, and any other body unchanged
-abbrev pub body_for : List ℕ → Body → Body
-body_for place (schedule_body lines) = schedule_body (lines_for place lines)
-body_for place body = body
+-- the body that the docker of the place and the day needs: of a schedule the records that
+-- `lines_for` leaves, and any other body unchanged
+abbrev pub body_for : List ℕ → ℕ → Body → Body
+body_for place day (schedule_body lines) = schedule_body (lines_for place day lines)
+body_for place day body = body
 
 -- whether the docker of the place may depend on the body at this key, judged only by the key. It
 -- may depend on the place's TIPLOC, on the associations at the place, and on all schedules
@@ -54,7 +55,7 @@ may_matter place (schedule_key key) = true
 
 -- a body, thinned for the place and the day, or `None` if the body can't count on the day
 abbrev pub thin_body : List ℕ → ℕ → Body → Option Body
-thin_body place day body = if may_count day (put_with body) then Some (body_for place body) else None
+thin_body place day body = if may_count day (put_with body) then Some (body_for place day body) else None
 
 -- a table, thinned for the place and the day
 abbrev pub thinned : List ℕ → ℕ → Table → Table
@@ -64,7 +65,7 @@ thinned place day live key = if may_matter place key then option_and_then (thin_
 -- other put becomes a put of the body that the docker of the place needs
 abbrev pub thin_act : List ℕ → ℕ → Act → Act
 thin_act place day delete = delete
-thin_act place day (put body) = if may_count day (put_with body) then put (body_for place body) else delete
+thin_act place day (put body) = if may_count day (put_with body) then put (body_for place day body) else delete
 
 -- the thin form of a change: the same record number and key, and the thin form of the act
 abbrev pub thin_change : List ℕ → ℕ → Change → Change
@@ -127,3 +128,38 @@ pub record HasUidsOf (place : List ℕ) (kept : List Change) (uids : List (List 
       → change.act ≡ put (schedule_body lines) → calls_at place lines ≡ true → Contains uids key.uid
   pub names : (change : Change) (key : AssociationKey) (line : List ℕ) → Contains kept change → change.key ≡ association_key key
       → change.act ≡ put (association_body line) → Contains uids key.associated
+
+-- the records of a schedule in the excerpt of a state. If the schedule calls at the place, they are
+-- the records that the docker needs, and otherwise all records
+abbrev pub excerpt_lines : List ℕ → ℕ → List (List ℕ) → List (List ℕ)
+excerpt_lines place day lines = if calls_at place lines then lines_for place day lines else lines
+
+-- a body in the excerpt of a state: of a schedule the records that `excerpt_lines` leaves, and any
+-- other body unchanged
+abbrev pub excerpt_body : List ℕ → ℕ → Body → Body
+excerpt_body place day (schedule_body lines) = schedule_body (excerpt_lines place day lines)
+excerpt_body place day body = body
+
+-- an op in the excerpt of a state: a put of the body that `excerpt_body` leaves, and any other op
+-- unchanged
+abbrev pub excerpt_op : List ℕ → ℕ → Op → Op
+excerpt_op place day (put_with body) = put_with (excerpt_body place day body)
+excerpt_op place day op = op
+
+-- a key with its entry, whose op is the one that the excerpt has. The key and the stamp are
+-- unchanged
+abbrev pub excerpt_entry : List ℕ → ℕ → Key × Entry → Key × Entry
+excerpt_entry place day entry = (entry.0, record { stamp = entry.1.stamp; op = excerpt_op place day entry.1.op })
+
+-- the entries that may count on the day, as the excerpt of a state has them
+abbrev pub excerpt_entries : List ℕ → ℕ → List (Key × Entry) → List (Key × Entry)
+excerpt_entries place day entries = map (excerpt_entry place day) (near_entries day entries)
+
+-- the state with only the entries that may count on the day. Of a schedule that calls at the place,
+-- it has only the records that the docker needs
+abbrev pub shortened : List ℕ → ℕ → State → State
+shortened place day state = record { horizon = state.horizon; ledger = state.ledger; entries = excerpt_entries place day state.entries }
+
+-- the excerpt of a state for a place and a day
+abbrev pub excerpt_on : List ℕ → ℕ → State → State
+excerpt_on place day state = excerpt_for place (shortened place day state)

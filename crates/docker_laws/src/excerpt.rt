@@ -14,7 +14,8 @@ ghost use Rattle.docker_model.specs.state.StatePart.{IsAboveEntries, IsStampHere
 ghost use Rattle.docker_model.specs.docker.DockerLine.{DockerLine};
 ghost use Rattle.docker_model.specs.docker.DockerList.{IsDockerList};
 ghost use Rattle.docker_model.specs.docker.DockerText.{IsDockerText};
-ghost use Rattle.docker_laws.specs.NearDay.{may_count, near_entries, near_state, excerpt_on};
+ghost use Rattle.docker_laws.specs.NearDay.{may_count, near_entries, near_state};
+ghost use Rattle.docker_laws.specs.Thinning.{excerpt_on};
 ghost use Rattle.docker_laws.specs.Excerpt.{IsNeeded, IsExcerpt, IsSublist, IsExcerptState};
 ghost use Rattle.docker_laws.specs.ExcerptWalk.{ExcerptSoFar, nothing_kept, is_here, has_uid, names_in, is_call, is_run_calling, is_run_needed};
 ghost use Rattle.docker_laws.specs.ExcerptWalk.{kept_after_run, goes_on, next_kept, kept_from, kept_so_far, excerpt_for, HasKept};

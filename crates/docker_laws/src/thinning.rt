@@ -2,7 +2,7 @@
 //! doesn't need. Each change is judged by itself. A law is a function with an empty body. Its
 //! contract states a fact, which holds for all values of the variables.
 ghost use Rattle.std.specs.Prelude.{◌≡◌, ℕ, ◌-◌, ◌^◌, ◌<◌, ◌≤◌, Contains, List, [], ◌∷◌, ◌++◌, ◌↔◌, length, fold, true, false};
-ghost use Rattle.docker_model.specs.records.Record.{IsRecord, HasKind, origin_location, terminating_location};
+ghost use Rattle.docker_model.specs.records.Record.{IsRecord, HasKind, basic_schedule, origin_location, terminating_location};
 ghost use Rattle.docker_model.specs.records.Field.{HasGoodFields, as_new};
 ghost use Rattle.docker_model.specs.file.Journey.{calls_at};
 ghost use Rattle.docker_model.specs.file.File.{IsFile, first_record, most_records};
@@ -15,11 +15,12 @@ ghost use Rattle.docker_model.specs.state.Summary.{IsSummary};
 ghost use Rattle.docker_model.specs.docker.DockerLine.{DockerLine};
 ghost use Rattle.docker_model.specs.docker.DockerList.{IsDockerList};
 ghost use Rattle.docker_model.specs.docker.DockerText.{IsDockerText};
-ghost use Rattle.docker_laws.specs.NearDay.{runs_near};
+ghost use Rattle.docker_laws.specs.NearDay.{runs_near, may_reach};
 ghost use Rattle.docker_laws.specs.Excerpt.{IsExcerpt};
 ghost use Rattle.docker_laws.specs.StandIn.{IsStandIn, StandsFor};
 ghost use Rattle.docker_laws.specs.Thinning.{ends_elsewhere, thin_lines, lines_for, body_for, may_matter, thinned, thin_act, thin_change};
 ghost use Rattle.docker_laws.specs.Thinning.{thin_changes, table_of, IsThinning, HasNoChangeOf, AreAtMost, without, IsStateOfChanges, wanted_changes, HasUidsOf};
+ghost use Rattle.docker_laws.specs.Thinning.{shortened};
 ghost use Rattle.docker_laws.specs.FileSummary.{summary_of};
 
 /// Suppose that the bodies of a table are well formed. For a place and a day, the table and its
@@ -61,13 +62,32 @@ pub fn stand_in_has_one_docker()
         → HasGoodBodies live → StandsFor place day live (thinned place day live) }
 {}
 
+/// In a valid state, the schedules that call at a place may keep only the records that the docker of
+/// the place and a day needs, and those that run on no start day near the day may be left out. The
+/// state is still valid, and has the same docker for this place and day.
+pub fn shortened_state_has_one_docker()
+    ensures valid { (place : List ℕ) (day : ℕ) (state : State)
+        → IsValid state → IsValid (shortened place day state) }
+    ensures list { (place : List ℕ) (day : ℕ) (state : State) (lines : List DockerLine)
+        → IsValid state → IsDockerList (live_table state) place day lines
+        ↔ IsDockerList (live_table (shortened place day state)) place day lines }
+    ensures text { (place : List ℕ) (day : ℕ) (state : State) (text : List ℕ)
+        → IsValid state → IsDockerText (live_table state) place day text
+        ↔ IsDockerText (live_table (shortened place day state)) place day text }
+{}
+
 /// For the docker of a place and a day, the records of a schedule that `lines_for` keeps may
-/// replace the schedule. If the schedule doesn't call at the place, it may be replaced by any
-/// records that have the same first record and don't call at the place. The first record, followed
-/// by any origin and any terminus with good fields, forms a schedule with the same key.
+/// replace the schedule. If the schedule doesn't call at the place, or no event of it may be on the
+/// day, it may be replaced by any records that have the same first record and don't call at the
+/// place. The first record, followed by any origin and any terminus with good fields, forms a
+/// schedule with the same key.
 pub fn stand_in_of_a_schedule()
     ensures needed { (place : List ℕ) (day : ℕ) (lines : List (List ℕ))
-        → IsStandIn place day lines (lines_for place lines) }
+        → HasKind basic_schedule (first_record lines)
+        → IsStandIn place day lines (lines_for place day lines) }
+    ensures other_day { (place : List ℕ) (day : ℕ) (whole lines : List (List ℕ))
+        → first_record lines ≡ first_record whole → may_reach day whole ≡ false
+        → calls_at place lines ≡ false → IsStandIn place day whole lines }
     ensures first { (place : List ℕ) (day : ℕ) (whole lines : List (List ℕ))
         → first_record lines ≡ first_record whole → calls_at place whole ≡ false
         → calls_at place lines ≡ false → IsStandIn place day whole lines }
@@ -84,17 +104,17 @@ pub fn stand_in_of_a_schedule()
 pub fn thin_body_is_of_its_key()
     ensures of_key { (place : List ℕ) (key : ScheduleKey) (lines : List (List ℕ))
         → IsScheduleOf key lines → IsScheduleOf key (thin_lines place (first_record lines)) }
-    ensures body { (place : List ℕ) (key : Key) (body : Body)
-        → IsBodyOf key body → IsBodyOf key (body_for place body) }
+    ensures body { (place : List ℕ) (day : ℕ) (key : Key) (body : Body)
+        → IsBodyOf key body → IsBodyOf key (body_for place day body) }
     ensures ends { (place : List ℕ) → calls_at place (ends_elsewhere place) ≡ false }
     ensures elsewhere { (place : List ℕ) (lines : List (List ℕ)) → calls_at place lines ≡ false
         → calls_at place (thin_lines place (first_record lines)) ≡ false }
 {}
 
 /// If a schedule runs on no start day near the day, the thin form of its put is a deletion.
-/// Otherwise, if the schedule doesn't call at the place, the thin form is a put of the thin
-/// records. Any other act is unchanged. Whether a schedule runs on a start day near the day doesn't
-/// depend on its transaction.
+/// Otherwise, if the schedule doesn't call at the place, or no event of it may be on the day, the
+/// thin form is a put of the thin records. Any other act is unchanged. Whether a schedule runs on a
+/// start day near the day doesn't depend on its transaction.
 pub fn thin_act_by_case()
     ensures deletes { (place : List ℕ) (day : ℕ) → thin_act place day delete ≡ delete }
     ensures tiploc { (place : List ℕ) (day : ℕ) (bytes : List ℕ)
@@ -106,9 +126,14 @@ pub fn thin_act_by_case()
         → thin_act place day (put (schedule_body lines)) ≡ delete }
     ensures calls { (place : List ℕ) (day : ℕ) (lines : List (List ℕ))
         → runs_near day (first_record lines) ≡ true → calls_at place lines ≡ true
+        → may_reach day lines ≡ true
         → thin_act place day (put (schedule_body lines)) ≡ put (schedule_body lines) }
     ensures thin { (place : List ℕ) (day : ℕ) (lines : List (List ℕ))
         → runs_near day (first_record lines) ≡ true → calls_at place lines ≡ false
+        → thin_act place day (put (schedule_body lines))
+        ≡ put (schedule_body (thin_lines place (first_record lines))) }
+    ensures other_day { (place : List ℕ) (day : ℕ) (lines : List (List ℕ))
+        → runs_near day (first_record lines) ≡ true → may_reach day lines ≡ false
         → thin_act place day (put (schedule_body lines))
         ≡ put (schedule_body (thin_lines place (first_record lines))) }
     ensures renewed { (day : ℕ) (line : List ℕ)

@@ -1,6 +1,5 @@
 -- If a valid state keeps only the entries that may count on a day, it is still valid, and its
--- dockers of that day are unchanged. Its excerpt for a place is valid too, and has the same docker
--- for that place and day as the whole state.
+-- dockers of that day are unchanged.
 use Rattle.std.proofs.Common.{◌≡◌, ℕ, List, [], ◌∷◌, ◌++◌, inl, inr, ◌⊎◌, refl, ap, sym, ◌∙◌, Bool, true, false, cond, None, Contains, append-nil}
 use Rattle.std.specs.Prelude.{◌↔◌, filter}
 use Rattle.std.proofs.lemmas.List.Elements.{filter-append}
@@ -11,14 +10,13 @@ use Rattle.docker_model.specs.state.State.{State, IsValid, AreAscending, live_ta
 use Rattle.docker_model.specs.docker.DockerLine.{DockerLine}
 use Rattle.docker_model.specs.docker.DockerList.{IsDockerList}
 use Rattle.docker_model.specs.docker.DockerText.{IsDockerText}
-use Rattle.docker_laws.specs.NearDay.{runs_near, may_count, near_entries, near_state, excerpt_on}
+use Rattle.docker_laws.specs.NearDay.{runs_near, may_count, near_entries, near_state}
 use Rattle.docker_laws.proofs.dockers.Sublists.{sublist_filter}
 use Rattle.cif_laws.proofs.lists.FilteredMembers.{filter_back, filter_forth}
 use Rattle.state_laws.proofs.states.PlainTable.{Keyed, Found, NotFound, find_in, one_per_key, live_at, live_none}
 use Rattle.docker_laws.proofs.dockers.FewMidnights.{bodies_few}
 use Rattle.state_laws.proofs.states.GoodBodies.{good_bodies}
 use Rattle.docker_laws.proofs.dockers.ExcerptState.{some_valid}
-use Rattle.docker_laws.proofs.dockers.ExcerptWalk.{walk_valid, walk_list_iff, walk_text_iff}
 use Rattle.docker_laws.proofs.dockers.NearDocker.{IsLeftOut, IsNearPart, near_list_iff, near_text_iff}
 
 -- an op that can't count on the day is a put of a schedule that runs on no start day near the day
@@ -82,30 +80,6 @@ pub near_state_text : (place : List ℕ) (day : ℕ) (state : State) (text : Lis
 near_state_text place day state text valid =
     near_text_iff day (live_table state) (live_table (near_state day state)) (near_part day state valid.entries.1)
     (bodies_few (live_table state) (good_bodies state valid)) place text
-
--- ---- the excerpt for a place and a day has the same docker as the state
-
--- the excerpt of a valid state for a place and a day is valid
-pub excerpt_on_valid : (place : List ℕ) (day : ℕ) (state : State) → IsValid state → IsValid (excerpt_on place day state)
-excerpt_on_valid place day state valid = walk_valid place (near_state day state) (near_valid day state valid)
-
--- a valid state and its excerpt for a place and a day have the same docker list for this place and
--- day
-pub excerpt_on_list : (place : List ℕ) (day : ℕ) (state : State) (lines : List DockerLine) → IsValid state
-    → IsDockerList (live_table state) place day lines ↔ IsDockerList (live_table (excerpt_on place day state)) place day lines
-excerpt_on_list place day state lines valid =
-    let near = near_state_list place day state lines valid in
-    let walk = walk_list_iff place (near_state day state) day lines (near_valid day state valid) in
-    (λ is. walk.0 (near.0 is), λ is. near.1 (walk.1 is))
-
--- a valid state and its excerpt for a place and a day have the same docker text for this place and
--- day
-pub excerpt_on_text : (place : List ℕ) (day : ℕ) (state : State) (text : List ℕ) → IsValid state
-    → IsDockerText (live_table state) place day text ↔ IsDockerText (live_table (excerpt_on place day state)) place day text
-excerpt_on_text place day state text valid =
-    let near = near_state_text place day state text valid in
-    let walk = walk_text_iff place (near_state day state) day text (near_valid day state valid) in
-    (λ is. walk.0 (near.0 is), λ is. near.1 (walk.1 is))
 
 -- ---- `near_entries` keeps or drops each entry regardless of the other entries
 

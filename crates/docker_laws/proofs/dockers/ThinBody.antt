@@ -8,7 +8,8 @@ use Rattle.std.specs.List.{AllPass, list_all}
 use Rattle.std.proofs.lemmas.List.Elements.{All-from_recursion}
 use Rattle.std.proofs.lemmas.List.Sums.{AllPass-from_list_all}
 use Rattle.std.proofs.lemmas.Slice.Eq.{bytes_eq-Decides}
-use Rattle.docker_model.specs.records.Record.{origin_location, terminating_location, HasKind, kind_of, IsRecord, columns, is_location, is_printable}
+use Rattle.docker_model.specs.records.Record.{basic_schedule, origin_location, terminating_location, HasKind, kind_of, IsRecord, columns}
+use Rattle.docker_model.specs.records.Record.{is_location, is_printable}
 use Rattle.docker_model.specs.records.Clock.{scheduled_time}
 use Rattle.docker_model.specs.records.Field.{HasGoodFields}
 use Rattle.docker_model.specs.file.Journey.{Occasion, arrival, departure, timed, times_by_kind, fall_count, midnights, calls_at}
@@ -16,6 +17,7 @@ use Rattle.docker_model.specs.file.File.{IsSchedule, IsWithinJourney, first_reco
 use Rattle.docker_model.specs.file.Change.{Key, tiploc_key, association_key, schedule_key, ScheduleKey, Body}
 use Rattle.docker_model.specs.file.Change.{tiploc_body, association_body, schedule_body}
 use Rattle.docker_model.specs.state.State.{IsScheduleOf, IsBodyOf}
+use Rattle.docker_laws.specs.NearDay.{may_reach}
 use Rattle.docker_laws.specs.Thinning.{ends_at, ends_elsewhere, thin_lines, lines_for, body_for}
 use Rattle.cif_laws.proofs.lists.Membership.{cons-Contains-first, member_of}
 
@@ -77,6 +79,10 @@ first_apart place (line ∷ lines) none = by (stops_at place line) none
 -- if a schedule doesn't call at a place, its thin records don't call at that place
 pub thin_elsewhere : (place : List ℕ) (lines : List (List ℕ)) → calls_at place lines ≡ false → calls_at place (thin_lines place (first_record lines)) ≡ false
 thin_elsewhere place lines none = λ i. first_apart place lines none i || ends_apart place i
+
+-- if the first record of a schedule is a basic schedule, its thin records don't call at the place
+pub thin_apart : (place basic : List ℕ) → HasKind basic_schedule basic → calls_at place (thin_lines place basic) ≡ false
+thin_apart place basic kind = λ i. (is_location (kind i) && bytes_eq (columns 3 9 basic) place) || ends_apart place i
 
 -- ---- a journey of only an origin and a terminus passes midnight at most twice
 
@@ -166,23 +172,25 @@ thin_of_key place key lines is = by (bytes_eq place nowhere)
         any_ends_of_key key lines is (origin_at nowhere) (terminus_at nowhere)
         (refl, printable (origin_at nowhere) refl) (refl, printable (terminus_at nowhere) refl) refl refl refl refl
 
--- the records of a schedule that the docker of a place needs (`lines_for`) form a schedule with the
--- same key
-pub needed_of_key : (place : List ℕ) (key : ScheduleKey) (lines : List (List ℕ)) → IsScheduleOf key lines → IsScheduleOf key (lines_for place lines)
-needed_of_key place key lines is = by (calls_at place lines)
+-- the records of a schedule that the docker of a place and a day needs (`lines_for`) form a
+-- schedule with the same key
+pub needed_of_key : (place : List ℕ) (day : ℕ) (key : ScheduleKey) (lines : List (List ℕ)) → IsScheduleOf key lines
+    → IsScheduleOf key (lines_for place day lines)
+needed_of_key place day key lines is = by (calls_at place lines && may_reach day lines)
   where
     by : (b : Bool) → IsScheduleOf key (cond b lines (thin_lines place (first_record lines)))
     by true = is
     by false = thin_of_key place key lines is
 
--- a body, and the body that the docker of a place needs instead of it, belong to the same key
-pub needed_is_body : (place : List ℕ) (key : Key) (body : Body) → IsBodyOf key body → IsBodyOf key (body_for place body)
-needed_is_body place (schedule_key key) (schedule_body lines) is = needed_of_key place key lines is
-needed_is_body place (schedule_key key) (tiploc_body bytes) is = is
-needed_is_body place (schedule_key key) (association_body line) is = is
-needed_is_body place (tiploc_key code) (tiploc_body bytes) is = is
-needed_is_body place (tiploc_key code) (association_body line) is = is
-needed_is_body place (tiploc_key code) (schedule_body lines) is = absurd is
-needed_is_body place (association_key key) (tiploc_body bytes) is = is
-needed_is_body place (association_key key) (association_body line) is = is
-needed_is_body place (association_key key) (schedule_body lines) is = absurd is
+-- a body, and the body that the docker of a place and a day needs instead of it, belong to the same
+-- key
+pub needed_is_body : (place : List ℕ) (day : ℕ) (key : Key) (body : Body) → IsBodyOf key body → IsBodyOf key (body_for place day body)
+needed_is_body place day (schedule_key key) (schedule_body lines) is = needed_of_key place day key lines is
+needed_is_body place day (schedule_key key) (tiploc_body bytes) is = is
+needed_is_body place day (schedule_key key) (association_body line) is = is
+needed_is_body place day (tiploc_key code) (tiploc_body bytes) is = is
+needed_is_body place day (tiploc_key code) (association_body line) is = is
+needed_is_body place day (tiploc_key code) (schedule_body lines) is = absurd is
+needed_is_body place day (association_key key) (tiploc_body bytes) is = is
+needed_is_body place day (association_key key) (association_body line) is = is
+needed_is_body place day (association_key key) (schedule_body lines) is = absurd is

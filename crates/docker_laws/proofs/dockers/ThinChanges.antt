@@ -2,7 +2,7 @@
 -- changes and then thinning the table.
 use Rattle.std.proofs.Common.{arith, append-nil, append_assoc, ◌≡◌, ℕ, List, [], ◌∷◌, ◌++◌, subst, inl, inr}
 use Rattle.std.proofs.Common.{◌⊎◌, refl, ap, sym, ◌∙◌, Bool, true, false, cond, Some, None, Contains, map}
-use Rattle.std.specs.Prelude.{Option, option_and_then, filter, fold, not}
+use Rattle.std.specs.Prelude.{Option, option_and_then, filter, fold, not, ◌&&◌}
 use Rattle.std.specs.declared.cmp.Ordering.TheVariants.{Greater}
 use Rattle.std.specs.Ordering.{is_eq, ordering_reverse}
 use Rattle.std.specs.Cmp.{tied_itself}
@@ -13,7 +13,7 @@ use Rattle.docker_model.specs.file.File.{first_record}
 use Rattle.docker_model.specs.file.Change.{schedule_body, Key, Body, Act, delete, put, Change}
 use Rattle.docker_model.specs.state.Op.{key_cmp, op_of, body_of, put_with}
 use Rattle.docker_model.specs.state.Table.{Table, empty_table, after_change}
-use Rattle.docker_laws.specs.NearDay.{near_starts, may_count, runs_near}
+use Rattle.docker_laws.specs.NearDay.{near_starts, may_count, may_reach, runs_near}
 use Rattle.docker_model.specs.docker.Choice.{runs_within}
 use Rattle.docker_model.specs.records.Field.{as_new}
 use Rattle.cif_laws.proofs.records.Columns.{new_columns}
@@ -43,7 +43,7 @@ thin_left : (place : List ℕ) (day : ℕ) (act : Act) → left_by (thin_act pla
 thin_left place day delete = refl
 thin_left place day (put body) = by (may_count day (put_with body))
   where
-    by : (b : Bool) → left_by (cond b (put (body_for place body)) delete) ≡ cond b (Some (body_for place body)) None
+    by : (b : Bool) → left_by (cond b (put (body_for place day body)) delete) ≡ cond b (Some (body_for place day body)) None
     by true = refl
     by false = refl
 
@@ -386,22 +386,36 @@ thinning_more place day all kept (change ∷ more) is =
 module _ (place : List ℕ) (day : ℕ) (lines : List (List ℕ)) where
   -- if a schedule runs on no start day near the day, the thin form of its put is a deletion
   pub act_far : runs_near day (first_record lines) ≡ false → thin_act place day (put (schedule_body lines)) ≡ delete
-  act_far far = λ i. cond (far i) (put (schedule_body (lines_for place lines))) delete
+  act_far far = λ i. cond (far i) (put (schedule_body (lines_for place day lines))) delete
 
-  act_near : runs_near day (first_record lines) ≡ true → thin_act place day (put (schedule_body lines)) ≡ put (schedule_body (lines_for place lines))
-  act_near near = λ i. cond (near i) (put (schedule_body (lines_for place lines))) delete
+  act_near : runs_near day (first_record lines) ≡ true → thin_act place day (put (schedule_body lines)) ≡ put (schedule_body (lines_for place day lines))
+  act_near near = λ i. cond (near i) (put (schedule_body (lines_for place day lines))) delete
 
-  -- if a schedule runs on a start day near the day and calls at the place, the thin form of its put
-  -- is the same put
-  pub act_calls : runs_near day (first_record lines) ≡ true → calls_at place lines ≡ true
+  -- suppose that a schedule runs on a start day near the day and calls at the place. If an event of
+  -- it may be on the day, the thin form of its put is the same put
+  pub act_calls : runs_near day (first_record lines) ≡ true → calls_at place lines ≡ true → may_reach day lines ≡ true
       → thin_act place day (put (schedule_body lines)) ≡ put (schedule_body lines)
-  act_calls near calls = act_near near ∙ (λ i. put (schedule_body (cond (calls i) lines (thin_lines place (first_record lines)))))
+  act_calls near calls reaches =
+      act_near near ∙ (λ i. put (schedule_body (cond (calls i && may_reach day lines) lines (thin_lines place (first_record lines)))))
+      ∙ (λ i. put (schedule_body (cond (reaches i) lines (thin_lines place (first_record lines)))))
 
   -- if a schedule runs on a start day near the day but doesn't call at the place, the thin form of
   -- its put is a put of the thin records
   pub act_thin : runs_near day (first_record lines) ≡ true → calls_at place lines ≡ false
       → thin_act place day (put (schedule_body lines)) ≡ put (schedule_body (thin_lines place (first_record lines)))
-  act_thin near none = act_near near ∙ (λ i. put (schedule_body (cond (none i) lines (thin_lines place (first_record lines)))))
+  act_thin near none =
+      act_near near ∙ (λ i. put (schedule_body (cond (none i && may_reach day lines) lines (thin_lines place (first_record lines)))))
+
+  -- if a schedule runs on a start day near the day, but no event of it may be on the day, the thin
+  -- form of its put is a put of the thin records
+  pub act_other_day : runs_near day (first_record lines) ≡ true → may_reach day lines ≡ false
+      → thin_act place day (put (schedule_body lines)) ≡ put (schedule_body (thin_lines place (first_record lines)))
+  act_other_day near never = act_near near ∙ by (calls_at place lines)
+    where
+      by : (b : Bool) → put (schedule_body (cond (b && may_reach day lines) lines (thin_lines place (first_record lines))))
+          ≡ put (schedule_body (thin_lines place (first_record lines)))
+      by true = λ i. put (schedule_body (cond (never i) lines (thin_lines place (first_record lines))))
+      by false = refl
 
 -- whether a basic schedule runs on a start day near the day doesn't depend on its transaction
 pub near_of_new : (day : ℕ) (line : List ℕ) → runs_near day (as_new line) ≡ runs_near day line

@@ -1,75 +1,150 @@
 -- A table and its thinned table for a place and a day have the same docker for that place and that
 -- day.
-use Rattle.std.proofs.Common.{◌≡◌, ℕ, ◌+◌, ◌≤◌, List, subst, inl, inr, ◌⊎◌, refl, ap, sym, ◌∙◌, Bool, true, false, cond, Some, None, arith}
-use Rattle.std.specs.Prelude.{Option, ◌↔◌, option_and_then}
+use Rattle.std.proofs.Common.{◌≡◌, ℕ, zero, suc, ◌+◌, ◌-◌, ◌<◌, ◌≤◌, List, subst, inl, inr, ◌⊎◌, refl, ap, sym, ◌∙◌}
+use Rattle.std.proofs.Common.{Bool, true, false, cond, Some, None, arith}
+use Rattle.std.specs.Prelude.{Option, ◌↔◌, ◌&&◌, ◌||◌, nat_lt, IsTrue, option_and_then}
+use Rattle.std.proofs.lemmas.Bool.{lt-ltb}
 use Rattle.std.proofs.lemmas.Slice.Eq.{bytes_eq-Decides}
-use Rattle.docker_model.specs.records.Record.{columns, column}
+use Rattle.docker_model.specs.records.Record.{basic_schedule, HasKind, columns, column}
 use Rattle.docker_model.specs.file.Journey.{midnights, CallsAt, calls_at}
 use Rattle.docker_model.specs.file.File.{first_record}
 use Rattle.docker_model.specs.file.Change.{Key, tiploc_key, schedule_key, association_key, ScheduleKey}
 use Rattle.docker_model.specs.file.Change.{AssociationKey, Body, tiploc_body, schedule_body, association_body}
 use Rattle.docker_model.specs.state.Table.{Table}
 use Rattle.docker_model.specs.state.State.{HasGoodBodies, IsBodyOf}
-use Rattle.docker_model.specs.docker.Event.{Event, event_day}
+use Rattle.docker_model.specs.docker.Event.{Event, event_day, falls_to}
 use Rattle.docker_model.specs.docker.Choice.{schedule_runs, IsRunning, TrainRuns, Group, group_of, IsAssociated, IsChosenAssociation}
 use Rattle.docker_model.specs.docker.DockerLine.{DockerLine}
 use Rattle.docker_model.specs.docker.Association.{partner_start, IsIdentityOn, IsPartnerIdentity, IsAssociationLine}
 use Rattle.docker_model.specs.docker.DockerList.{IsEventLine, IsDockerList}
 use Rattle.docker_model.specs.docker.DockerText.{description_in, docker_text, IsDockerText}
-use Rattle.docker_laws.specs.NearDay.{runs_near, may_count}
-use Rattle.docker_laws.specs.StandIn.{IsStandIn, StandsFor}
+use Rattle.docker_laws.specs.NearDay.{runs_near, may_count, may_reach}
+use Rattle.docker_laws.specs.StandIn.{HasEventOn, IsStandIn, StandsFor}
 use Rattle.docker_laws.specs.Thinning.{thin_lines, lines_for, body_for, may_matter, thin_body, thinned}
 use Rattle.docker_model.specs.state.Op.{put_with}
-use Rattle.cif_laws.proofs.lists.BoolsAndOptions.{then_some, none_some}
+use Rattle.cif_laws.proofs.lists.BoolsAndOptions.{then_some, none_some, and_true}
 use Rattle.state_laws.proofs.indexes.CallsTest.{calls_test}
 use Rattle.docker_laws.proofs.dockers.Events.{event_calls}
 use Rattle.docker_laws.proofs.dockers.OneDockerLine.{first_event_is}
-use Rattle.docker_laws.proofs.dockers.FewMidnights.{HasFewMidnights, bodies_few}
+use Rattle.docker_laws.proofs.dockers.FewMidnights.{HasFewMidnights, bodies_few, falls_below}
+use Rattle.docker_laws.proofs.dockers.KeptSchedules.{first_kind}
 use Rattle.docker_laws.proofs.dockers.LapsedDocker.{text_with}
 use Rattle.docker_laws.proofs.dockers.NearDocker.{near_start, IsStartNear, runs_near_by, started, partner_near}
 use Rattle.docker_laws.specs.Excerpt.{IsExcerpt}
 use Rattle.docker_laws.proofs.dockers.ExcerptDocker.{excerpt_list_iff, excerpt_text_iff}
-use Rattle.docker_laws.proofs.dockers.ThinBody.{thin_elsewhere, needed_is_body}
+use Rattle.docker_laws.proofs.dockers.ExcerptState.{or_left, or_right}
+use Rattle.docker_laws.proofs.dockers.ThinBody.{thin_apart, needed_is_body}
 
 -- ---- which records may replace a schedule
+
+-- a start day from two days before the day to the day is near the day
+near_of : (day start : ℕ) → start ≤ day → day ≤ start + 2 → IsStartNear day start
+near_of day start low high = (omega arith, omega arith)
 
 -- if records may replace a schedule in the docker, the schedule may also replace these records
 turned : (place : List ℕ) (day : ℕ) (one other : List (List ℕ)) → IsStandIn place day one other → IsStandIn place day other one
 turned place day one other is = record {
   runs = λ start near. sym (is.runs start near);
   identity = sym is.identity;
-  calls = λ either. sym (is.calls (swap either));
+  calls = λ start low high runs either.
+      sym (is.calls start low high (is.runs start (near_start day start (near_of day start low high)) ∙ runs) (swap start either));
 }
   where
-    swap : CallsAt place other ⊎ CallsAt place one → CallsAt place one ⊎ CallsAt place other
-    swap (inl calls) = inr calls
-    swap (inr calls) = inl calls
+    swap : (start : ℕ) → HasEventOn place day start other ⊎ HasEventOn place day start one
+        → HasEventOn place day start one ⊎ HasEventOn place day start other
+    swap start (inl has) = inr has
+    swap start (inr has) = inl has
 
--- records with the same first record may replace a schedule, if neither these records nor the
--- records of the schedule call at the place
-pub stand_in_by_first : (place : List ℕ) (day : ℕ) (whole lines : List (List ℕ)) → first_record lines ≡ first_record whole → calls_at place whole ≡ false
+-- a schedule may replace itself
+pub own_stand_in : (place : List ℕ) (day : ℕ) (lines : List (List ℕ)) → IsStandIn place day lines lines
+own_stand_in place day lines = record { runs = λ start near. refl; identity = refl; calls = λ start low high runs either. refl }
+
+-- a train that doesn't call at the place has no event there
+no_event : (place : List ℕ) (day start : ℕ) (lines : List (List ℕ)) → calls_at place lines ≡ false → ¬ HasEventOn place day start lines
+no_event place day start lines never has =
+    let calls = (calls_test place lines).1 (event_calls lines has.event place has.among has.here) in
+    absurd (let bad : false ≡ true = sym never ∙ calls in cc)
+
+-- records with the same first record may replace a schedule, if the schedule has no event at the
+-- place on the day, and these records don't call at the place
+stand_in_without : (place : List ℕ) (day : ℕ) (whole lines : List (List ℕ)) → first_record lines ≡ first_record whole
+    → ((start : ℕ) → start ≤ day → day ≤ start + 2 → IsTrue (schedule_runs (first_record whole) start) → ¬ HasEventOn place day start whole)
     → calls_at place lines ≡ false → IsStandIn place day whole lines
-stand_in_by_first place day whole lines same none no_other = record {
+stand_in_without place day whole lines same none no_other = record {
   runs = λ start near. ap (λ (line : List ℕ). schedule_runs line start) (sym same);
   identity = ap (columns 33 36) (sym same);
   calls = by;
 }
   where
-    elsewhere : (others : List (List ℕ)) → calls_at place others ≡ false → ¬ CallsAt place others
-    elsewhere others never calls = absurd (let bad : false ≡ true = sym never ∙ (calls_test place others).1 calls in cc)
+    by : (start : ℕ) → start ≤ day → day ≤ start + 2 → IsTrue (schedule_runs (first_record whole) start)
+        → HasEventOn place day start whole ⊎ HasEventOn place day start lines → whole ≡ lines
+    by start low high runs (inl has) = absurd (none start low high runs has)
+    by start low high runs (inr has) = absurd (no_event place day start lines no_other has)
 
-    by : CallsAt place whole ⊎ CallsAt place lines → whole ≡ lines
-    by (inl calls) = absurd (elsewhere whole none calls)
-    by (inr calls) = absurd (elsewhere lines no_other calls)
+-- records with the same first record may replace a schedule, if neither these records nor the
+-- records of the schedule call at the place
+pub stand_in_by_first : (place : List ℕ) (day : ℕ) (whole lines : List (List ℕ)) → first_record lines ≡ first_record whole → calls_at place whole ≡ false
+    → calls_at place lines ≡ false → IsStandIn place day whole lines
+stand_in_by_first place day whole lines same none no_other =
+    stand_in_without place day whole lines same (λ start low high runs. no_event place day start whole none) no_other
 
--- the records of a schedule that the docker of the place needs (`lines_for`) may replace the
--- schedule
-pub needed_stand_in : (place : List ℕ) (day : ℕ) (lines : List (List ℕ)) → IsStandIn place day lines (lines_for place lines)
-needed_stand_in place day lines = by (calls_at place lines) refl
+-- ---- a schedule with an event on the day passes the test `may_reach`
+
+falls_positive : (lines : List (List ℕ)) (number : ℕ) → 0 < falls_to lines number → nat_lt 0 (midnights lines) ≡ true
+falls_positive lines number some = let low = falls_below lines number in lt-ltb 0 (midnights lines) (omega arith)
+
+-- if a schedule runs on a start day and has an event on the day, it passes the test `may_reach`.
+-- The start day is the day or one of the two days before it
+reaches : (day start : ℕ) (lines : List (List ℕ)) (number : ℕ) → start ≤ day → day ≤ start + 2 → IsTrue (schedule_runs (first_record lines) start)
+    → start + falls_to lines number ≡ day → may_reach day lines ≡ true
+reaches day start lines number low high runs today = by (day - start) refl
   where
-    by : (b : Bool) → calls_at place lines ≡ b → IsStandIn place day lines (cond b lines (thin_lines place (first_record lines)))
-    by true h = record { runs = λ start near. refl; identity = refl; calls = λ either. refl }
-    by false h = stand_in_by_first place day lines (thin_lines place (first_record lines)) refl h (thin_elsewhere place lines h)
+    basic : List ℕ
+    basic = first_record lines
+
+    runs_at : (back : ℕ) → start ≡ day - back → schedule_runs basic (day - back) ≡ true
+    runs_at back same = subst (λ (d : ℕ). schedule_runs basic d ≡ true) same runs
+
+    later : 0 < falls_to lines number → (schedule_runs basic (day - 1) || schedule_runs basic (day - 2)) ≡ true → may_reach day lines ≡ true
+    later some before =
+        or_right (schedule_runs basic day) (nat_lt 0 (midnights lines) && (schedule_runs basic (day - 1) || schedule_runs basic (day - 2)))
+        (and_true (nat_lt 0 (midnights lines)) (schedule_runs basic (day - 1) || schedule_runs basic (day - 2))
+        (falls_positive lines number some) before)
+
+    by : (back : ℕ) → day - start ≡ back → may_reach day lines ≡ true
+    by zero h =
+        or_left (schedule_runs basic day) (nat_lt 0 (midnights lines) && (schedule_runs basic (day - 1) || schedule_runs basic (day - 2)))
+        (subst (λ (d : ℕ). schedule_runs basic d ≡ true) (let same : start ≡ day = omega arith in same) runs)
+    by (suc zero) h =
+        later (omega arith) (or_left (schedule_runs basic (day - 1)) (schedule_runs basic (day - 2)) (runs_at 1 (omega arith)))
+    by (suc (suc zero)) h =
+        later (omega arith) (or_right (schedule_runs basic (day - 1)) (schedule_runs basic (day - 2)) (runs_at 2 (omega arith)))
+    by (suc (suc (suc n))) h = absurd (omega arith)
+
+-- records with the same first record may replace a schedule, if no event of the schedule may be on
+-- the day, and these records don't call at the place
+pub stand_in_other_day : (place : List ℕ) (day : ℕ) (whole lines : List (List ℕ)) → first_record lines ≡ first_record whole → may_reach day whole ≡ false
+    → calls_at place lines ≡ false → IsStandIn place day whole lines
+stand_in_other_day place day whole lines same never no_other =
+    stand_in_without place day whole lines same
+    (λ start low high runs has.
+    let bad = sym never ∙ reaches day start whole has.event.number low high runs has.today in
+    absurd (let worse : false ≡ true = bad in cc))
+    no_other
+
+-- the records of a schedule that the docker of the place and the day needs (`lines_for`) may
+-- replace the schedule
+pub needed_stand_in : (place : List ℕ) (day : ℕ) (lines : List (List ℕ)) → HasKind basic_schedule (first_record lines)
+    → IsStandIn place day lines (lines_for place day lines)
+needed_stand_in place day lines kind = by (calls_at place lines) (may_reach day lines) refl refl
+  where
+    by : (b c : Bool) → calls_at place lines ≡ b → may_reach day lines ≡ c
+        → IsStandIn place day lines (cond (b && c) lines (thin_lines place (first_record lines)))
+    by true true h g = own_stand_in place day lines
+    by true false h g =
+        stand_in_other_day place day lines (thin_lines place (first_record lines)) refl g (thin_apart place (first_record lines) kind)
+    by false c h g =
+        stand_in_by_first place day lines (thin_lines place (first_record lines)) refl h (thin_apart place (first_record lines) kind)
 
 -- ---- two tables have the same docker if each has all that the docker needs from the other table
 
@@ -102,13 +177,13 @@ module _ (one other : Table) (place : List ℕ) (day : ℕ) (forth : Covers one 
         found.2,
       )
 
-  -- if a train calls at the place and starts near the day, it runs according to the same records in
-  -- both tables
-  calling_over : (start : ℕ) → IsStartNear day start → (uid : List ℕ) (key : ScheduleKey) (lines : List (List ℕ)) → CallsAt place lines
-      → TrainRuns one uid start key lines → TrainRuns other uid start key lines
-  calling_over start near uid key lines calls is =
-      let found = train_over start near uid key lines is in
-      subst (TrainRuns other uid start key) (sym (found.2.calls (inl calls))) found.1
+  -- if a train has an event at the place on the day, it runs according to the same records in both
+  -- tables
+  calling_over : (start : ℕ) → (start ≤ day) × (day ≤ start + 2) → (uid : List ℕ) (key : ScheduleKey) (lines : List (List ℕ))
+      → HasEventOn place day start lines → TrainRuns one uid start key lines → TrainRuns other uid start key lines
+  calling_over start within uid key lines has is =
+      let found = train_over start (near_of day start within.0 within.1) uid key lines is in
+      subst (TrainRuns other uid start key) (sym (found.2.calls start within.0 within.1 is.chosen.running.runs_then (inl has))) found.1
 
   association_over : (group : Group) → group.location ≡ place → (start : ℕ) (key : AssociationKey) (line : List ℕ)
       → IsChosenAssociation one group start key line → IsChosenAssociation other group start key line
@@ -123,9 +198,6 @@ module _ (one other : Table) (place : List ℕ) (day : ℕ) (forth : Covers one 
       → TrainRuns one uid start key lines → event_day start lines event ≡ day → (start ≤ day) × (day ≤ start + 2)
   started_near start uid key lines event calls runs today = started day start lines event (forth.few key lines runs.chosen.running.is_live calls) today
 
-  near_of : (start : ℕ) → (start ≤ day) × (day ≤ start + 2) → IsStartNear day start
-  near_of start within = let low = within.0 in let high = within.1 in (omega arith, omega arith)
-
   event_line_over : (line : DockerLine) → IsEventLine one place day line → IsEventLine other place day line
   event_line_over line is =
       let calls = event_calls is.schedule is.event place is.among is.here in
@@ -134,7 +206,8 @@ module _ (one other : Table) (place : List ℕ) (day : ℕ) (forth : Covers one 
         start = is.start;
         key = is.key;
         schedule = is.schedule;
-        train_runs = calling_over is.start (near_of is.start within) is.key.uid is.key is.schedule calls is.train_runs;
+        train_runs = calling_over is.start within is.key.uid is.key is.schedule
+            (record { event = is.event; among = is.among; here = is.here; today = is.today }) is.train_runs;
         event = is.event;
         among = is.among;
         here = is.here;
@@ -177,8 +250,8 @@ module _ (one other : Table) (place : List ℕ) (day : ℕ) (forth : Covers one 
         date_indicator = is.date_indicator;
         base_key = is.base_key;
         base = is.base;
-        base_runs = calling_over one other place day forth back is.start (near_of one other place day forth back is.start within) is.key.base
-            is.base_key is.base calls is.base_runs;
+        base_runs = calling_over one other place day forth back is.start within is.key.base is.base_key is.base
+            (record { event = is.event; among = first.0; here = first.2 ∙ is.here; today = is.today }) is.base_runs;
         event = is.event;
         first_there = is.first_there;
         identity = is.identity;
@@ -267,29 +340,29 @@ module _ (place : List ℕ) (day : ℕ) (live : Table) where
   -- suppose that a schedule in the table runs on a start day near the day. Then the thinned table
   -- has, at the same key, the records of this schedule that the docker needs (`lines_for`)
   schedule_left : (key : ScheduleKey) (lines : List (List ℕ)) → live (schedule_key key) ≡ Some (schedule_body lines)
-      → runs_near day (first_record lines) ≡ true → thinned place day live (schedule_key key) ≡ Some (schedule_body (lines_for place lines))
+      → runs_near day (first_record lines) ≡ true → thinned place day live (schedule_key key) ≡ Some (schedule_body (lines_for place day lines))
   schedule_left key lines is_live runs =
-      ap (option_and_then (thin_body place day)) is_live ∙ (λ i. cond (runs i) (Some (schedule_body (lines_for place lines))) None)
+      ap (option_and_then (thin_body place day)) is_live ∙ (λ i. cond (runs i) (Some (schedule_body (lines_for place day lines))) None)
 
   -- for each schedule in the thinned table, the table has a schedule at the same key. The thinned
   -- table has the records of that schedule that the docker needs (`lines_for`)
   schedule_was : (key : ScheduleKey) (lines : List (List ℕ)) → thinned place day live (schedule_key key) ≡ Some (schedule_body lines)
-      → (whole : List (List ℕ)) × (live (schedule_key key) ≡ Some (schedule_body whole)) × (lines_for place whole ≡ lines)
+      → (whole : List (List ℕ)) × (live (schedule_key key) ≡ Some (schedule_body whole)) × (lines_for place day whole ≡ lines)
   schedule_was key lines is = by (then_some (thin_body place day) (live (schedule_key key)) (schedule_body lines) is)
     where
-      same : (whole : List (List ℕ)) (b : Bool) → cond b (Some (schedule_body (lines_for place whole))) None ≡ Some (schedule_body lines)
-          → lines_for place whole ≡ lines
+      same : (whole : List (List ℕ)) (b : Bool) → cond b (Some (schedule_body (lines_for place day whole))) None ≡ Some (schedule_body lines)
+          → lines_for place day whole ≡ lines
       same whole true h = cc
       same whole false h = none_some (schedule_body lines) h
 
       of_body : (body : Body) → live (schedule_key key) ≡ Some body → thin_body place day body ≡ Some (schedule_body lines)
-          → (whole : List (List ℕ)) × (live (schedule_key key) ≡ Some (schedule_body whole)) × (lines_for place whole ≡ lines)
+          → (whole : List (List ℕ)) × (live (schedule_key key) ≡ Some (schedule_body whole)) × (lines_for place day whole ≡ lines)
       of_body (schedule_body whole) there left = (whole, there, same whole (runs_near day (first_record whole)) left)
       of_body (tiploc_body bytes) there left = absurd (let bad : Some (tiploc_body bytes) ≡ Some (schedule_body lines) = left in cc)
       of_body (association_body line) there left = absurd (let bad : Some (association_body line) ≡ Some (schedule_body lines) = left in cc)
 
       by : (body : Body) × (live (schedule_key key) ≡ Some body) × (thin_body place day body ≡ Some (schedule_body lines))
-          → (whole : List (List ℕ)) × (live (schedule_key key) ≡ Some (schedule_body whole)) × (lines_for place whole ≡ lines)
+          → (whole : List (List ℕ)) × (live (schedule_key key) ≡ Some (schedule_body whole)) × (lines_for place day whole ≡ lines)
       by found = of_body found.0 found.1 found.2
 
   -- the thinned table may replace the table, if the bodies of the table are well formed
@@ -300,12 +373,17 @@ module _ (place : List ℕ) (day : ℕ) (live : Table) where
     associations = λ key at_place.
         here (association_key key) ((bytes_eq-Decides key.location place).1 at_place)
         (of_association key (live (association_key key)) (λ body there. good (association_key key) body there));
-    schedules = λ key whole is_live runs. (lines_for place whole, schedule_left key whole is_live runs, needed_stand_in place day whole);
+    schedules = λ key whole is_live runs.
+        (lines_for place day whole, schedule_left key whole is_live runs, needed_stand_in place day whole (basic_there key whole is_live));
     no_others = λ key lines left runs.
         let was = schedule_was key lines left in
-        (was.0, was.1, subst (IsStandIn place day was.0) was.2 (needed_stand_in place day was.0));
+        (was.0, was.1, subst (IsStandIn place day was.0) was.2 (needed_stand_in place day was.0 (basic_there key was.0 was.1)));
   }
     where
+      basic_there : (key : ScheduleKey) (whole : List (List ℕ)) → live (schedule_key key) ≡ Some (schedule_body whole)
+          → HasKind basic_schedule (first_record whole)
+      basic_there key whole there = first_kind key whole (good (schedule_key key) (schedule_body whole) there)
+
       here : (key : Key) → may_matter place key ≡ true → option_and_then (thin_body place day) (live key) ≡ live key → thinned place day live key ≡ live key
       here key matters same = (λ i. cond (matters i) (option_and_then (thin_body place day) (live key)) None) ∙ same
 
@@ -327,10 +405,10 @@ module _ (place : List ℕ) (day : ℕ) (live : Table) where
   pub thin_good : HasGoodBodies live → HasGoodBodies (thinned place day live)
   thin_good good key body left = by (may_matter place key) left
     where
-      of_body : (whole : Body) (b : Bool) → live key ≡ Some whole → cond b (Some (body_for place whole)) None ≡ Some body → IsBodyOf key body
+      of_body : (whole : Body) (b : Bool) → live key ≡ Some whole → cond b (Some (body_for place day whole)) None ≡ Some body → IsBodyOf key body
       of_body whole true there h =
-          let same : body_for place whole ≡ body = cc in
-          subst (IsBodyOf key) same (needed_is_body place key whole (good key whole there))
+          let same : body_for place day whole ≡ body = cc in
+          subst (IsBodyOf key) same (needed_is_body place day key whole (good key whole there))
       of_body whole false there h = none_some body h
 
       by : (b : Bool) → cond b (option_and_then (thin_body place day) (live key)) None ≡ Some body → IsBodyOf key body

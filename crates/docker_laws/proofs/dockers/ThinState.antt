@@ -107,8 +107,8 @@ thin_op : (place : List ℕ) (day : ℕ) (key : Key) (act : Act) → IsOpOf key 
 thin_op place day key delete good = tt
 thin_op place day key (put body) good = by (may_count day (put_with body))
   where
-    by : (b : Bool) → IsOpOf key (op_of (cond b (put (body_for place body)) delete))
-    by true = needed_is_body place key body good
+    by : (b : Bool) → IsOpOf key (op_of (cond b (put (body_for place day body)) delete))
+    by true = needed_is_body place day key body good
     by false = tt
 
 -- ---- the state made from the kept changes is valid

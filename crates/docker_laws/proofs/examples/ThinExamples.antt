@@ -39,22 +39,36 @@ use Rattle.docker_laws.proofs.examples.ExcerptExamples.{place, key_of, stops, st
 
 -- for a train that doesn't call at the place, only the basic schedule is kept, followed by a made-up
 -- origin and terminus
-night_elsewhere : lines_for (codes "EASTRIG") night_schedule
+night_elsewhere : lines_for (codes "EASTRIG") 23537 night_schedule
     ≡ bs (codes "N") (codes "C20001") (codes "240610") (codes "240610") (codes "1000000") (codes "2B20") (codes "P")
     ∷ lo (codes "NOWHERE") no_text (codes "0000") (codes "0000") no_text no_text
     ∷ lt (codes "NOWHERE") no_text (codes "0000") (codes "0000") no_text no_text ∷ []
 night_elsewhere = refl
 
 -- if the place is NOWHERE, the made-up origin and terminus are at ANOTHER
-night_from_nowhere : lines_for (codes "NOWHERE") night_schedule
+night_from_nowhere : lines_for (codes "NOWHERE") 23537 night_schedule
     ≡ bs (codes "N") (codes "C20001") (codes "240610") (codes "240610") (codes "1000000") (codes "2B20") (codes "P")
     ∷ lo (codes "ANOTHER") no_text (codes "0000") (codes "0000") no_text no_text
     ∷ lt (codes "ANOTHER") no_text (codes "0000") (codes "0000") no_text no_text ∷ []
 night_from_nowhere = refl
 
--- for a train that calls at the place, all records are kept
-night_here : lines_for place night_schedule ≡ night_schedule
+-- for a train that calls at the place, all records are kept, if it runs on the day
+night_here : lines_for place 23537 night_schedule ≡ night_schedule
+unfolding days_from_civil day_count days_of_years days_of_months
 night_here = refl
+
+-- all records are also kept if the train starts on the day before and passes midnight
+night_after : lines_for place 23538 night_schedule ≡ night_schedule
+unfolding days_from_civil day_count days_of_years days_of_months
+night_after = refl
+
+-- for a day on which the train can't have an event, only the basic schedule is kept
+night_before : lines_for place 23536 night_schedule
+    ≡ bs (codes "N") (codes "C20001") (codes "240610") (codes "240610") (codes "1000000") (codes "2B20") (codes "P")
+    ∷ lo (codes "NOWHERE") no_text (codes "0000") (codes "0000") no_text no_text
+    ∷ lt (codes "NOWHERE") no_text (codes "0000") (codes "0000") no_text no_text ∷ []
+unfolding days_from_civil day_count days_of_years days_of_months
+night_before = refl
 
 -- ---- a list of changes
 

@@ -81,8 +81,23 @@ fn all_lines_where_a_train_calls(rt: HostRuntime) {
 #[test]
 fn three_lines_elsewhere(rt: HostRuntime) {
     keeps(&rt, rt.alloc(), &DIVERTED, "ASHFELD", "2024-06-10", &[3, 3]);
-    keeps(&rt, rt.alloc(), &DIVERTED, "COLWELL", "2024-06-10", &[4, 3]);
-    keeps(&rt, rt.alloc(), &DIVERTED, "BRAYTON", "2024-06-10", &[3, 4]);
+    keeps(&rt, rt.alloc(), &DIVERTED, "COLWELL", "2024-06-11", &[4, 3]);
+    keeps(&rt, rt.alloc(), &DIVERTED, "BRAYTON", "2024-06-11", &[3, 4]);
+}
+
+#[test]
+fn three_lines_on_another_day(rt: HostRuntime) {
+    keeps(&rt, rt.alloc(), &DIVERTED, "COLWELL", "2024-06-10", &[]);
+    keeps(&rt, rt.alloc(), &DIVERTED, "BRAYTON", "2024-06-10", &[3, 3]);
+    keeps(&rt, rt.alloc(), &DIVERTED, "COLWELL", "2024-06-12", &[]);
+}
+
+#[test]
+fn a_night_train_on_the_days_after(rt: HostRuntime) {
+    keeps(&rt, rt.alloc(), &MIXED, "DUNMERE", "2024-06-09", &[]);
+    keeps(&rt, rt.alloc(), &MIXED, "DUNMERE", "2024-06-11", &[5]);
+    keeps(&rt, rt.alloc(), &MIXED, "DUNMERE", "2024-06-12", &[5]);
+    keeps(&rt, rt.alloc(), &MIXED, "DUNMERE", "2024-06-13", &[]);
 }
 
 #[test]

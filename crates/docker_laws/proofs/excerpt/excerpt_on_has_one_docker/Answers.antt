@@ -1,4 +1,4 @@
-use Rattle.docker_laws.proofs.dockers.NearState.{excerpt_on_valid, excerpt_on_list, excerpt_on_text}
+use Rattle.docker_laws.proofs.dockers.Shortened.{excerpt_on_valid, excerpt_on_list, excerpt_on_text}
 use Rattle.docker_laws.proofs.excerpt.excerpt_on_has_one_docker.Goals as goal
 
 pub returns-clause-valid : goal.returns-clause-valid

@@ -1,5 +1,5 @@
 use Rattle.std.proofs.Common.{refl}
-use Rattle.docker_laws.proofs.dockers.ThinChanges.{act_far, act_calls, act_thin, near_of_new}
+use Rattle.docker_laws.proofs.dockers.ThinChanges.{act_far, act_calls, act_thin, act_other_day, near_of_new}
 use Rattle.docker_laws.proofs.thinning.thin_act_by_case.Goals as goal
 
 pub returns-clause-deletes : goal.returns-clause-deletes
@@ -19,6 +19,9 @@ returns-clause-calls c = act_calls
 
 pub returns-clause-thin : goal.returns-clause-thin
 returns-clause-thin c = act_thin
+
+pub returns-clause-other_day : goal.returns-clause-other_day
+returns-clause-other_day c = act_other_day
 
 pub returns-clause-renewed : goal.returns-clause-renewed
 returns-clause-renewed c = near_of_new

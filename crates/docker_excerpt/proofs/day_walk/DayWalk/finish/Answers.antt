@@ -2,7 +2,7 @@ use Rattle.std.proofs.Common.{List, subst}
 use Rattle.std.proofs.lemmas.Result.{IfOk-weaker}
 use Rattle.docker_model.specs.file.Change.{Key}
 use Rattle.docker_model.specs.state.Op.{Entry}
-use Rattle.docker_laws.specs.NearDay.{near_state}
+use Rattle.docker_laws.specs.Thinning.{shortened}
 use Rattle.docker_excerpt.specs.ExcerptWalk.{HasWalked}
 use Rattle.docker_excerpt.proofs.day_walk.DayWalk.finish.Goals as goal
 
@@ -10,5 +10,5 @@ pub returns : goal.returns
 returns c =
     let it = c.args.self in
     IfOk-weaker c.finish.result _ _
-    (λ rows told state passed. told (near_state it.day state)
+    (λ rows told state passed. told (shortened it.walk.place it.day state)
     (subst (λ (near : List (Key × Entry)). HasWalked it.walk near) passed.near_is passed.walked)) c.finish.ensures

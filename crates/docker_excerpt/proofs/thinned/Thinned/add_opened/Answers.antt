@@ -1,5 +1,6 @@
 -- A schedule that is a deletion or doesn't run near the day is handled as a deletion. Of any other
--- schedule, all lines are kept if it calls at the place, and otherwise only the basic schedule.
+-- schedule, all lines are kept if it may have an event at the place on the day, and otherwise only
+-- the basic schedule.
 use Rattle.std.proofs.Common.{◌≡◌, refl, sym, ap, ◌∙◌, Bool, true, false}
 use Rattle.std.specs.Prelude.{◌||◌, not}
 use Rattle.cif_file.proofs.FrontLemmas.{on_ok_one}
@@ -20,14 +21,14 @@ returns-then-is_deletion-runs_near c =
 none : (deletion runs test : Bool) → test ≡ deletion → (test || not runs) ≡ false → (deletion ≡ false) × (runs ≡ true)
 none deletion runs test same fails = neither deletion runs (ap (λ t. t || not runs) (sym same) ∙ fails)
 
-pub returns-then-calls_at : goal.returns-then-calls_at
-returns-then-calls_at c =
+pub returns-then-may_call_on : goal.returns-then-may_call_on
+returns-then-may_call_on c =
     let stays = none c.args.opened.progress.deletion c.args.runs_near c.is_deletion.result c.is_deletion.ensures c.if-is_deletion-runs_near.false in
     on_ok_one c.keep.result c.keep.ensures
     (λ kept. λ place day lines renewed read whole near all has.
     kept place day (change_opened c.args.opened lines) refl
-    (opened_whole place day c.args.opened c.args.runs_near lines read whole near stays.0 stays.1 c.args.self.now has.place_is c.args.lines.now renewed
-    c.in_ok-body.body c.in_ok-body.ensures (sym c.calls_at.ensures ∙ c.if-calls_at.true)) all has)
+    (opened_whole place day c.args.opened c.args.runs_near lines read whole near stays.0 stays.1 c.args.self.now has.place_is has.day_is c.args.lines.now renewed
+    c.may_call_on.result c.may_call_on.ensures c.in_ok-body.body c.in_ok-body.ensures c.if-may_call_on.true) all has)
 
 pub returns : goal.returns
 returns c =
@@ -35,5 +36,6 @@ returns c =
     on_ok_one c.keep_elsewhere.result c.keep_elsewhere.ensures
     (λ kept. λ place day lines renewed read whole near all has.
     kept place day (change_opened c.args.opened lines) refl
-    (opened_elsewhere place day c.args.opened c.args.runs_near lines read whole near stays.0 stays.1 c.args.self.now has.place_is c.args.lines.now renewed
-    c.in-Some.basic.now (first_line c.args.lines.now c.in-Some.basic.now c.in-Some.ensures.value) (sym c.calls_at.ensures ∙ c.if-calls_at.false)) all has)
+    (opened_elsewhere place day c.args.opened c.args.runs_near lines read whole near stays.0 stays.1 c.args.self.now has.place_is has.day_is c.args.lines.now renewed
+    c.may_call_on.result c.may_call_on.ensures c.in-Some.basic.now (first_line c.args.lines.now c.in-Some.basic.now c.in-Some.ensures.value)
+    c.if-may_call_on.false) all has)
