@@ -7,8 +7,8 @@ use Rattle.docker_laws.specs.Thinning.{excerpt_entries}
 use Rattle.docker_excerpt.specs.declared.day_walk.DayWalk.{DayWalk}
 use Rattle.docker_excerpt.specs.ExcerptWalk.{HasWalked}
 
--- says that the walk has passed these entries: it has skipped the entries that can't count on its
--- day, has shortened the other entries, and has kept an excerpt of them
+-- says that the walk has passed these entries. It has skipped the entries that can't count on its
+-- day, has shortened the others, and has kept an excerpt of them
 pub record HasPassed (walk : DayWalk) (entries : List (Key × Entry)) : Type 0 where
   pub near_is : walk.near.entries ≡ excerpt_entries walk.walk.place walk.day entries
   pub walked : HasWalked walk.walk walk.near.entries

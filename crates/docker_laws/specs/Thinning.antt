@@ -35,8 +35,9 @@ ends_elsewhere place = if bytes_eq place (codes "NOWHERE") then ends_at (codes "
 abbrev pub thin_lines : List ℕ → List ℕ → List (List ℕ)
 thin_lines place basic = basic ∷ ends_elsewhere place
 
--- the records of a schedule that the docker of the place and the day needs: all records if the
--- schedule calls at the place and an event of it may be on the day, and otherwise the thin records
+-- the records of a schedule that the docker of the place and the day needs. If the schedule calls
+-- at the place, and an event of it may be on the day, these are all records. Otherwise they are the
+-- thin records
 abbrev pub lines_for : List ℕ → ℕ → List (List ℕ) → List (List ℕ)
 lines_for place day lines = if calls_at place lines && may_reach day lines then lines else thin_lines place (first_record lines)
 

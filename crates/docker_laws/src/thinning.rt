@@ -62,8 +62,8 @@ pub fn stand_in_has_one_docker()
         → HasGoodBodies live → StandsFor place day live (thinned place day live) }
 {}
 
-/// In a valid state, the schedules that call at a place may keep only the records that the docker of
-/// the place and a day needs, and those that run on no start day near the day may be left out. The
+/// Of a schedule that calls at a place, a valid state may keep only the records that the docker of
+/// the place and a day needs. A schedule that runs on no start day near the day may be left out. The
 /// state is still valid, and has the same docker for this place and day.
 pub fn shortened_state_has_one_docker()
     ensures valid { (place : List ℕ) (day : ℕ) (state : State)
@@ -77,9 +77,9 @@ pub fn shortened_state_has_one_docker()
 {}
 
 /// For the docker of a place and a day, the records of a schedule that `lines_for` keeps may
-/// replace the schedule. If the schedule doesn't call at the place, or no event of it may be on the
-/// day, it may be replaced by any records that have the same first record and don't call at the
-/// place. The first record, followed by any origin and any terminus with good fields, forms a
+/// replace the schedule. The schedule may be replaced by any records that have the same first record
+/// and don't call at the place, if it doesn't call there itself, or no event of it may be on the
+/// day. The first record, followed by any origin and any terminus with good fields, forms a
 /// schedule with the same key.
 pub fn stand_in_of_a_schedule()
     ensures needed { (place : List ℕ) (day : ℕ) (lines : List (List ℕ))

@@ -1,6 +1,6 @@
--- If the schedules of a valid state that call at a place keep only the records that the docker of the
--- place and a day needs, the state is still valid, and has the same docker for this place and day.
--- Its excerpt for the place is valid too, and has the same docker.
+-- Of a schedule that calls at a place, a valid state may keep only the records that the docker of the
+-- place and a day needs. Then the state is still valid, and has the same docker for this place and
+-- day. Its excerpt for the place is valid too, and has the same docker.
 use Rattle.std.proofs.Common.{◌≡◌, ℕ, ◌≤◌, List, [], ◌∷◌, ◌++◌, refl, ap, sym, ◌∙◌, subst, Bool, true, false, cond, Some, None, map}
 use Rattle.std.specs.Prelude.{Option, ◌↔◌, ◌&&◌, option_map, option_and_then, find}
 use Rattle.std.specs.Ordering.{is_eq, on}

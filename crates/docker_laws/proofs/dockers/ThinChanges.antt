@@ -406,8 +406,8 @@ module _ (place : List ℕ) (day : ℕ) (lines : List (List ℕ)) where
   act_thin near none =
       act_near near ∙ (λ i. put (schedule_body (cond (none i && may_reach day lines) lines (thin_lines place (first_record lines)))))
 
-  -- if a schedule runs on a start day near the day, but no event of it may be on the day, the thin
-  -- form of its put is a put of the thin records
+  -- suppose that a schedule runs on a start day near the day. If no event of it may be on the day,
+  -- the thin form of its put is a put of the thin records
   pub act_other_day : runs_near day (first_record lines) ≡ true → may_reach day lines ≡ false
       → thin_act place day (put (schedule_body lines)) ≡ put (schedule_body (thin_lines place (first_record lines)))
   act_other_day near never = act_near near ∙ by (calls_at place lines)
