@@ -28,7 +28,7 @@ use denote.Triple.Table.{entered}
 use denote.Triple.Walked.{says, stay_none_ref, Stays, walk_of, Walks, ends_at, walked, Goes-none_ref, walk_Meets}
 use Rattle.std.proofs.Common.{◌++◌}
 use Rattle.cif_file.specs.KeeperRead.{change_renewed}
-use Rattle.cif_file.specs.contracts.opened.Opened as opened
+use Rattle.cif_file.specs.contracts.keeper.opened.Opened as opened
 use Rattle.docker_excerpt.specs.contracts.changes_so_far.OpenLines as lines
 use Rattle.docker_excerpt.specs.contracts.changes_so_far.ChangesSoFar as so_far
 use Rattle.docker_excerpt.specs.contracts.changes_so_far.ChangesSoFar.with_opened as f

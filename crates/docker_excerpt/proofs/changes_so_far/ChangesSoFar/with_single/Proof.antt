@@ -28,7 +28,7 @@ use denote.Triple.Table.{entered}
 use denote.Triple.Walked.{says, stay_none_ref, Stays, walk_of, Walks, ends_at, walked, Goes-none_ref, walk_Meets}
 use Rattle.std.proofs.Common.{◌++◌}
 use Rattle.cif_file.specs.SingleChanges.{listed}
-use Rattle.cif_file.specs.contracts.single.SingleChanges as single
+use Rattle.cif_file.specs.contracts.keeper.single.SingleChanges as single
 use Rattle.docker_excerpt.specs.contracts.changes_so_far.ChangesSoFar as so_far
 use Rattle.docker_excerpt.specs.contracts.changes_so_far.ChangesSoFar.with_single as f
 use Rattle.docker_excerpt.specs.contracts.changes_so_far.ChangesSoFar.with_single.Key.{name as #self}
