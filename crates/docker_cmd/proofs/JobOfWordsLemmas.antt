@@ -5,11 +5,12 @@ use Rattle.std.specs.Borrow.{Bor}
 use Rattle.std.proofs.lemmas.List.{length-map, take_all}
 use Rattle.std.specs.List.{list_all}
 use Rattle.docker_cmd.specs.declared.tasks.Subcommand.{Subcommand}
-use Rattle.docker_cmd.specs.Tasks.{AreWordsOf, ids_of, name_of, subcommand_named, subcommand_of}
+use Rattle.docker_cmd.specs.Tasks.{AreWordsOf, ids_of, name_of, subcommand_named, subcommand_of, subcommands}
 use Rattle.docker_cmd.specs.Words.{Text, is_plain_word, texts}
 use Rattle.docker_cmd.specs.Job.{AskNothing, IsJobOf, IsTaskOf, JobView, NameNoJob, NameNoSubcommand, NamesSubcommand}
 use Rattle.docker_cmd.proofs.Rows.{named_back, words_counted}
-use Rattle.docker_cmd.proofs.TaskWords.{first_word, name_back, other_words, same_subcommand}
+use Rattle.docker_cmd.proofs.TableWords.{name_back}
+use Rattle.docker_cmd.proofs.TaskWords.{first_word, other_words, same_subcommand}
 
 -- if words name a job, they name the job's subcommand
 pub job_subcommand : (words : List Text) (job : JobView) → IsJobOf words job → NamesSubcommand words (subcommand_of job.task) job.words
@@ -58,7 +59,7 @@ behind_asks (word ∷ words) d s test some named plain asks = ((λ never. no_job
     behind = ap texts (take_all (length (word ∷ words) - 1) words (omega arith))
 
     name : word.now ≡ name_of s
-    name = name_back word.now s (sym named)
+    name = name_back name_of subcommands word.now s (sym named)
 
     no_job : AskNothing s (texts (take (length (word ∷ words) - 1) (drop 1 (word ∷ words)))) → NameNoJob (texts (word ∷ words))
     no_job nothing job is =

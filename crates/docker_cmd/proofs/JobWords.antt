@@ -12,7 +12,7 @@ use Rattle.clap.specs.Faults.{fault_of}
 use Rattle.clap.proofs.WalkLemmas.{both}
 use Rattle.docker_cmd.specs.declared.tasks.Subcommand.{Subcommand}
 use Rattle.docker_cmd.specs.Tasks.{ids_of, name_of, subcommand_named, subcommands}
-use Rattle.docker_cmd.specs.Words.{is_plain_word}
+use Rattle.docker_cmd.specs.Words.{is_plain_word, word_named}
 use Rattle.docker_cmd.specs.Grammar.{docker_app, found_at, found_in, found_words, pair_of}
 use Rattle.docker_cmd.proofs.FirstWord.{named_fault, named_rows, no_word, unnamed_fault}
 use Rattle.docker_cmd.proofs.RequiredWords.{count_fault, leaf_fault, paired, rows_found}
@@ -123,7 +123,7 @@ none_found word (s ∷ ss) none = ap (λ b. cond b (Some s) (find (λ t. bytes_e
 -- the table has every subcommand: a word that isn't the name of any subcommand in the table isn't
 -- the name of `s`
 no_name : (word : Text) (s : Subcommand) → IsNoneOf word subcommands → word ≡ name_of s → ⊥
-unfolding subcommand_named
+unfolding word_named
 no_name word s none is =
     let never : None ≡ Some s = sym (none_found word subcommands none) ∙ ap subcommand_named is ∙ named_back s in
     cc

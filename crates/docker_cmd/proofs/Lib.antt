@@ -4,6 +4,7 @@ pub mod LineWords
 pub mod PlainWords
 pub mod RequiredWords
 pub mod Rows
+pub mod TableWords
 pub mod TaskWords
 pub mod FoundWords
 pub mod GrammarLemmas

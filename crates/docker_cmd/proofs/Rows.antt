@@ -8,14 +8,14 @@ use Rattle.docker_cmd.specs.declared.tasks.Subcommand.{Subcommand}
 use Rattle.docker_cmd.specs.declared.tasks.Subcommand.TheVariants.{New, Check, Day, Take, Merge, Print, Files, Horizon, Migrate}
 use Rattle.docker_cmd.specs.Tasks.{AreWordsOf, TaskView, ids_of, name_of, subcommand_named, subcommands, subcommand_of, new_task}
 use Rattle.docker_cmd.specs.Tasks.{check_task, day_task, take_task, merge_task, print_task, files_task, horizon_task, migrate_task}
-use Rattle.docker_cmd.specs.Words.{NamesDay, NamesPlace, NamesStored, OfOne, OfThree, OfTwo}
+use Rattle.docker_cmd.specs.Words.{NamesDay, NamesPlace, NamesStored, OfOne, OfThree, OfTwo, word_named}
 use Rattle.docker_cmd.specs.Grammar.{found_words}
 use Rattle.docker_cmd.proofs.FirstWord.{built_with}
 use Rattle.docker_cmd.proofs.RequiredWords.{Fits, Fresh, leaf, paired}
 
 -- a search for a subcommand's name finds this subcommand
 pub named_back : (s : Subcommand) → subcommand_named (name_of s) ≡ Some s
-unfolding subcommand_named
+unfolding word_named
 named_back New = refl
 named_back Check = refl
 named_back Day = refl

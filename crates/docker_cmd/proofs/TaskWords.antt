@@ -2,13 +2,12 @@
 use Rattle.std.proofs.Common.{◌≡◌, ◌∙◌, ℕ, List, [], ◌∷◌, length, Bool, true, false, cond, Some, None}
 use Rattle.std.proofs.Common.{refl, sym, ap, subst, codes, arith, slice_index_or, true≢false}
 use Rattle.std.specs.Prelude.{Option, option_map}
-use Rattle.std.specs.List.{find}
 use Rattle.std.specs.Str.{bytes_eq}
 use Rattle.std.specs.Borrow.{Bor}
 use Rattle.std.proofs.lemmas.Slice.Eq.{bytes_eq-Decides}
 use Rattle.docker_cmd.specs.declared.tasks.Subcommand.{Subcommand}
 use Rattle.docker_cmd.specs.declared.tasks.Task.{Task}
-use Rattle.docker_cmd.specs.Tasks.{AreWordsOf, TaskView, name_of, subcommand_named, subcommands, subcommand_of, task_meant}
+use Rattle.docker_cmd.specs.Tasks.{AreWordsOf, TaskView, name_of, subcommand_named, subcommand_of, task_meant}
 use Rattle.docker_cmd.specs.Words.{NamesDay, NamesPlace, NamesStored, Text, texts}
 use Rattle.docker_cmd.specs.Job.{IsTaskOf}
 use Rattle.docker_cmd.proofs.Rows.{NameBoth, Suit, named_back, suit}
@@ -30,24 +29,6 @@ pub same_subcommand : (s t : Subcommand) → name_of s ≡ name_of t → s ≡ t
 same_subcommand s t same =
     let found : Some s ≡ Some t = sym (named_back s) ∙ ap subcommand_named same ∙ named_back t in
     cc
-
--- if a search by name returns a subcommand, the subcommand has that name
-found_name : (word : Text) (s : Subcommand) (ss : List Subcommand) → find (λ t. bytes_eq (name_of t) word) ss ≡ Some s → word ≡ name_of s
-found_name word s [] found = absurd (cc)
-found_name word s (t ∷ ss) found = by (bytes_eq (name_of t) word) refl found (found_name word s ss)
-  where
-    by : (test : Bool) → bytes_eq (name_of t) word ≡ test → cond test (Some t) (find (λ u. bytes_eq (name_of u) word) ss) ≡ Some s
-        → (find (λ u. bytes_eq (name_of u) word) ss ≡ Some s → word ≡ name_of s) → word ≡ name_of s
-    by true same one rest =
-        let this : t ≡ s = cc in
-        sym ((bytes_eq-Decides (name_of t) word).0 same) ∙ ap name_of this
-    by false differ found rest = rest found
-
--- if a word is looked up in the table of subcommands and a subcommand is found, the word is that
--- subcommand's name
-pub name_back : (word : Text) (s : Subcommand) → subcommand_named word ≡ Some s → word ≡ name_of s
-unfolding subcommand_named
-name_back word s found = found_name word s subcommands found
 
 -- ---- the words name a task
 

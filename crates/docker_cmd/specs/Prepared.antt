@@ -16,7 +16,7 @@ use Rattle.docker_model.specs.docker.DockerText.{IsDockerText, files_text}
 use Rattle.docker_bytes.specs.SourceRead.{ReadsState, JoinsState, RaisesState, RefusesState, ReadsOnePieceMore, WantsMemory}
 use Rattle.docker_bytes.specs.declared.fault.StateFault.{StateFault}
 use Rattle.docker_office.specs.declared.fault.OfficeFault.{OfficeFault}
-use Rattle.docker_office.specs.declared.fault.OfficeFault.TheVariants as office
+use Rattle.docker_office.specs.Faults.{IsReason, no_fault}
 use Rattle.docker_office.specs.Office.{no_state, TakesFile, WantsForFile}
 use Rattle.docker_cmd.specs.Job.{JobView}
 use Rattle.docker_cmd.specs.Tasks.{TaskView, check_task, horizon_task}
@@ -107,23 +107,19 @@ pub record IsOfOneFile (left : DeviceBytes) (read : ReadView) : Type 0 where
 -- a source should have held a file, but its text has this fault. A second source is read only if
 -- the first source held a state
 abbrev pub RefusesFileOf : Sources → DeviceBytes → DeviceBytes → FileFault → Type 0
-RefusesFileOf no_source first second fault = ⊥
 RefusesFileOf checked_file first second fault = RefusesText most_records first fault
 RefusesFileOf taken_file first second fault = RefusesText most_records first fault
-RefusesFileOf (one_state format) first second fault = ⊥
 RefusesFileOf state_and_file first second fault = HoldsSomeState first × RefusesText most_records second fault
-RefusesFileOf two_states first second fault = ⊥
+RefusesFileOf _ first second fault = ⊥
 
 -- a source should have held a state, but its text has this fault. A second source is read only if
 -- the first source held a state
 abbrev pub RefusesStateOf : Sources → DeviceBytes → DeviceBytes → StateFault → Type 0
-RefusesStateOf no_source first second fault = ⊥
-RefusesStateOf checked_file first second fault = ⊥
-RefusesStateOf taken_file first second fault = ⊥
 RefusesStateOf (one_state format) first second fault = RefusesState format most_bytes first fault
 RefusesStateOf state_and_file first second fault = RefusesState dks_2 most_bytes first fault
 RefusesStateOf two_states first second fault =
     RefusesState dks_2 most_bytes first fault ⊎ (HoldsSomeState first × RefusesState dks_2 most_bytes second fault)
+RefusesStateOf _ first second fault = ⊥
 
 -- memory ran out while a state in this format was read
 abbrev pub WantsForState : Format → DeviceBytes → DeviceBytes → Type 0
@@ -180,14 +176,14 @@ HasReadToEnd state_and_file first second = IsEnd second
 HasReadToEnd two_states first second = ⊤
 
 -- this is a fault for which these sources may be refused, given the bytes that the sources held and
--- the bytes that are left. `Sink` and `Lapsed` can't occur
+-- the bytes that are left
 abbrev pub IsWhyRefused : Sources → DeviceBytes → DeviceBytes → DeviceBytes → DeviceBytes → OfficeFault → Type 0
-IsWhyRefused sources first left second second_left (office.File fault) = RefusesFileOf sources first second fault
-IsWhyRefused sources first left second second_left (office.State fault) = RefusesStateOf sources first second fault
-IsWhyRefused sources first left second second_left office.Source = ⊤
-IsWhyRefused sources first left second second_left office.Memory = WantsFor sources first left second second_left
-IsWhyRefused sources first left second second_left office.Lapsed = ⊥
-IsWhyRefused sources first left second second_left office.Sink = ⊥
+IsWhyRefused sources first left second second_left = IsReason (record no_fault {
+  file = RefusesFileOf sources first second;
+  state = RefusesStateOf sources first second;
+  source = ⊤;
+  memory = WantsFor sources first left second second_left;
+})
 
 -- reading the sources ended with this result. If the result is a value, it has the property
 -- `IsMade`, and each file was read to its end. If the result is a fault, the sources may be refused
@@ -224,12 +220,12 @@ HaveNotFailed first first_now second second_now = (first_now ≡ first) × (seco
 
 -- if the fault is `Source`, one of the two sources has failed once; otherwise neither has failed
 abbrev pub FailsBy : ℕ → ℕ → ℕ → ℕ → OfficeFault → Type 0
-FailsBy first first_now second second_now (office.File fault) = HaveNotFailed first first_now second second_now
-FailsBy first first_now second second_now (office.State fault) = HaveNotFailed first first_now second second_now
-FailsBy first first_now second second_now office.Source = first_now + second_now ≡ first + second + 1
-FailsBy first first_now second second_now office.Memory = HaveNotFailed first first_now second second_now
-FailsBy first first_now second second_now office.Lapsed = ⊥
-FailsBy first first_now second second_now office.Sink = ⊥
+FailsBy first first_now second second_now = IsReason (record no_fault {
+  file = λ fault. HaveNotFailed first first_now second second_now;
+  state = λ fault. HaveNotFailed first first_now second second_now;
+  source = first_now + second_now ≡ first + second + 1;
+  memory = HaveNotFailed first first_now second second_now;
+})
 
 -- reading two sources ended with this result. If the result is the fault `Source`, the sum of their
 -- failure counts grew by one; otherwise both counts are unchanged
@@ -294,10 +290,8 @@ GainsPart prepared old new = GainsTextPart (output_of prepared.job.task) prepare
 -- day after the horizon
 abbrev pub IsRefusedDocker : Output → ReadView → Type 0
 IsRefusedDocker output (file_read file) = ⊥
-IsRefusedDocker counts_written (office_read state) = ⊥
 IsRefusedDocker (docker_written place day) (office_read state) = IsDayRefused state.horizon day
-IsRefusedDocker files_written (office_read state) = ⊥
-IsRefusedDocker state_written (office_read state) = ⊥
+IsRefusedDocker _ (office_read state) = ⊥
 
 -- the job would print a docker of a refused day
 abbrev pub IsRefused : PreparedView → Type 0
@@ -305,10 +299,8 @@ IsRefused prepared = IsRefusedDocker (output_of prepared.job.task) prepared.read
 
 -- the output is a docker
 abbrev pub IsDocker : Output → Type 0
-IsDocker counts_written = ⊥
 IsDocker (docker_written place day) = ⊤
-IsDocker files_written = ⊥
-IsDocker state_written = ⊥
+IsDocker _ = ⊥
 
 -- the job prints a docker
 abbrev pub PrintsDocker : PreparedView → Type 0
@@ -320,10 +312,8 @@ PrintsDocker prepared = IsDocker (output_of prepared.job.task)
 abbrev pub EndsEmitting : {K : Type 0} → (K → DeviceBytes) → (K → ℕ) → Output → ReadView → K → K → Result ⊤ OfficeFault → Type 0
 EndsEmitting taken failures output read old new (Ok done) =
     GainsText output read (taken old) (taken new) × (¬ IsRefusedDocker output read) × (failures new ≡ failures old)
-EndsEmitting taken failures output read old new (Err office.Sink) =
-    GainsTextPart output read (taken old) (taken new) × (¬ IsRefusedDocker output read) × (failures new ≡ failures old + 1)
-EndsEmitting taken failures output read old new (Err office.Lapsed) = IsRefusedDocker output read × (new ≡ old)
-EndsEmitting taken failures output read old new (Err office.Memory) = IsDocker output × (¬ IsRefusedDocker output read) × (new ≡ old)
-EndsEmitting taken failures output read old new (Err (office.File fault)) = ⊥
-EndsEmitting taken failures output read old new (Err (office.State fault)) = ⊥
-EndsEmitting taken failures output read old new (Err office.Source) = ⊥
+EndsEmitting taken failures output read old new (Err fault) = IsReason (record no_fault {
+  lapsed = IsRefusedDocker output read × (new ≡ old);
+  sink = GainsTextPart output read (taken old) (taken new) × (¬ IsRefusedDocker output read) × (failures new ≡ failures old + 1);
+  memory = IsDocker output × (¬ IsRefusedDocker output read) × (new ≡ old);
+}) fault

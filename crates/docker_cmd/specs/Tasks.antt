@@ -1,10 +1,8 @@
 -- The table of subcommands, and the tasks of a job.
 use Rattle.std.specs.Prelude.{ℕ, List, [], ◌∷◌, ◌++◌, Option, Some, None, codes, map, ⊤}
-use Rattle.std.specs.List.{find}
-use Rattle.std.specs.Str.{bytes_eq}
 use Rattle.docker_model.specs.state.StateText.{dks_1, dks_2}
 use Rattle.docker_cmd.specs.Reads.{Sources, no_source, checked_file, taken_file, one_state, state_and_file, two_states, sources_meant}
-use Rattle.docker_cmd.specs.Words.{NamesDay, NamesPlace, NamesStored, OfOne, OfThree, OfTwo, Text, usage_with, with_bars}
+use Rattle.docker_cmd.specs.Words.{NamesDay, NamesPlace, NamesStored, OfOne, OfThree, OfTwo, Text, usages, word_named}
 use Rattle.docker_cmd.specs.Writes.{Output, output_of_kind}
 use Rattle.docker_cmd.specs.declared.tasks.Row as code
 use Rattle.docker_cmd.specs.declared.tasks.Subcommand.{Subcommand}
@@ -55,12 +53,12 @@ abbrev pub ids_of : Subcommand → List Text
 ids_of subcommand = (row_of subcommand).ids
 
 -- the subcommand with this name, if there is one
-unfoldable pub subcommand_named : Text → Option Subcommand
-subcommand_named name = find (λ subcommand. bytes_eq (name_of subcommand) name) subcommands
+abbrev pub subcommand_named : Text → Option Subcommand
+subcommand_named = word_named name_of subcommands
 
 -- the usage line: each subcommand's name and the words that it requires
 abbrev pub usage_line : Text
-usage_line = codes "docker: usage: " ++ with_bars (map (λ subcommand. usage_with (name_of subcommand) (ids_of subcommand)) subcommands) ++ codes "\n"
+usage_line = codes "docker: usage: " ++ usages name_of ids_of subcommands ++ codes "\n"
 
 -- a task: what a job does, with the timing point and the day number that its words name
 pub data TaskView : Type 0 where

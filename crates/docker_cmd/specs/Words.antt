@@ -1,7 +1,8 @@
 -- The words of a command, and what they can name. A word is a list of bytes.
-use Rattle.std.specs.Prelude.{◌≡◌, ◌≢◌, ℕ, ◌==◌, ◌≤◌, ◌-◌, ◌++◌, Bool, false, not, List, [], ◌∷◌, length, codes, map}
+use Rattle.std.specs.Prelude.{◌≡◌, ◌≢◌, ℕ, ◌==◌, ◌≤◌, ◌-◌, ◌++◌, Bool, false, not, List, [], ◌∷◌, Option, find, length, codes, map}
 use Rattle.std.specs.Borrow.{Bor}
 use Rattle.std.specs.List.{flat_map}
+use Rattle.std.specs.Str.{bytes_eq}
 use Rattle.docker_model.specs.records.Date.{last_day}
 use Rattle.docker_model.specs.records.PrintedTime.{spaces, day_text}
 use Rattle.cif_line.specs.Tiploc.{IsTiplocText}
@@ -49,7 +50,11 @@ abbrev pub OfThree : (Text → Text → Text → Type 0) → List Text → Type 
 OfThree Holds (first ∷ second ∷ third ∷ []) = Holds first second third
 OfThree Holds _ = ⊥
 
--- a subcommand's part of the usage line: its name, and the names of its words
+-- the first of these words of a table that has this name, if there is one
+unfoldable pub word_named : {W : Type 0} → (W → Text) → List W → Text → Option W
+word_named name_of words name = find (λ word. bytes_eq (name_of word) name) words
+
+-- a row's part of the usage line: its name, and the names of its words
 abbrev pub usage_with : Text → List Text → Text
 usage_with name ids = name ++ flat_map (λ id. 32 ∷ id) ids
 
@@ -58,3 +63,8 @@ abbrev pub with_bars : List Text → Text
 with_bars [] = []
 with_bars (last ∷ []) = last
 with_bars (first ∷ second ∷ others) = first ++ codes " | " ++ with_bars (second ∷ others)
+
+-- the part of the usage line that shows these words of a table: the name of each, and the names of
+-- the words after it
+abbrev pub usages : {W : Type 0} → (W → Text) → (W → List Text) → List W → Text
+usages name_of ids_of words = with_bars (map (λ word. usage_with (name_of word) (ids_of word)) words)

@@ -4,6 +4,7 @@ ghost use Rattle.clap.specs.Words.{FailsBy, app_of, fault_of, rule_of, subcomman
 ghost use Rattle.clap.specs.declared.builder.Command.TheViews.{out-Command as fields_of};
 ghost use Rattle.docker_cmd.specs.Grammar.{docker_app, docker_shape, required_rule, shape_of};
 
+use crate::named::TableWord;
 use crate::tasks::Subcommand;
 use clap::{Arg, ArgMatches, Command, Error};
 use std::alloc::{AllocError, Global};

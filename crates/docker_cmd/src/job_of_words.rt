@@ -5,6 +5,7 @@ ghost use Rattle.docker_cmd.specs.Words.{texts};
 
 use crate::job_fault::JobFault;
 use crate::jobs::Job;
+use crate::named::word_named;
 use crate::tasks::Subcommand;
 use crate::words::{are_plain, read_words};
 use std::alloc::{AllocError, Global};
@@ -44,7 +45,7 @@ fn names_job(words: &[&str]) -> bool
     let [name, behind @ ..] = words else {
         return false;
     };
-    match Subcommand::of_name(name) {
+    match word_named(name) {
         Some(subcommand) => are_plain(words) && asks(subcommand, behind),
         None => false,
     }

@@ -1,12 +1,12 @@
 //! The table of subcommands, and the tasks of jobs.
-ghost use Rattle.std.specs.Prelude.{◌≡◌, IfSome, IsNone, None, Some, codes, find, if◌then◌else◌, length, map, option_map};
-ghost use Rattle.std.specs.Option.{option_copied};
+ghost use Rattle.std.specs.Prelude.{◌≡◌, None, Some, codes, if◌then◌else◌, length, map, option_map};
 ghost use Rattle.std.specs.Str.{bytes_eq};
 ghost use Rattle.docker_cmd.specs.Job.{IsTaskOf};
 ghost use Rattle.docker_cmd.specs.Reads.{sources_meant};
-ghost use Rattle.docker_cmd.specs.Tasks.{day_of, ids_of, name_of, row_meant, row_of, sources_of, subcommand_named, subcommand_of, subcommands, task_meant, tiploc_of, usage_line, writes_of};
-ghost use Rattle.docker_cmd.specs.Words.{NamesDay, NamesPlace, texts};
+ghost use Rattle.docker_cmd.specs.Tasks.{day_of, ids_of, row_meant, row_of, sources_of, subcommand_of, task_meant, tiploc_of, usage_line, writes_of};
+ghost use Rattle.docker_cmd.specs.Words.{texts};
 
+use crate::named::{TableWord, place_and_day};
 use crate::reads::Sources;
 use crate::reads::Sources::{
     CheckedFile, NoSource, OlderState, OneState, StateAndFile, TakenFile, TwoStates,
@@ -69,11 +69,14 @@ impl<'a> Row<'a> {
     }
 }
 
-impl Subcommand {
-    /// Returns all subcommands, in the order of the usage line.
-    pub(crate) fn all<'a>() -> &'a [Subcommand]
-        ensures { result.now ≡ subcommands }
-    {
+impl TableWord for Subcommand {
+    ghost use Rattle.docker_cmd.specs.Tasks as tasks;
+
+    ghost words = { tasks.subcommands };
+
+    ghost name_of = { tasks.name_of };
+
+    fn all<'a>() -> &'a [Subcommand] {
         &[
             Subcommand::New,
             Subcommand::Check,
@@ -87,6 +90,12 @@ impl Subcommand {
         ]
     }
 
+    fn name<'a>(self) -> &'a str {
+        self.row().name
+    }
+}
+
+impl Subcommand {
     /// Returns the subcommand's row in the table.
     pub(crate) fn row<'a>(self) -> Row<'a>
         ensures { row_meant result ≡ row_of self }
@@ -104,33 +113,11 @@ impl Subcommand {
         }
     }
 
-    /// Returns the subcommand's name, which is the first word of a command.
-    pub fn name<'a>(self) -> &'a str
-        ensures { result.now ≡ name_of self }
-    {
-        self.row().name
-    }
-
     /// Returns the names of the words after the subcommand, as the usage line shows them.
     pub(crate) fn ids<'a>(self) -> &'a [&'a str]
         ensures { map (λ id. id.now) result.now ≡ ids_of self }
     {
         self.row().ids
-    }
-
-    /// Whether the subcommand has this name.
-    fn is_named(self, name: &str) -> bool
-        ensures { result ≡ bytes_eq (name_of self) name.now }
-    {
-        self.name() == name
-    }
-
-    /// Returns the subcommand with this name, if there is one.
-    #[tactic(auto, unfolding(crate::specs::Tasks::subcommand_named))]
-    pub(crate) fn of_name(name: &str) -> Option<Subcommand>
-        ensures { result ≡ subcommand_named name.now }
-    {
-        first_named(Subcommand::all(), name).copied()
     }
 
     /// Returns the task that these words name for this subcommand. There must be as many words as
@@ -172,34 +159,12 @@ pub(crate) fn usage<'a>() -> &'a [u8]
     b"docker: usage: new STATE | check FILE | day FILE TIPLOC DATE | take STATE FILE | merge STATE OTHER | print STATE TIPLOC DATE | files STATE | horizon STATE DATE | migrate STATE\n"
 }
 
-/// Returns the first of these subcommands that has this name.
-fn first_named<'a>(subcommands: &'a [Subcommand], name: &str) -> Option<&'a Subcommand>
-    ensures { option_copied result
-        ≡ find (λ subcommand. bytes_eq (name_of subcommand) name.now) subcommands.now }
-{
-    subcommands
-        .iter()
-        .find(|subcommand| subcommand.is_named(name))
-}
-
 /// Returns the task, or `None` if STATE is named `stdin`. A state on standard input can't be
 /// replaced.
 fn unless_stdin(state: &str, task: Task) -> Option<Task>
     ensures { result ≡ if bytes_eq state.now (codes "stdin") then None else Some task }
 {
     if state == "stdin" { None } else { Some(task) }
-}
-
-/// Returns the timing point and the day that these words name, or `None` if the first word isn't a
-/// timing point or the second word isn't a day.
-fn place_and_day(tiploc: &str, date: &str) -> Option<(Tiploc, Day)>
-    ensures pair { IfSome result (λ pair. NamesPlace tiploc.now pair.0 × NamesDay date.now pair.1) }
-    ensures none { IsNone result → (place : _) (day : _) → NamesPlace tiploc.now place
-        → ¬ NamesDay date.now day }
-{
-    let place = Tiploc::from_text(tiploc)?;
-    let day = Day::from_iso(date)?;
-    Some((place, day))
 }
 
 /// A task: what a job does, with the timing point and the day that its words name.

@@ -8,6 +8,7 @@ ghost use Rattle.docker_cmd.specs.Words.{is_plain_word, texts};
 
 use crate::grammar::matches;
 use crate::job_fault::JobFault;
+use crate::named::{is_plain, word_named};
 use crate::tasks::Subcommand;
 use arrayvec::ArrayVec;
 use clap::ArgMatches;
@@ -20,15 +21,7 @@ const MOST_WORDS: usize = 3;
 /// The words after a subcommand.
 pub(crate) type Behind<'a> = ArrayVec<&'a str, MOST_WORDS>;
 
-/// Whether the word is allowed on the command line: it isn't empty, and doesn't begin with a
-/// hyphen.
-fn is_plain(word: &str) -> bool
-    ensures { result ≡ is_plain_word word.now }
-{
-    !word.is_empty() && !word.starts_with('-')
-}
-
-/// Whether every word is allowed on the command line.
+/// Whether every word is allowed on the command line: none is empty or begins with a hyphen.
 pub(crate) fn are_plain(words: &[&str]) -> bool
     ensures { result ≡ list_all (λ word. is_plain_word word.now) words.now }
 {
@@ -73,7 +66,7 @@ fn found_subcommand<'a>(found: &ArgMatches<'a>) -> Option<(Subcommand, Behind<'a
         ≡ found_in (subcommand_rows_of found.now) }
 {
     let (name, words) = found.subcommand()?;
-    let subcommand = Subcommand::of_name(name)?;
+    let subcommand: Subcommand = word_named(name)?;
     let words = words_at(words, subcommand.ids())?;
     Some((subcommand, words))
 }

@@ -26,14 +26,14 @@ use Rattle.state_laws.proofs.texts.OneStateFault.{no_fault_of_state}
 use Rattle.state_text.specs.FaultMeaning.{cause_meant as state_cause_meant}
 use Rattle.docker_office.specs.declared.fault.OfficeFault.{OfficeFault}
 use Rattle.docker_office.specs.declared.fault.OfficeFault.TheVariants as why
-use Rattle.docker_office.specs.Faults.{IsOfFile, IsOfState}
+use Rattle.docker_office.specs.Faults.{IsOfFile, IsOfState, IsTextCause}
 use Rattle.docker_office.specs.Office.{TakesFile, no_state}
 use Rattle.docker_office.specs.declared.reply.Reply.{Reply}
 use Rattle.docker_office.specs.declared.reply.Reply.TheVariants.{Done, Refused}
 use Rattle.docker_office.specs.declared.reply.RunFault.{RunFault}
 use Rattle.docker_office.specs.declared.reply.RunFault.TheVariants.{NoOffice, NoMessage, Office}
 use Rattle.docker_office.specs.declared.steps.Holdings.{Holdings}
-use Rattle.docker_office.specs.RunMeaning.{IsMissing, IsTextCause, refusal_of_file, reply_for, texts_of}
+use Rattle.docker_office.specs.RunMeaning.{IsMissing, refusal_of_file, reply_for, texts_of}
 use Rattle.docker_office.specs.RunSteps.{AreOf, MeetsEvent}
 
 -- suppose that a source holds this text. If the reader of the source returns a fault, the text has

@@ -5,6 +5,7 @@ use Rattle.cif_device.specs.Device.{Store}
 use Rattle.docker_model.specs.file.FileFault as files
 use Rattle.docker_model.specs.run.Run as model
 use Rattle.docker_model.specs.run.Run.{take_file, send_state, deliver, reload, horizon_event, done, refused, no_office, no_message, no_memory, bad_file}
+use Rattle.docker_office.specs.Faults.{IsRunRefusal}
 use Rattle.docker_office.specs.declared.fault.OfficeFault.{OfficeFault}
 use Rattle.docker_office.specs.declared.fault.OfficeFault.TheVariants as fault
 use Rattle.docker_office.specs.declared.event.Event.{Event}
@@ -44,22 +45,6 @@ reply_meant Done = done
 reply_meant (Refused NoOffice) = refused no_office
 reply_meant (Refused NoMessage) = refused no_message
 reply_meant (Refused (Office why)) = refused (refusal_meant why)
-
--- says that a text's fault can have this cause. Every cause is possible except `None`, which means
--- that memory ran out
-abbrev pub IsTextCause : Option files.FileCause → Type 0
-IsTextCause None = ⊥
-IsTextCause (Some cause) = ⊤
-
--- says that an office's fault can occur in a run: it is `Memory`, or it is a file's fault with a
--- cause that a text's fault can have
-abbrev pub IsRunRefusal : OfficeFault → Type 0
-IsRunRefusal (fault.File why) = IsTextCause (cause_meant why.cause)
-IsRunRefusal fault.Memory = ⊤
-IsRunRefusal (fault.State why) = ⊥
-IsRunRefusal fault.Lapsed = ⊥
-IsRunRefusal fault.Source = ⊥
-IsRunRefusal fault.Sink = ⊥
 
 -- says that a reply can occur in a run
 abbrev pub IsRunReply : Reply → Type 0

@@ -5,6 +5,7 @@ use Rattle.cif_device.specs.Device.{IsNotPassed}
 use Rattle.docker_host.specs.History.{Bytes, Event}
 use Rattle.docker_host.specs.FaultSink.{FaultsView, TellsText, faults_of}
 use Rattle.docker_host.specs.Host.{HostView}
+use Rattle.docker_office.specs.Faults.{IsReason, no_fault}
 use Rattle.docker_office.specs.declared.fault.OfficeFault.TheVariants as office
 use Rattle.docker_cmd.specs.Words.{Text}
 use Rattle.docker_cmd.specs.Job.{JobView, IsJobOf, NameNoJob}
@@ -111,17 +112,13 @@ IsWhy words names_bytes old new (Job job.Usage) =
 IsWhy words names_bytes old new (Job job.Memory) =
     IsNotAsked words old new (AskForSome words old.input)
 IsWhy words names_bytes old new (Job job.Source) = IsNotAsked words old new (words ≡ [])
-IsWhy words names_bytes old new (Office (office.File fault)) =
-    IsAsked words old.input (EndsAfterReading old new (RefusesFile fault))
-IsWhy words names_bytes old new (Office (office.State fault)) =
-    IsAsked words old.input (EndsAfterReading old new (RefusesState fault))
-IsWhy words names_bytes old new (Office office.Lapsed) =
-    IsAsked words old.input (HasRead old new RefusesDay)
-IsWhy words names_bytes old new (Office office.Source) =
-    IsAsked words old.input (EndsAfterReading old new FailsToRead)
-IsWhy words names_bytes old new (Office office.Memory) =
-    IsAsked words old.input (WantsMemory names_bytes old new)
-IsWhy words names_bytes old new (Office office.Sink) = ⊥
+IsWhy words names_bytes old new (Office fault) = IsReason (record no_fault {
+  file = λ why. IsAsked words old.input (EndsAfterReading old new (RefusesFile why));
+  state = λ why. IsAsked words old.input (EndsAfterReading old new (RefusesState why));
+  lapsed = IsAsked words old.input (HasRead old new RefusesDay);
+  source = IsAsked words old.input (EndsAfterReading old new FailsToRead);
+  memory = IsAsked words old.input (WantsMemory names_bytes old new);
+}) fault
 
 -- the program ended with this fault, if any. Without a fault, the job's output was written. With
 -- `Sink`, the output device or the folder failed, and at most a part of the output was written.

@@ -11,6 +11,7 @@ use Rattle.docker_cmd.specs.Tasks.{sources_of}
 use Rattle.docker_program.specs.SourceNames.{SourceNames, no_source, standard_input, one_file, file_and_input, two_files, names_of}
 use Rattle.docker_host.specs.declared.folder.OpenFault.{OpenFault}
 use Rattle.docker_bytes.specs.declared.fault.StateFault.{StateFault}
+use Rattle.docker_office.specs.Faults.{IsReason, no_fault}
 use Rattle.docker_office.specs.declared.fault.OfficeFault.{OfficeFault}
 use Rattle.docker_office.specs.declared.fault.OfficeFault.TheVariants as office
 
@@ -117,12 +118,12 @@ pub record IsPrepared (asked : Asking) (job : JobView) (prepared : PreparedView)
 -- opening and reading the sources of a job ended with this result
 abbrev pub ReadsNamed : Asking → JobView → Result PreparedView OfficeFault → Type 0
 ReadsNamed asked job (Ok prepared) = IsPrepared asked job prepared
-ReadsNamed asked job (Err (office.File fault)) = RefusesFile fault asked job
-ReadsNamed asked job (Err (office.State fault)) = RefusesState fault asked job
-ReadsNamed asked job (Err office.Source) = IsNotOpened asked job ⊎ IsOpened asked job
-ReadsNamed asked job (Err office.Memory) = IsNotOpened asked job ⊎ WantsForSources asked job
-ReadsNamed asked job (Err office.Lapsed) = ⊥
-ReadsNamed asked job (Err office.Sink) = ⊥
+ReadsNamed asked job (Err fault) = IsReason (record no_fault {
+  file = λ why. RefusesFile why asked job;
+  state = λ why. RefusesState why asked job;
+  source = IsNotOpened asked job ⊎ IsOpened asked job;
+  memory = IsNotOpened asked job ⊎ WantsForSources asked job;
+}) fault
 
 -- a file among these sources couldn't be opened, and nothing was read. The result is the fault that
 -- prevented the opening

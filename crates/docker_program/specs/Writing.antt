@@ -3,8 +3,8 @@
 use Rattle.std.specs.Prelude.{◌≡◌, ◌⊎◌, ℕ, Bool, List, Option, Some, None, Result, Ok, Err, ⊤}
 use Rattle.docker_host.specs.Asked.{IsDropped, IsStored, IsUndrafted, IsUnplaced}
 use Rattle.docker_host.specs.History.{Bytes, Event}
+use Rattle.docker_office.specs.Faults.{IsReason, no_fault}
 use Rattle.docker_office.specs.declared.fault.OfficeFault.{OfficeFault}
-use Rattle.docker_office.specs.declared.fault.OfficeFault.TheVariants as office
 use Rattle.docker_cmd.specs.Prepared.{PreparedView, GainsOutput, GainsPart, IsOutputText, IsRefused, PrintsDocker}
 use Rattle.docker_cmd.specs.Words.{Text}
 use Rattle.docker_cmd.specs.Tasks.{output_of}
@@ -99,11 +99,8 @@ RefusesDay written prepared = IsRefused prepared × (written.now ≡ written.bef
 -- writing the job's output ended with this result
 abbrev pub EndsWriting : Drafting → Written → PreparedView → Result ⊤ OfficeFault → Type 0
 EndsWriting by written prepared (Ok done) = Writes by written prepared
-EndsWriting by written prepared (Err office.Sink) = WritesPart by written prepared
-EndsWriting by written prepared (Err office.Lapsed) =
-    RefusesDay written prepared × (written.output_now ≡ written.output)
-EndsWriting by written prepared (Err office.Memory) =
-    WantsToWrite by written prepared × (written.output_now ≡ written.output)
-EndsWriting by written prepared (Err (office.File fault)) = ⊥
-EndsWriting by written prepared (Err (office.State fault)) = ⊥
-EndsWriting by written prepared (Err office.Source) = ⊥
+EndsWriting by written prepared (Err fault) = IsReason (record no_fault {
+  lapsed = RefusesDay written prepared × (written.output_now ≡ written.output);
+  sink = WritesPart by written prepared;
+  memory = WantsToWrite by written prepared × (written.output_now ≡ written.output);
+}) fault
