@@ -1,7 +1,7 @@
 -- The files on a shelf. The shelf's history determines them.
-use Rattle.std.specs.Prelude.{◌≡◌, ◌≢◌, ℕ, ◌^◌, ◌-◌, min, length, take, Bool, ⊤, if◌then◌else◌, List, [], ◌∷◌, Option, None, Some, IsSome}
+use Rattle.std.specs.Prelude.{◌≡◌, ◌≢◌, ℕ, ◌+◌, ◌^◌, ◌-◌, ◌<◌, min, length, take, Bool, false, ⊤, if◌then◌else◌, List, [], ◌∷◌, Option, None, Some, IsSome}
 use Rattle.std.specs.Str.{bytes_eq}
-use Rattle.docker_host.specs.Standing.{Standing}
+use Rattle.docker_host.specs.Standing.{IsStill, Standing}
 use Rattle.docker_host.specs.History.{Text, Event, looked, opened, unopened, closed, drafted, undrafted, placed, unplaced, dropped}
 use Rattle.docker_host.specs.declared.folder.OpenFault.{OpenFault}
 use Rattle.docker_host.specs.declared.folder.OpenFault.TheVariants as opening
@@ -134,6 +134,40 @@ RefusesFile shelf name opening.Failed =
 RefusesFile shelf name opening.Memory =
     (shelf.fails ≢ failing.AtOpen)
     × (shelf.fails ≢ failing.AtOpenForMemory → IsSome (text_under shelf.events name))
+
+-- whether the event puts a text under this name
+abbrev pub is_put : Event → Text → Bool
+is_put (placed other bytes) name = bytes_eq other name
+is_put (looked other) name = false
+is_put (opened other bytes) name = false
+is_put (unopened other) name = false
+is_put (closed left) name = false
+is_put (drafted other look) name = false
+is_put (undrafted other look) name = false
+is_put (unplaced other bytes) name = false
+is_put (dropped other) name = false
+
+-- how many events there are once the last of these puts a text under this name. `now` events come
+-- before these, and `last` is the result if none of these puts such a text
+abbrev pub put_from : (now last : ℕ) → List Event → Text → ℕ
+put_from now last [] name = last
+put_from now last (event ∷ events) name =
+    put_from (now + 1) (if is_put event name then now + 1 else last) events name
+
+-- how many events there are once the last of these puts a text under this name; 0 if none does
+abbrev pub last_put : List Event → Text → ℕ
+last_put events name = put_from 0 0 events name
+
+-- a shelf refused for this fault to make a draft for the named file, based on the look at this
+-- position. Unless it is to fail at this call, a text was put under the name since the look, the
+-- look's position is too great to be counted, or memory ran out. If memory ran out, the file has
+-- held the same bytes since the look
+abbrev pub RefusesDraft : ShelfView → Text → ℕ → OpenFault → Type 0
+RefusesDraft shelf name look opening.Failed =
+    shelf.fails ≢ failing.AtCreate → look < 2 ^ 64 - 1 → look < last_put shelf.events name
+RefusesDraft shelf name look opening.Memory =
+    (shelf.fails ≢ failing.AtCreate)
+    × IsStill (shelf_standing shelf.events) name look (length shelf.events)
 
 -- a shelf made a draft with room for `room` bytes
 abbrev pub MakesDraft : ShelfView → ℕ → Type 0

@@ -3,7 +3,7 @@ ghost use Rattle.std.specs.Prelude.{◌≡◌, ◌≢◌, ◌+◌, ◌-◌, ◌^
 ghost use Rattle.cif_device.specs.Device.{CountsFailure};
 ghost use Rattle.docker_host.specs.History.{looked, opened, unopened, closed, drafted, undrafted, placed, unplaced, dropped};
 ghost use Rattle.docker_host.specs.Standing.{IsStandingOf, IsStill};
-ghost use Rattle.docker_host.specs.Shelf.{IsSetAs, IsShelfHistory, MakesDraft, OpensFile, RefusesFile, room_of, shelf_standing, sound_of, text_under};
+ghost use Rattle.docker_host.specs.Shelf.{IsSetAs, IsShelfHistory, MakesDraft, OpensFile, RefusesDraft, RefusesFile, last_put, room_of, shelf_standing, sound_of, text_under};
 ghost use Rattle.docker_host.specs.Places.{since_when, texts_of};
 
 use crate::counted::{CountedHistory, next_count};
@@ -218,8 +218,10 @@ impl Shelf {
 
     /// Whether no text was written to the named file since the look, as far as the shelf has counted.
     fn is_still(&self, name: &str, seen: &Sight) -> bool
-        ensures { result ≡ true → IsStill (shelf_standing self.now.events) name.now seen.now
-            (length self.now.events) }
+        ensures still { result ≡ true → IsStill (shelf_standing self.now.events) name.now
+            seen.now (length self.now.events) }
+        ensures put { result ≡ false → seen.now < 2 ^ 64 - 1
+            → seen.now < last_put self.now.events name.now }
     {
         seen.count < u64::MAX && since_when(self.places.as_slice(), name) <= seen.count
     }
@@ -231,6 +233,8 @@ impl Shelf {
         ensures still { OnOk result (IsStill (shelf_standing self.now.events) name.now seen.now
             (length self.now.events)) }
         ensures makes { IfOk result (λ draft. MakesDraft self.now draft.room) }
+        ensures refuses { IfErr result (λ fault.
+            RefusesDraft self.now name.now seen.now fault) }
     {
         if self.fails == Fails::AtCreate || !self.is_still(name, seen) {
             return Err(OpenFault::Failed);
@@ -351,6 +355,8 @@ impl Folder for Shelf {
             self.old.failures self.new.failures }
         ensures set { IsSetAs self.old self.new }
         ensures makes { IfOk result (λ made. MakesDraft self.old made.draft.room) }
+        ensures refuses { IfErr result (λ fault.
+            RefusesDraft self.old name.now seen.now fault) }
     {
         match self.draft_of(name, seen) {
             Ok(draft) => {

@@ -10,7 +10,7 @@ invariant_of-self c = rw c.then-self-inside.ensures
     (still_as _ _ _ _ _ (ap (λ (folder : ShelfView). folder.events) c.self.view_is) c.seen.view_is c.in-Ok.ensures.still))
 
 pub invariant_of-self-in-Err-Memory : goal.invariant_of-self-in-Err-Memory
-invariant_of-self-in-Err-Memory c = rw c.then-self-inside-in-Err-Memory.ensures (kept_still _ _ _ c.self.invariant (λ texts. refl) tt tt)
+invariant_of-self-in-Err-Memory c = rw c.then-self-inside-in-Err-Memory.ensures (kept_still _ _ _ c.self.invariant (λ texts. refl) (λ other. refl) tt tt)
 
 pub invariant_of-self-in-Err-Failed : goal.invariant_of-self-in-Err-Failed
-invariant_of-self-in-Err-Failed c = rw c.then-self-inside-in-Err-Failed.ensures (kept_still _ _ _ c.self.invariant (λ texts. refl) tt tt)
+invariant_of-self-in-Err-Failed c = rw c.then-self-inside-in-Err-Failed.ensures (kept_still _ _ _ c.self.invariant (λ texts. refl) (λ other. refl) tt tt)

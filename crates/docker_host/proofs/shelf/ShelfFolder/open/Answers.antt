@@ -9,7 +9,7 @@ invariant_of-self c = rw (c.then-self-inside.ensures, c.as_slice.ensures.value)
     (kept_opened _ _ _ _ c.self.invariant (ap (λ (folder : ShelfView). text_under folder.events c.args.name.now) c.self.view_is ∙ c.in-Ok.ensures.text))
 
 pub invariant_of-self-in-Err-Memory : goal.invariant_of-self-in-Err-Memory
-invariant_of-self-in-Err-Memory c = rw c.then-self-inside-in-Err-Memory.ensures (kept_still _ _ _ c.self.invariant (λ texts. refl) tt tt)
+invariant_of-self-in-Err-Memory c = rw c.then-self-inside-in-Err-Memory.ensures (kept_still _ _ _ c.self.invariant (λ texts. refl) (λ other. refl) tt tt)
 
 pub invariant_of-self-in-Err-Failed : goal.invariant_of-self-in-Err-Failed
-invariant_of-self-in-Err-Failed c = rw c.then-self-inside-in-Err-Failed.ensures (kept_still _ _ _ c.self.invariant (λ texts. refl) tt tt)
+invariant_of-self-in-Err-Failed c = rw c.then-self-inside-in-Err-Failed.ensures (kept_still _ _ _ c.self.invariant (λ texts. refl) (λ other. refl) tt tt)
