@@ -1,5 +1,6 @@
 pub mod Making
 pub mod CopyLemmas
+pub mod CountLemmas
 pub mod PageLemmas
 pub mod StandingLemmas
 pub mod ShelfLemmas

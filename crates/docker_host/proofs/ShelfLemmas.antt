@@ -1,6 +1,6 @@
 -- The calls to a shelf preserve its invariant: the shelf agrees with its history.
 use Rattle.std.proofs.Common.{◌≡◌, ℕ, ◌+◌, ◌-◌, ◌^◌, ◌<◌, ◌≤◌, ◌⊎◌, inl, inr, Bool, true, false, List, [], ◌∷◌, ◌++◌}
-use Rattle.std.proofs.Common.{length, Some, arith, refl, sym, ap, subst, ◌∙◌, string_bytes, length-append}
+use Rattle.std.proofs.Common.{length, if◌then◌else◌, Some, arith, refl, sym, ap, subst, ◌∙◌, string_bytes, length-append}
 use Rattle.std.specs.Str.{bytes_eq}
 use Rattle.std.proofs.lemmas.List.{take-append-le, take_all}
 use Rattle.std.proofs.Math.Nat.{eq-or-lt_of_le}
@@ -8,9 +8,10 @@ use Rattle.std.proofs.lemmas.Slice.Eq.{bytes_eq-Decides}
 use Rattle.docker_host.specs.Counts.{IsCountOf}
 use Rattle.docker_host.specs.History.{Text, Event, drafted, opened, placed}
 use Rattle.docker_host.specs.Standing.{HappensAt, IsStandingOf, IsStill}
-use Rattle.docker_host.specs.Shelf.{Texts, no_texts, with_text, after_event, after_events, IsMet, AreMet, shelf_standing, text_under}
+use Rattle.docker_host.specs.Shelf.{Texts, no_texts, with_text, after_event, after_events, IsMet, AreMet, is_put, last_put, put_from, shelf_standing, text_under}
 use Rattle.docker_host.specs.Places.{texts_of, since_when, HoldsSince, IsKept}
 use Rattle.docker_host.specs.declared.shelf.Place.{Place}
+use Rattle.docker_host.proofs.CountLemmas.{number_of_few, put_after}
 use Rattle.docker_host.proofs.StandingLemmas.{happen_append, happen_as}
 
 -- the files after a list of events and then one more event are the files after the list, changed by
@@ -80,18 +81,46 @@ since_last events name since is = λ position from to.
     let last : position ≡ length events = omega (arith, is, from, to) in
     ap (λ (n : ℕ). shelf_standing events n name) last ∙ last_standing events name
 
+-- ---- when a text was put
+
+-- one more event puts a text under a name, or the last text under this name was put as before
+put_from-append : (now last : ℕ) (events : List Event) (event : Event) (name : Text) → put_from now last (events ++ event ∷ []) name
+    ≡ (if is_put event name then now + length events + 1 else put_from now last events name)
+put_from-append now last [] event name =
+    let same : now ≡ now + 0 = omega arith in
+    ap (λ (n : ℕ). if is_put event name then n + 1 else last) same
+put_from-append now last (first ∷ events) event name =
+    let same : now + 1 + length events ≡ now + length (first ∷ events) = omega arith in
+    put_from-append (now + 1) (if is_put first name then now + 1 else last) events event name
+    ∙ ap (λ (n : ℕ). if is_put event name then n + 1 else put_from now last (first ∷ events) name) same
+
+-- an event that puts no text under this name changes nothing
+put_before : (events : List Event) (event : Event) (name : Text) → is_put event name ≡ false
+    → last_put (events ++ event ∷ []) name ≡ last_put events name
+put_before events event name other =
+    put_from-append 0 0 events event name
+    ∙ (let kept : (if is_put event name then 0 + length events + 1 else last_put events name) ≡ last_put events name = rw other refl in kept)
+
+-- an event that puts a text under this name is the last one
+put_last : (events : List Event) (event : Event) (name : Text) → is_put event name ≡ true
+    → last_put (events ++ event ∷ []) name ≡ length events + 1
+put_last events event name own =
+    put_from-append 0 0 events event name
+    ∙ (let now : (if is_put event name then 0 + length events + 1 else last_put events name) ≡ length events + 1 = rw own (omega arith) in now)
+
 -- ---- the invariant after one more event
 
 -- if an event that changes no file is appended, the shelf's invariant `IsKept` still holds
 pub kept_still : (places : List Place) (events : List Event) (event : Event) → IsKept places events
-    → ((texts : Texts) → after_event texts event ≡ texts) → IsMet (after_events no_texts events) event
-    → HappensAt (shelf_standing (events ++ event ∷ [])) (length events) event
+    → ((texts : Texts) → after_event texts event ≡ texts) → ((name : Text) → is_put event name ≡ false)
+    → IsMet (after_events no_texts events) event → HappensAt (shelf_standing (events ++ event ∷ [])) (length events) event
     → IsKept places (events ++ event ∷ [])
-kept_still places events event kept still met happens = record {
+kept_still places events event kept still others met happens = record {
   met = AreMet-append no_texts events event kept.met met;
   standing = standing_append events event kept.standing happens;
   same = λ name. kept.same name ∙ sym (unchanged name);
   since = λ name few. since_append events event name (since_when places name) (unchanged name) (kept.since name few);
+  counted = λ name. subst (IsCountOf (since_when places name)) (sym (put_before events event name (others name))) (kept.counted name);
 }
   where
     unchanged : (name : Text) → text_under (events ++ event ∷ []) name ≡ text_under events name
@@ -112,6 +141,7 @@ kept_placed place places events name text kept named held counted = record {
       ∙ with_same name text other (texts_of places) (after_events no_texts events) (kept.same other)
       ∙ sym (after other);
   since = λ other few. by other (bytes_eq (string_bytes place.name) other) refl few;
+  counted = λ other. count other (bytes_eq (string_bytes place.name) other) refl;
 }
   where
     all : List Event
@@ -143,19 +173,33 @@ kept_placed place places events name text kept named held counted = record {
     by other true is few =
         let since : since_when (place ∷ places) other ≡ place.since = rw is refl in
         subst (HoldsSince all other) (sym since)
-        (since_last all other place.since (counted (subst (λ (n : ℕ). n < 2 ^ 64 - 1) since few) ∙ sym long))
+        (since_last all other place.since
+        (number_of_few place.since (length events + 1) counted (subst (λ (n : ℕ). n < 2 ^ 64 - 1) since few) ∙ sym long))
     by other false is few =
         let since : since_when (place ∷ places) other ≡ since_when places other = rw is refl in
         subst (HoldsSince all other) (sym since)
         (since_append events (placed name (Some text)) other (since_when places other) (other_text other is)
         (kept.since other (subst (λ (n : ℕ). n < 2 ^ 64 - 1) since few)))
 
+    count : (other : Text) (is : Bool) → bytes_eq (string_bytes place.name) other ≡ is
+        → IsCountOf (since_when (place ∷ places) other) (last_put all other)
+    count other true is =
+        let since : since_when (place ∷ places) other ≡ place.since = rw is refl in
+        let own : bytes_eq name other ≡ true = subst (λ (n : Text). bytes_eq n other ≡ true) named is in
+        subst (λ (n : ℕ). IsCountOf n (last_put all other)) (sym since)
+        (subst (IsCountOf place.since) (sym (put_last events (placed name (Some text)) other own)) counted)
+    count other false is =
+        let since : since_when (place ∷ places) other ≡ since_when places other = rw is refl in
+        let apart : bytes_eq name other ≡ false = subst (λ (n : Text). bytes_eq n other ≡ false) named is in
+        subst (λ (n : ℕ). IsCountOf n (last_put all other)) (sym since)
+        (subst (IsCountOf (since_when places other)) (sym (put_before events (placed name (Some text)) other apart)) (kept.counted other))
+
 -- if a file is opened and the event `opened` is appended, the shelf's invariant `IsKept` still
 -- holds
 pub kept_opened : (places : List Place) (events : List Event) (name text : Text) → IsKept places events
     → text_under events name ≡ Some text → IsKept places (events ++ opened name (Some text) ∷ [])
 kept_opened places events name text kept found =
-    kept_still places events (opened name (Some text)) kept (λ texts. refl) (sym found, refl)
+    kept_still places events (opened name (Some text)) kept (λ texts. refl) (λ other. refl) (sym found, refl)
     (sym found ∙ sym (next_standing events (opened name (Some text)) name))
 
 -- if no text was written to a file since a look, one more event doesn't change this
@@ -170,14 +214,14 @@ still_after events event name look still = λ position from to.
 pub kept_drafted : (places : List Place) (events : List Event) (name : Text) (look : ℕ) → IsKept places events
     → IsStill (shelf_standing events) name look (length events) → IsKept places (events ++ drafted name look ∷ [])
 kept_drafted places events name look kept still =
-    kept_still places events (drafted name look) kept (λ texts. refl) tt (still_after events (drafted name look) name look still)
+    kept_still places events (drafted name look) kept (λ texts. refl) (λ other. refl) tt (still_after events (drafted name look) name look still)
 
 -- if the text of a file was placed before the look, no text was written to the file since the look
 pub still_since : (places : List Place) (events : List Event) (name : Text) (count look : ℕ) → IsKept places events → IsCountOf count look
     → count < 2 ^ 64 - 1 → since_when places name ≤ count → IsStill (shelf_standing events) name look (length events)
 still_since places events name count look kept counted few early = λ position from to.
     let low : since_when places name < 2 ^ 64 - 1 = omega (arith, few, early) in
-    let there : since_when places name ≤ look = subst (λ (n : ℕ). since_when places name ≤ n) (counted few) early in
+    let there : since_when places name ≤ look = subst (λ (n : ℕ). since_when places name ≤ n) (number_of_few count look counted few) early in
     kept.since name low position (omega (arith, from, there)) to
     ∙ sym (kept.since name low look there (omega (arith, from, to)))
 
@@ -187,3 +231,9 @@ pub still_as : (events shown : List Event) (name : Text) (look seen : ℕ) → e
 still_as events shown name look seen same at still =
     subst (λ (es : List Event). IsStill (shelf_standing es) name look (length es)) (sym same)
     (subst (λ (n : ℕ). IsStill (shelf_standing shown) name n (length shown)) (sym at) still)
+
+-- if the shelf can't see that no text was put under the name since the look, a text was put, unless the look's position is too great to be counted
+pub put_since : (places : List Place) (events : List Event) (name : Text) (count look : ℕ) → IsKept places events → IsCountOf count look
+    → (count < 2 ^ 64 - 1 → count < since_when places name) → look < 2 ^ 64 - 1 → look < last_put events name
+put_since places events name count look kept counted late =
+    put_after count look (since_when places name) (last_put events name) counted (kept.counted name) late

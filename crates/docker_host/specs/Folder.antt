@@ -1,4 +1,4 @@
--- What contracts can say about a folder: its events and its failure count.
+-- What contracts can say about the folder of the real files: its events and its failure count.
 use Rattle.std.specs.Prelude.{ℕ, List}
 use Rattle.docker_host.specs.History.{Event}
 

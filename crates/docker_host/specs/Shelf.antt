@@ -1,8 +1,24 @@
 -- The files on a shelf. The shelf's history determines them.
-use Rattle.std.specs.Prelude.{◌≡◌, ℕ, min, length, take, Bool, ⊤, if◌then◌else◌, List, [], ◌∷◌, Option, None, Some, IsSome}
+use Rattle.std.specs.Prelude.{◌≡◌, ◌≢◌, ℕ, ◌+◌, ◌^◌, ◌-◌, ◌<◌, min, length, take, Bool, false, ⊤, if◌then◌else◌, List, [], ◌∷◌, Option, None, Some, IsSome}
 use Rattle.std.specs.Str.{bytes_eq}
-use Rattle.docker_host.specs.Standing.{Standing}
+use Rattle.docker_host.specs.Standing.{IsStill, Standing}
 use Rattle.docker_host.specs.History.{Text, Event, looked, opened, unopened, closed, drafted, undrafted, placed, unplaced, dropped}
+use Rattle.docker_host.specs.declared.folder.OpenFault.{OpenFault}
+use Rattle.docker_host.specs.declared.folder.OpenFault.TheVariants as opening
+use Rattle.docker_host.specs.declared.shelf.Fails.{Fails}
+use Rattle.docker_host.specs.declared.shelf.Fails.TheVariants as failing
+
+-- a shelf: its events, oldest first, and its failure count. `fails` are the calls at which it fails,
+-- and `room` is the number of bytes for which its drafts have room
+pub record ShelfView : Type 0 where
+  pub events : List Event
+  pub failures : ℕ
+  pub fails : Fails
+  pub room : ℕ
+
+-- the shelf fails at the same calls as before, and its drafts have the same room
+abbrev pub IsSetAs : ShelfView → ShelfView → Type 0
+IsSetAs old new = (new.fails ≡ old.fails) × (new.room ≡ old.room)
 
 -- an opened file on a shelf. `left` has the bytes left in the file, and `sound` is the number of
 -- bytes that can be read before a read fails. `failures` is the file's failure count. `ended` says
@@ -80,3 +96,80 @@ text_under events name = after_events no_texts events name
 -- holds the text that was last placed under its name
 abbrev pub shelf_standing : List Event → Standing
 shelf_standing events position name = text_under (take position events) name
+
+-- the number of bytes that can be read from a file before a read fails, if the shelf fails at these
+-- calls
+abbrev pub sound_of : Fails → ℕ
+sound_of (failing.AfterReading sound) = sound
+sound_of failing.Never = 2 ^ 64 - 1
+sound_of failing.AtOpen = 2 ^ 64 - 1
+sound_of failing.AtOpenForMemory = 2 ^ 64 - 1
+sound_of failing.AtCreate = 2 ^ 64 - 1
+sound_of failing.AtCreateForMemory = 2 ^ 64 - 1
+sound_of (failing.AfterWriting room) = 2 ^ 64 - 1
+sound_of failing.AtComplete = 2 ^ 64 - 1
+
+-- the number of bytes for which a draft has room, if the shelf fails at these calls. `room` is the
+-- room of its drafts otherwise
+abbrev pub room_of : ℕ → Fails → ℕ
+room_of room (failing.AfterWriting short) = short
+room_of room failing.Never = room
+room_of room failing.AtOpen = room
+room_of room failing.AtOpenForMemory = room
+room_of room (failing.AfterReading sound) = room
+room_of room failing.AtCreate = room
+room_of room failing.AtCreateForMemory = room
+room_of room failing.AtComplete = room
+
+-- a shelf opened a file from which `sound` bytes can be read before a read fails
+abbrev pub OpensFile : ShelfView → ℕ → Type 0
+OpensFile shelf sound = (shelf.fails ≢ failing.AtOpen) × (shelf.fails ≢ failing.AtOpenForMemory)
+    × (sound ≡ sound_of shelf.fails)
+
+-- a shelf refused to open the named file for this fault. Unless it is to fail at this call, there is
+-- no such file, or memory ran out for the text of the file
+abbrev pub RefusesFile : ShelfView → Text → OpenFault → Type 0
+RefusesFile shelf name opening.Failed =
+    shelf.fails ≢ failing.AtOpen → text_under shelf.events name ≡ None
+RefusesFile shelf name opening.Memory =
+    (shelf.fails ≢ failing.AtOpen)
+    × (shelf.fails ≢ failing.AtOpenForMemory → IsSome (text_under shelf.events name))
+
+-- whether the event puts a text under this name
+abbrev pub is_put : Event → Text → Bool
+is_put (placed other bytes) name = bytes_eq other name
+is_put (looked other) name = false
+is_put (opened other bytes) name = false
+is_put (unopened other) name = false
+is_put (closed left) name = false
+is_put (drafted other look) name = false
+is_put (undrafted other look) name = false
+is_put (unplaced other bytes) name = false
+is_put (dropped other) name = false
+
+-- how many events there are once the last of these puts a text under this name. `now` events come
+-- before these, and `last` is the result if none of these puts such a text
+abbrev pub put_from : (now last : ℕ) → List Event → Text → ℕ
+put_from now last [] name = last
+put_from now last (event ∷ events) name =
+    put_from (now + 1) (if is_put event name then now + 1 else last) events name
+
+-- how many events there are once the last of these puts a text under this name; 0 if none does
+abbrev pub last_put : List Event → Text → ℕ
+last_put events name = put_from 0 0 events name
+
+-- a shelf refused for this fault to make a draft for the named file, based on the look at this
+-- position. Unless it is to fail at this call, the reason for `Failed` is that a text was put under
+-- the name since the look, or that the shelf can't count as far as the look. The reason for `Memory`
+-- is that memory ran out, and the file has held the same bytes since the look
+abbrev pub RefusesDraft : ShelfView → Text → ℕ → OpenFault → Type 0
+RefusesDraft shelf name look opening.Failed =
+    shelf.fails ≢ failing.AtCreate → look < 2 ^ 64 - 1 → look < last_put shelf.events name
+RefusesDraft shelf name look opening.Memory =
+    (shelf.fails ≢ failing.AtCreate)
+    × IsStill (shelf_standing shelf.events) name look (length shelf.events)
+
+-- a shelf made a draft with room for `room` bytes
+abbrev pub MakesDraft : ShelfView → ℕ → Type 0
+MakesDraft shelf room = (shelf.fails ≢ failing.AtCreate) × (shelf.fails ≢ failing.AtCreateForMemory)
+    × (room ≡ room_of shelf.room shelf.fails)

@@ -1,9 +1,9 @@
 //! A folder in memory.
-ghost use Rattle.std.specs.Prelude.{◌≡◌, ◌+◌, ◌-◌, ◌^◌, ◌<◌, [], ◌∷◌, ◌++◌, length, false, true, Some, None, IfOk, IsErr, OnOk, OnErr, Err, option_map};
+ghost use Rattle.std.specs.Prelude.{◌≡◌, ◌≢◌, ◌+◌, ◌-◌, ◌^◌, ◌<◌, [], ◌∷◌, ◌++◌, length, false, true, Some, None, IfOk, IfErr, IsErr, OnOk, OnErr, Err, option_map};
 ghost use Rattle.cif_device.specs.Device.{CountsFailure};
-ghost use Rattle.docker_host.specs.History.{placed, unplaced, dropped};
+ghost use Rattle.docker_host.specs.History.{looked, opened, unopened, closed, drafted, undrafted, placed, unplaced, dropped};
 ghost use Rattle.docker_host.specs.Standing.{IsStandingOf, IsStill};
-ghost use Rattle.docker_host.specs.Shelf.{IsShelfHistory, shelf_standing, text_under};
+ghost use Rattle.docker_host.specs.Shelf.{IsSetAs, IsShelfHistory, MakesDraft, OpensFile, RefusesDraft, RefusesFile, last_put, room_of, shelf_standing, sound_of, text_under};
 ghost use Rattle.docker_host.specs.Places.{since_when, texts_of};
 
 use crate::counted::{CountedHistory, next_count};
@@ -76,14 +76,16 @@ pub struct Shelf {
 }
 
 impl Model for Shelf {
-    ghost use Rattle.docker_host.specs.Folder.{FolderView};
+    ghost use Rattle.docker_host.specs.Shelf.{ShelfView};
     ghost use Rattle.docker_host.specs.Places.{IsKept};
 
-    ghost Value = { FolderView };
+    ghost Value = { ShelfView };
 
     ghost view = { λ shelf. record {
       events = shelf.history;
       failures = shelf.failures;
+      fails = shelf.fails;
+      room = shelf.room;
     } };
 
     ghost invariant = { λ shelf. IsKept shelf.places.items shelf.history };
@@ -119,6 +121,8 @@ impl Shelf {
     pub fn new(alloc: Global, room: usize) -> Shelf
         ensures events { result.events ≡ [] }
         ensures no_failure { result.failures ≡ 0 }
+        ensures fails { result.fails ≡ Fails.Never }
+        ensures room { result.room ≡ room }
     {
         Shelf {
             alloc,
@@ -132,7 +136,7 @@ impl Shelf {
 
     /// Makes the shelf fail at these calls from now on, and at no other calls.
     pub fn fail(&mut self, fails: Fails)
-        ensures { self.new ≡ self.old }
+        ensures { self.new ≡ record self.old { fails = fails } }
     {
         self.fails = fails;
     }
@@ -144,6 +148,7 @@ impl Shelf {
             (self.new.events ≡ self.old.events ++ placed name.now (Some text.now) ∷ []) }
         ensures unplaced { OnErr result (self.new ≡ self.old) }
         ensures no_failure { self.new.failures ≡ self.old.failures }
+        ensures set { IsSetAs self.old self.new }
     {
         let place = Place {
             name: String::from_str(self.alloc, name)?,
@@ -174,7 +179,10 @@ impl Shelf {
 
     /// Returns a copy of the text of the named file, if the file can be opened.
     fn copy_of(&self, name: &str) -> Result<Vec<u8>, OpenFault>
-        ensures { IfOk result (λ text. text_under self.now.events name.now ≡ Some text.items) }
+        ensures text { IfOk result (λ text.
+            text_under self.now.events name.now ≡ Some text.items) }
+        ensures opens { OnOk result (OpensFile self.now (sound_of self.now.fails)) }
+        ensures refuses { IfErr result (λ fault. RefusesFile self.now name.now fault) }
     {
         if self.fails == Fails::AtOpen {
             return Err(OpenFault::Failed);
@@ -189,7 +197,9 @@ impl Shelf {
     }
 
     /// Returns the number of bytes that can be read from an opened file before a read fails.
-    fn sound(&self) -> usize {
+    fn sound(&self) -> usize
+        ensures { result ≡ sound_of self.now.fails }
+    {
         match self.fails {
             Fails::AfterReading(sound) => sound,
             _ => usize::MAX,
@@ -197,7 +207,9 @@ impl Shelf {
     }
 
     /// Returns the number of bytes that can be written to a draft before a write fails.
-    fn draft_room(&self) -> usize {
+    fn draft_room(&self) -> usize
+        ensures { result ≡ room_of self.now.room self.now.fails }
+    {
         match self.fails {
             Fails::AfterWriting(room) => room,
             _ => self.room,
@@ -206,8 +218,10 @@ impl Shelf {
 
     /// Whether no text was written to the named file since the look, as far as the shelf has counted.
     fn is_still(&self, name: &str, seen: &Sight) -> bool
-        ensures { result ≡ true → IsStill (shelf_standing self.now.events) name.now seen.now
-            (length self.now.events) }
+        ensures still { result ≡ true → IsStill (shelf_standing self.now.events) name.now
+            seen.now (length self.now.events) }
+        ensures put { result ≡ false → seen.now < 2 ^ 64 - 1
+            → seen.now < last_put self.now.events name.now }
     {
         seen.count < u64::MAX && since_when(self.places.as_slice(), name) <= seen.count
     }
@@ -218,6 +232,9 @@ impl Shelf {
         ensures sound { IfOk result (λ draft. draft.failures ≡ 0) }
         ensures still { OnOk result (IsStill (shelf_standing self.now.events) name.now seen.now
             (length self.now.events)) }
+        ensures makes { IfOk result (λ draft. MakesDraft self.now draft.room) }
+        ensures refuses { IfErr result (λ fault.
+            RefusesDraft self.now name.now seen.now fault) }
     {
         if self.fails == Fails::AtCreate || !self.is_still(name, seen) {
             return Err(OpenFault::Failed);
@@ -237,6 +254,8 @@ impl Shelf {
             → self.new.events ≡ self.old.events ++ placed name.now (Some text.now) ∷ [] }
         ensures unplaced { result ≡ false → self.new ≡ self.old }
         ensures no_failure { self.new.failures ≡ self.old.failures }
+        ensures set { IsSetAs self.old self.new }
+        ensures ready { result ≡ true → self.old.fails ≢ Fails.AtComplete }
     {
         if self.fails == Fails::AtComplete {
             return false;
@@ -262,14 +281,38 @@ impl Folder for Shelf {
 
     ghost standing = { λ shelf. shelf_standing shelf.events };
 
-    fn look(&mut self, name: &str) -> Sight {
+    // The clauses `set`, `opens`, `refuses`, `makes` and `ready` are promised only for a shelf. The
+    // other clauses of these calls are promised for every folder.
+
+    fn look(&mut self, name: &str) -> Sight
+        ensures asked { self.new.events ≡ self.old.events ++ looked name.now ∷ [] }
+        ensures look { result ≡ length self.old.events }
+        ensures no_failure { self.new.failures ≡ self.old.failures }
+        ensures set { IsSetAs self.old self.new }
+    {
         let count = self.history.count();
         let position = self.history.position();
         self.history = self.history.then(&Note::Looked(name));
         Sight { count, position }
     }
 
-    fn open(&mut self, name: &str) -> Result<Page, OpenFault> {
+    fn open(&mut self, name: &str) -> Result<Page, OpenFault>
+        requires { self.old.failures < 2 ^ 64 - 1 }
+        ensures asked { IfOk result (λ file.
+            self.new.events ≡ self.old.events ++ opened name.now (Some file.left) ∷ []) }
+        ensures fresh { IfOk result (λ file.
+            (file.ended ≡ false) × (file.passed ≡ false)) }
+        ensures sound { IfOk result (λ file. file.failures ≡ 0) }
+        ensures held { IfOk result (λ file. Some file.left
+            ≡ shelf_standing self.new.events (length self.old.events) name.now) }
+        ensures unopened { OnErr result
+            (self.new.events ≡ self.old.events ++ unopened name.now ∷ []) }
+        ensures failures { CountsFailure (result ≡ Err OpenFault.Failed)
+            self.old.failures self.new.failures }
+        ensures set { IsSetAs self.old self.new }
+        ensures opens { IfOk result (λ file. OpensFile self.old file.sound) }
+        ensures refuses { IfErr result (λ fault. RefusesFile self.old name.now fault) }
+    {
         match self.copy_of(name) {
             Ok(text) => {
                 self.history = self.history.then(&Note::Opened(name, text.as_slice()));
@@ -287,12 +330,34 @@ impl Folder for Shelf {
         }
     }
 
-    fn close(&mut self, file: Page) {
+    fn close(&mut self, file: Page)
+        requires { self.old.failures + file.failures < 2 ^ 64 }
+        ensures asked { self.new.events ≡ self.old.events ++ closed (Some file.left) ∷ [] }
+        ensures counted { self.new.failures ≡ self.old.failures + file.failures }
+        ensures set { IsSetAs self.old self.new }
+    {
         self.failures += file.failures();
         self.history = self.history.then(&Note::Closed(file.rest()));
     }
 
-    fn create<'a>(&mut self, name: &'a str, seen: &Sight) -> Result<Drafted<'a, Kept>, OpenFault> {
+    fn create<'a>(&mut self, name: &'a str, seen: &Sight) -> Result<Drafted<'a, Kept>, OpenFault>
+        requires { self.old.failures < 2 ^ 64 - 1 }
+        ensures name { IfOk result (λ made. made.name.now ≡ name.now) }
+        ensures empty { IfOk result (λ made. made.draft.taken ≡ []) }
+        ensures sound { IfOk result (λ made. made.draft.failures ≡ 0) }
+        ensures asked { OnOk result
+            (self.new.events ≡ self.old.events ++ drafted name.now seen.now ∷ []) }
+        ensures still { OnOk result (IsStill (shelf_standing self.new.events) name.now seen.now
+            (length self.old.events)) }
+        ensures undrafted { OnErr result
+            (self.new.events ≡ self.old.events ++ undrafted name.now seen.now ∷ []) }
+        ensures failures { CountsFailure (result ≡ Err OpenFault.Failed)
+            self.old.failures self.new.failures }
+        ensures set { IsSetAs self.old self.new }
+        ensures makes { IfOk result (λ made. MakesDraft self.old made.draft.room) }
+        ensures refuses { IfErr result (λ fault.
+            RefusesDraft self.old name.now seen.now fault) }
+    {
         match self.draft_of(name, seen) {
             Ok(draft) => {
                 self.history = self.history.then(&Note::Drafted(name, &seen.position));
@@ -318,6 +383,8 @@ impl Folder for Shelf {
             ++ unplaced made.entry.name.now (Some made.entry.draft.taken) ∷ []) }
         ensures failures { CountsFailure (IsErr result)
             (self.old.failures + made.entry.draft.failures) self.new.failures }
+        ensures set { IsSetAs self.old self.new }
+        ensures ready { OnOk result (self.old.fails ≢ Fails.AtComplete) }
     {
         self.failures += made.draft.failures();
         if self.put_draft(made.name, made.draft.bytes()) {
@@ -334,6 +401,7 @@ impl Folder for Shelf {
         requires { self.old.failures + made.draft.failures < 2 ^ 64 }
         ensures asked { self.new.events ≡ self.old.events ++ dropped made.entry.name.now ∷ [] }
         ensures counted { self.new.failures ≡ self.old.failures + made.entry.draft.failures }
+        ensures set { IsSetAs self.old self.new }
     {
         self.failures += made.draft.failures();
         self.history = self.history.then(&Note::Dropped(made.name));

@@ -1,6 +1,6 @@
 //! Versions of files. A file and a file that has replaced it have different versions.
 ghost use Rattle.std.specs.Prelude.{◌≡◌, ◌↔◌, IsTrue};
-ghost use Rattle.std.specs.Fs.{IsFile, file_type};
+ghost use Rattle.std.specs.Fs.{IsFile, file_type, metadata_len};
 ghost use Rattle.docker_host.specs.Versions.{AreOfOnePipe};
 
 use std::fs;
@@ -25,14 +25,15 @@ pub(crate) struct Version {
 impl Version {
     /// Returns the version of the file with this metadata.
     pub(crate) fn of(file: &Metadata) -> Version
-        ensures { IsTrue result.regular ↔ IsFile (file_type file.now) }
+        ensures regular { IsTrue result.regular ↔ IsFile (file_type file.now) }
+        ensures size { result.size ≡ metadata_len file.now }
     {
         Version {
             device: file.dev(),
             node: file.ino(),
             made: file.created().ok(),
             regular: file.is_file(),
-            size: file.size(),
+            size: file.len(),
             seconds: file.mtime(),
             nanoseconds: file.mtime_nsec(),
         }

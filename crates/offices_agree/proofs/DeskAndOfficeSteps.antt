@@ -6,10 +6,9 @@ use Rattle.docker_model.specs.state.StateText.{dks_2}
 use Rattle.docker_model.specs.run.Run.{Known, nothing, united}
 use Rattle.docker_model.specs.run.Knowledge.{HaveSameFiles}
 use Rattle.cif_device.specs.Device.{Takes}
-use Rattle.docker_host.specs.Folder.{FolderView}
 use Rattle.docker_host.specs.History.{Bytes, Event}
 use Rattle.docker_host.specs.Host.{HostView}
-use Rattle.docker_host.specs.Shelf.{text_under}
+use Rattle.docker_host.specs.Shelf.{ShelfView, text_under}
 use Rattle.docker_program.specs.Commands.{HoldsKnown, PrintsKnown, of_file}
 use Rattle.docker_program.proofs.VersionLemmas.{plain_known_docker}
 use Rattle.docker_desk.specs.Answers.{answer_text}
@@ -112,7 +111,7 @@ told_docker = λ i. decimal_digit 0 (omega arith) i ++ codes " " ++ decimal_digi
 
 -- what the desk answers and what `south` prints. `a` and `b` are the host before and after the first commands, and `c` and `d` before and after the last. `x`
 -- and `y` are the folder before and after the session
-pub both_agree : (a b c d : HostView) (x y : FolderView) (answers : List ℕ) → text_under a.history full_name ≡ Some full_text
+pub both_agree : (a b c d : HostView) (x y : ShelfView) (answers : List ℕ) → text_under a.history full_name ≡ Some full_text
     → text_under a.history update_name ≡ Some update_text → LearnApart a b → x.events ≡ b.history → ServesNorth x y answers
     → c.history ≡ y.events → a.output ≡ Some [] → c.output ≡ b.output → ShowsSouth c d
     → (answers ≡ codes "0 0 0\n" ++ codes "0 0 0\n" ++ codes "0 4 228\n" ++ the_docker) × (d.output ≡ Some the_docker)

@@ -10,10 +10,9 @@ use Rattle.docker_model.specs.state.State.{State}
 use Rattle.docker_model.specs.state.StateText.{dks_2, state_text}
 use Rattle.docker_model.specs.run.Run.{Known, united}
 use Rattle.cif_line.proofs.DateFields.{digits_in-day_text}
-use Rattle.docker_host.specs.Folder.{FolderView}
 use Rattle.docker_host.specs.History.{Bytes, Event, Text, closed, drafted, looked, opened, placed}
 use Rattle.docker_host.specs.SessionHost.{SessionHostView}
-use Rattle.docker_host.specs.Shelf.{IsShelfHistory, no_texts, text_under}
+use Rattle.docker_host.specs.Shelf.{IsShelfHistory, ShelfView, no_texts, text_under}
 use Rattle.docker_bytes.specs.SourceRead.{JoinsState}
 use Rattle.docker_office.specs.declared.fault.OfficeFault.{OfficeFault}
 use Rattle.docker_office.specs.declared.fault.OfficeFault.TheVariants as office
@@ -510,7 +509,7 @@ module _ (old new : SessionHostView) (taken : List ℕ) (input : old.streams.inp
   session_sound = served.failures ∙ three.sound ∙ served.none
 
   -- `north` knows what both knew before, and the desk printed the docker
-  pub session_leaves : (folder : FolderView) → folder.events ≡ new.history → IsShelfHistory new.history → (known heard : Known)
+  pub session_leaves : (folder : ShelfView) → folder.events ≡ new.history → IsShelfHistory new.history → (known heard : Known)
       → HoldsKnown dks_2 (text_under old.history north) known → HoldsKnown dks_2 (text_under old.history south) heard
       → IsServedNorth folder taken known heard
   session_leaves folder same met known heard holds also =
@@ -525,7 +524,7 @@ module _ (old new : SessionHostView) (taken : List ℕ) (input : old.streams.inp
       }
 
 -- what the session leaves and answers, for a host `seen` that equals the new host
-pub served_told : (old seen new : SessionHostView) (status : ℕ) (taken : List ℕ) (folder : FolderView) (events : List Event)
+pub served_told : (old seen new : SessionHostView) (status : ℕ) (taken : List ℕ) (folder : ShelfView) (events : List Event)
     → Serves desk_words true old new status → seen ≡ new → status ≡ 0 → old.streams.input ≡ Some session_input → old.streams.output ≡ Some []
     → IsShelfHistory seen.history → seen.streams.output ≡ Some taken → AreDone taken → HasOneReading → folder.events ≡ seen.history → events ≡ old.history
     → (known heard : Known) → HoldsKnown dks_2 (text_under events north) known → HoldsKnown dks_2 (text_under events south) heard

@@ -3,9 +3,8 @@ use Rattle.std.specs.Prelude.{◌≡◌, ℕ, List, ◌++◌, codes, slice_index
 use Rattle.docker_model.specs.run.Run.{Known, nothing, united}
 use Rattle.docker_model.specs.state.StateText.{dks_2}
 use Rattle.cif_device.specs.Device.{Takes}
-use Rattle.docker_host.specs.Folder.{FolderView}
 use Rattle.docker_host.specs.Host.{HostView}
-use Rattle.docker_host.specs.Shelf.{text_under}
+use Rattle.docker_host.specs.Shelf.{ShelfView, text_under}
 use Rattle.docker_cmd.specs.Saved.{HoldsFile}
 use Rattle.docker_program.specs.Commands.{HoldsKnown, PrintsKnown, of_file}
 use Rattle.docker_desk.specs.Answers.{answer_text}
@@ -28,14 +27,14 @@ AreDone answers = (slice_index answers 0 ≡ 48) × (slice_index answers 6 ≡ 4
 
 -- the desk merged the state of `south`, saved its state, and printed the docker of ASHFELD for 10
 -- June 2024. `one` and `two` are what `north` and `south` knew before
-pub record IsServedNorth (new : FolderView) (answers : List ℕ) (one two : Known) : Type 0 where
+pub record IsServedNorth (new : ShelfView) (answers : List ℕ) (one two : Known) : Type 0 where
   pub north : HoldsKnown dks_2 (text_under new.events (codes "north")) (united one two)
   pub docker : List ℕ
   pub is : PrintsKnown (united one two) (codes "ASHFELD") 23537 docker
   pub told : answers ≡ codes "0 0 0\n" ++ codes "0 0 0\n" ++ answer_text 0 docker
 
 -- if `north` and `south` held states, the desk merged, saved and printed
-abbrev pub ServesNorth : FolderView → FolderView → List ℕ → Type 0
+abbrev pub ServesNorth : ShelfView → ShelfView → List ℕ → Type 0
 ServesNorth old new answers = (one two : Known) → HoldsKnown dks_2 (text_under old.events (codes "north")) one
     → HoldsKnown dks_2 (text_under old.events (codes "south")) two → IsServedNorth new answers one two
 

@@ -1,8 +1,8 @@
 use Rattle.std.proofs.Common.{◌++◌, ◌∷◌, [], Some, List, ap, rules, subst, sym, tests, ◌∙◌}
 use Rattle.std.specs.Prelude.{codes}
 use Rattle.docker_model.specs.state.State.{IsValid}
-use Rattle.docker_host.specs.Folder.{FolderView}
 use Rattle.docker_host.specs.History.{Event, placed}
+use Rattle.docker_host.specs.Shelf.{ShelfView}
 use Rattle.docker_host.specs.Streams.{StreamsView}
 use Rattle.docker_desk.proofs.WitnessLemmas.{files_told, sent_text}
 use Rattle.docker_desk.proofs.witness.files_of_none.Goals as goal
@@ -13,7 +13,7 @@ returns c =
     (sent_text c.bytes-bytes.result.now c.in_ok-text.text.taken c.send.new.sink.taken c.new-office.result c.in_ok-text.ensures.empty
     c.in-Ok.ensures.whole c.new-office.ensures.empty c.bytes-bytes.ensures.bytes)
     (search (rules, tests)) (subst IsValid c.new-office.ensures.empty c.state-state.ensures.valid)
-    (ap (λ (it : FolderView). it.events) c.folder.view_is ∙ c.in_ok-put.ensures.placed
+    (ap (λ (it : ShelfView). it.events) c.folder.view_is ∙ c.in_ok-put.ensures.placed
     ∙ ap (λ (events : List Event). events ++ placed (codes "S") (Some c.bytes-bytes.result.now) ∷ []) c.new-folder.ensures.events)
     (ap (λ (streams : StreamsView). streams.input) c.new-4.ensures ∙ ap Some c.new-2.ensures.left)
     (ap (λ (streams : StreamsView). streams.output) c.new-4.ensures ∙ ap Some c.in_ok-new.ensures.empty) c.tell.ensures.texts

@@ -4,4 +4,4 @@ use Rattle.docker_host.proofs.ShelfLemmas.{kept_still}
 use Rattle.docker_host.proofs.shelf.ShelfFolder.close.Goals as goal
 
 pub invariant_of-self : goal.invariant_of-self
-invariant_of-self c = rw c.then-self-inside.ensures (kept_still _ _ _ c.self.invariant (λ texts. refl) tt tt)
+invariant_of-self c = rw c.then-self-inside.ensures (kept_still _ _ _ c.self.invariant (λ texts. refl) (λ other. refl) tt tt)

@@ -4,4 +4,4 @@ use Rattle.docker_host.proofs.ShelfLemmas.{kept_still}
 use Rattle.docker_host.proofs.shelf.ShelfFolder.complete.Goals as goal
 
 pub invariant_of-self-2 : goal.invariant_of-self-2
-invariant_of-self-2 c = rw c.then-self-inside.ensures (kept_still _ _ _ c.self-2.invariant (λ texts. refl) tt tt)
+invariant_of-self-2 c = rw c.then-self-inside.ensures (kept_still _ _ _ c.self-2.invariant (λ texts. refl) (λ other. refl) tt tt)
