@@ -1,5 +1,4 @@
 """How the dockers of the office's places differ from the permanent timetable."""
-import collections
 from typing import NamedTuple
 
 import changes
@@ -10,9 +9,6 @@ from . import covering, thinned
 from .faults import Fault
 from .reporting import dockers_of, writing
 
-
-# The columns of the UID in a line.
-UID = slice(lines.COLUMNS["UID"][0] - 1, lines.COLUMNS["UID"][1])
 LACKING = "what differs from the permanent timetable can't be said: this needs a program desk that knows what is permanent, and there is none, or one of an older version"
 
 
@@ -23,11 +19,9 @@ class Pair(NamedTuple):
     permanent: bytes
 
     def reduced(self):
-        """Both dockers with only the lines of the UIDs whose lines differ, STP indicators included. The other trains needn't be compared."""
-        rows = [text.split(b"\n") for text in (self.text, self.permanent)]
-        one, other = (collections.Counter(found) for found in rows)
-        uids = {line[UID] for line in (*(one - other), *(other - one))}
-        return Pair(self.date, *(b"\n".join([found[0], *(line for line in found[1:-2] if line[UID] in uids), *found[-2:]]) for found in rows))
+        """Both dockers with only the lines of the trains that have to be compared."""
+        rows = changes.apart(self.text, self.permanent)
+        return Pair(self.date, *(b"\n".join([text.partition(b"\n")[0], *found, b"END", b""]) for text, found in zip((self.text, self.permanent), rows)))
 
 
 def permanent_of(place, answer):
@@ -56,9 +50,7 @@ def prints_differences(office, reader, known, date):
 def differences(text, permanent):
     """The lines that only one of two dockers has, in their order. A line of the permanent docker has `-` before it, and a line of the day's docker has
     `+`."""
-    if text == permanent:
-        return []
-    found = [(mark, row.decode("ascii")) for mark, docker, other in (("-", permanent, text), ("+", text, permanent)) for row in changes.lone(docker, other)]
+    found = [(mark, row.decode("ascii")) for mark, rows in zip("-+", changes.lone(permanent, text)) for row in rows]
     found.sort(key=lambda one: changes.place_in_day(lines.line_of(one[1])))
     return [f"{mark} {row}" for mark, row in found]
 
