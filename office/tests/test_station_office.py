@@ -228,6 +228,26 @@ def test_one_process_of_desk_prints_all_dockers(south, folder):
     assert len(pathlib.Path("starts").read_text(encoding="ascii").splitlines()) == 1
 
 
+@pytest.mark.parametrize("command", ["print", "morning"])
+def test_a_desk_that_ends_while_dockers_are_printed(south, folder, command):
+    """The desk ends instead of giving the second docker, with requests that it was sent ahead. Another one gives it, and all that follow."""
+    told = office(0, command, south, DAY, **STAND_IN, TROUBLE="ends 4", ONCE=str(folder / "once"), STARTS=str(folder / "starts"))
+    assert told.out.splitlines() == PRINTED
+    assert len(pathlib.Path("starts").read_text(encoding="ascii").splitlines()) == 2
+    if command == "morning":
+        told.says(f"{DAY}: 1 cancelled, 1 altered, 1 added at 3 of 3 places; ")
+
+
+@pytest.mark.parametrize("command", ["print", "morning"])
+def test_a_desk_that_refuses_a_docker(south, command):
+    """The second docker is reported, and the third one is printed."""
+    places = PLACES.split()
+    told = office(3, command, south, DAY, **STAND_IN, TROUBLE="refuses 4").says(f"{places[1]}: docker: want of memory").silent_on(f"{places[2]}: ")
+    assert told.dockers() == [places[0], places[2]]
+    if command == "morning":
+        told.says(f"{DAY}: 1 cancelled, 1 altered, 1 added at 2 of 2 places; ")
+
+
 def test_what_differs_from_the_permanent_timetable(south):
     told = office(0, "changes", south, DAY, **STAND_IN)
     assert told.said == ""
