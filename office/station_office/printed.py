@@ -4,6 +4,7 @@
 days after it. So the next morning, and the screen, can compare today and tomorrow with it."""
 import datetime
 import functools
+import io
 import os
 import pathlib
 import urllib.parse
@@ -56,18 +57,42 @@ def kept_in(path):
         return None
 
 
-def keeps(office, path, dockers):
-    """Writes a file of dockers, by date and place, and removes the oldest files if there are too many."""
+class Draft:
+    """A file of dockers that is made in memory, while the dockers are read one by one."""
+
+    def __init__(self):
+        self.content = io.BytesIO()
+        self.file = zipfile.ZipFile(self.content, "w", zipfile.ZIP_DEFLATED, compresslevel=1)
+        self.names = set()
+
+    def adds(self, date, place, text):
+        """Adds the docker of a place on a day, unless the file has it."""
+        if (name := entry(place, date)) not in self.names:
+            self.names.add(name)
+            self.file.writestr(name, text)
+
+    def adding(self, date, found):
+        """Gives the dockers of a day by place, and adds each."""
+        for place, text in found:
+            self.adds(date, place, text)
+            yield place, text
+
+    def made(self, comment):
+        """The content of the file, with a comment."""
+        self.file.comment = comment.encode("utf-8")
+        self.file.close()
+        return self.content.getbuffer()
+
+
+def keeps(office, path, draft):
+    """Writes a file of dockers, and removes the oldest files if there are too many."""
     path.parent.mkdir(exist_ok=True)
-    draft = path.with_name(f".{path.name}.{os.getpid()}")
+    new = path.with_name(f".{path.name}.{os.getpid()}")
     try:
-        with zipfile.ZipFile(draft, "w", zipfile.ZIP_DEFLATED, compresslevel=1) as file:
-            file.comment = f"{office.settings.now.isoformat(timespec='seconds')} {copy_of(office).name}".encode("utf-8")
-            for (date, place), text in sorted(dockers.items()):
-                file.writestr(entry(place, date), text)
-        os.replace(draft, path)
+        new.write_bytes(draft.made(f"{office.settings.now.isoformat(timespec='seconds')} {copy_of(office).name}"))
+        os.replace(new, path)
     finally:
-        draft.unlink(missing_ok=True)
+        new.unlink(missing_ok=True)
     for old in names_in(path.parent)[:-MOST]:
         old.unlink()
 
@@ -77,12 +102,12 @@ def names_in(folder):
     return sorted(folder.glob("[0-9]*.zip"))
 
 
-def keeps_printed(office, date, dockers):
+def keeps_printed(office, date, draft):
     """Keeps the dockers of a day that were just printed. Dockers of other places stay as they were last printed."""
     path = office.folder / PRINTED / f"{date}.zip"
-    both = dict(all_in(path))
-    both.update({(date, place): text for place, text in dockers.items()})
-    keeps(office, path, both)
+    for (day, place), text in all_in(path):
+        draft.adds(day, place, text)
+    keeps(office, path, draft)
 
 
 def all_in(path):
@@ -101,9 +126,9 @@ def last_printed(folder, date):
     return kept_in(folder / PRINTED / f"{date}.zip")
 
 
-def keeps_morning(office, dockers):
-    """Keeps what a morning knew, by date and place."""
-    keeps(office, office.folder / MORNINGS / f"{office.settings.now:%Y-%m-%d}.zip", dockers)
+def keeps_morning(office, draft):
+    """Keeps what a morning knew."""
+    keeps(office, office.folder / MORNINGS / f"{office.settings.now:%Y-%m-%d}.zip", draft)
 
 
 def mornings(folder):

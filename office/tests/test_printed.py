@@ -12,7 +12,10 @@ def keeps(folder, day, *places):
     """Has the morning of a day in June keep a docker of this day for each place: the place's code."""
     at = datetime.datetime(2024, 6, day, 5)
     office = types.SimpleNamespace(folder=folder, state=folder / "STATE", settings=types.SimpleNamespace(now=at))
-    printed.keeps_morning(office, {(f"{at.date()}", place): place.encode() for place in places})
+    draft = printed.Draft()
+    for place in places:
+        draft.adds(f"{at.date()}", place, place.encode())
+    printed.keeps_morning(office, draft)
 
 
 def test_each_file_is_opened_once(tmp_path, monkeypatch):
@@ -21,7 +24,7 @@ def test_each_file_is_opened_once(tmp_path, monkeypatch):
     for day in range(1, 13):
         keeps(tmp_path, day, "ASHFELD", "CORHAM")
     opened, zip_file = [], zipfile.ZipFile
-    monkeypatch.setattr(zipfile, "ZipFile", lambda path, *words, **more: opened.append(path.name) or zip_file(path, *words, **more))
+    monkeypatch.setattr(zipfile, "ZipFile", lambda path, *words, **more: opened.append(getattr(path, "name", "a draft")) or zip_file(path, *words, **more))
     for _ in range(3):
         mornings = printed.mornings(tmp_path)
         assert [it.moment.day for it in mornings] == list(range(12, 2, -1))
