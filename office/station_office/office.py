@@ -63,6 +63,8 @@ class Office:
         self.reported = set()
         # The desk that changes STATE, and the greatest numbers of what STATE had in this run.
         self.desk, self.counted = None, None
+        # A file that is being packed ahead.
+        self.packing = None
         # Whether a copy of STATE was kept in this run.
         self.is_copied = False
 
