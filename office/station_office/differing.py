@@ -1,4 +1,5 @@
 """How the dockers of the office's places differ from the permanent timetable."""
+import contextlib
 from typing import NamedTuple
 
 import changes
@@ -7,6 +8,7 @@ import lines
 
 from . import covering, thinned
 from .faults import Fault
+from .places import listed_places
 from .reporting import dockers_of, writing
 
 LACKING = "what differs from the permanent timetable can't be said: this needs a program desk that knows what is permanent, and there is none, or one of an older version"
@@ -55,20 +57,52 @@ def differences(text, permanent):
     return [f"{mark} {row}" for mark, row in found]
 
 
+class Differences:
+    """Which trains differ on a day from the permanent timetable, place by place, as long as STATE stays the same file."""
+
+    def __init__(self, reader, date):
+        self.reader, self.date = reader, date
+        self.state = dockers.identity(reader.state)
+        # A train that differs at several places is requested once.
+        self.departures, self.answers = changes.Departures(reader), {}
+        self.found = {}
+
+    def at(self, place, text, permanent):
+        """The trains that differ at a place, by kind, from its docker and the permanent one."""
+        if (place, text, permanent) not in self.found:
+            timetable = changes.Timetable(self.reader, place, Pair(self.date, text, permanent).reduced(), self.departures)
+            timetable.answers = self.answers
+            self.found[place, text, permanent] = changes.changes_of(timetable, self.date).trains
+        return self.found[place, text, permanent]
+
+    def is_for(self, reader, date):
+        """Whether this is what a reader says now of a day."""
+        return (self.reader, self.date, self.state) == (reader, date, dockers.identity(reader.state))
+
+
+def compares_ahead(office, date):
+    """Compares a place's dockers in each step, for `says_differences`. If one can't be had, it stops, and nothing is said of that here."""
+    if not (office.desk and office.desk.is_running() and dockers.is_date(date)):
+        return
+    office.differences = Differences(office.desk, date)
+    with contextlib.suppress(OSError, ValueError):
+        for place in listed_places(office):
+            day, permanent = office.desk.ask_all([(command, place, date) for command in ("print", "permanent")])
+            if (day.status, permanent.status) != (0, 0):
+                return
+            yield office.differences.at(place, day.text, permanent.text)
+
+
 def says_differences(office, reader, date, printed, is_covered):
     """Prints how many trains differ on a day at the places whose dockers were printed. If the day isn't covered, or a docker of it is thinned, it isn't said that nothing
     differs."""
-    if not printed:
-        return
     if reader.permanent(next(iter(printed)), date).status in dockers.LACKING:
         office.say(date, LACKING)
         return
-    found, number, departures, answers = {}, 0, changes.Departures(reader), {}
+    differences = office.differences if office.differences and office.differences.is_for(reader, date) else Differences(reader, date)
+    found, number = {}, 0
     for (place, text), answer in zip(printed.items(), reader.dockers([(place, date) for place in printed], "permanent")):
-        timetable = changes.Timetable(reader, place, Pair(date, text, permanent_of(place, answer)).reduced(), departures)
-        # A train that differs at several places is requested once.
-        timetable.answers = answers
-        told = changes.changes_of(timetable, date).trains
+        told = differences.at(place, text, permanent_of(place, answer))
         number += bool(told)
         for kind, those in told.items():
             found.setdefault(kind, set()).update(those)

@@ -105,14 +105,17 @@ class Packing:
         self.process.kill()
         self.process.wait()
 
-    def ends(self):
-        """Waits until the file is packed."""
+    def ends(self, meanwhile=()):
+        """Waits until the file is packed, and takes steps of other work meanwhile."""
+        for _ in meanwhile:
+            if self.process.poll() is not None:
+                break
         if self.process.wait() != 0:
             self.target.unlink(missing_ok=True)
             raise OSError(f"{self.path} can't be packed into {self.target.parent}")
 
 
-def pack(path, target):
-    """Packs a file with zstd into another file, on all processors."""
+def pack(path, target, meanwhile=()):
+    """Packs a file with zstd into another file, on all processors, and takes steps of other work meanwhile."""
     with Packing(path, target) as packing:
-        packing.ends()
+        packing.ends(meanwhile)

@@ -4,7 +4,7 @@
 days after it. So the next morning, and the screen, can compare today and tomorrow with it."""
 import datetime
 import functools
-import io
+import itertools
 import os
 import pathlib
 import urllib.parse
@@ -58,18 +58,24 @@ def kept_in(path):
 
 
 class Draft:
-    """A file of dockers that is made in memory, while the dockers are read one by one."""
+    """A file of dockers that is made in memory. A process of its own packs them, while others are read. It ends when nobody can send it dockers any more."""
 
     def __init__(self):
-        self.content = io.BytesIO()
-        self.file = zipfile.ZipFile(self.content, "w", zipfile.ZIP_DEFLATED, compresslevel=1)
         self.names = set()
+        # The texts of the dockers, and the file that is made of them.
+        self.texts, self.file = (open(os.memfd_create("dockers"), "w+b") for _ in range(2))
+        source, target = os.pipe()
+        self.child = os.fork()
+        if self.child == 0:
+            packs(source, self.texts.fileno(), self.file.fileno())
+        os.close(source)
+        self.lines = open(target, "w", encoding="ascii")
 
     def adds(self, date, place, text):
         """Adds the docker of a place on a day, unless the file has it."""
         if (name := entry(place, date)) not in self.names:
             self.names.add(name)
-            self.file.writestr(name, text)
+            self.sends(name, text)
 
     def adding(self, date, found):
         """Gives the dockers of a day by place, and adds each."""
@@ -77,11 +83,40 @@ class Draft:
             self.adds(date, place, text)
             yield place, text
 
+    def sends(self, name, text):
+        """Has the process pack a text. Without a name, the text is the comment of the file."""
+        print(name, self.texts.tell(), len(text), sep=" ", file=self.lines)
+        self.texts.write(text)
+        self.texts.flush()
+        self.lines.flush()
+
     def made(self, comment):
         """The content of the file, with a comment."""
-        self.file.comment = comment.encode("utf-8")
-        self.file.close()
-        return self.content.getbuffer()
+        self.sends("", comment.encode("utf-8"))
+        self.lines.close()
+        if os.waitpid(self.child, 0)[1] != 0:
+            raise OSError("the dockers can't be packed")
+        self.file.seek(0)
+        return self.file.read()
+
+
+def packs(lines, texts, target):
+    """Packs the texts that lines from a pipe name, in a process of its own, and ends it. Nothing else stays open there, such as the pipe to a desk."""
+    status = 1
+    try:
+        for first, last in itertools.pairwise(sorted([-1, lines, texts, target, os.sysconf("SC_OPEN_MAX")])):
+            os.closerange(first + 1, last)
+        with open(target, "w+b") as made, zipfile.ZipFile(made, "w", zipfile.ZIP_DEFLATED, compresslevel=1) as file:
+            for line in open(lines, encoding="ascii"):
+                name, at, length = line.rsplit(" ", 2)
+                text = os.pread(texts, int(length), int(at))
+                if name:
+                    file.writestr(name, text)
+                else:
+                    file.comment = text
+        status = 0
+    finally:
+        os._exit(status)
 
 
 def keeps(office, path, draft):

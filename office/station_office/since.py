@@ -2,7 +2,6 @@
 import collections
 import contextlib
 import datetime
-import itertools
 import pathlib
 import shutil
 import zoneinfo
@@ -164,14 +163,19 @@ def prints_day(office, reader, known, earlier, date):
         office.say(date, f"nothing changed since {since}")
 
 
-def says_news(office, reader, known, date, today):
+def draft_of(date, today):
+    """The file of what a morning knows, with the dockers of today. They are packed while others are read."""
+    draft = printed.Draft()
+    collections.deque(draft.adding(date, today.items()), maxlen=0)
+    return draft
+
+
+def says_news(office, reader, known, date, today, draft):
     """Prints how many lines are gone and new today and tomorrow since an earlier morning, at the places whose dockers of today were printed. Keeps what this morning
     knows for the next one, and for the screen."""
-    if not today:
-        return
     kept = [it for it in printed.mornings(office.folder) if it.moment.date() < office.settings.now.date()]
-    draft = printed.Draft()
-    for number, (day, found) in enumerate(itertools.chain([(date, today.items())], following(reader, date, today))):
+    says_day(office, known, kept, date, today.items())
+    for number, (day, found) in enumerate(following(reader, date, today), 1):
         found = draft.adding(day, found)
         if number < SAID:
             says_day(office, known, kept, day, found)
