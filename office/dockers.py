@@ -56,11 +56,11 @@ LACKING = (UNKNOWN, NO_REQUEST)
 # one of the newer requests, this fact is remembered too.
 LISTS = (("files",), ("known",), ("places",))
 NEWER = ("permanent", "detail", "permanent-detail")
-# The most bytes of requests that are sent together. Every pipe has room for 4096, so for these and for the requests that were sent ahead.
+# The most bytes of requests that are sent together. Every pipe holds 4096, which is enough for these and for the requests that were sent ahead.
 TOGETHER = 3072
 # How many times many requests are sent, if the process ends.
 TRIES = 2
-# For how many of the next dockers a process is asked before one is read. For so many bytes of them its pipe gets room, if the system allows that.
+# How many of the next dockers a process is asked for before one is read, and how many bytes of answers its pipe then holds, if the system allows that.
 AHEAD, ROOM = 8, 1 << 20
 # The most bytes that are read at once from a process.
 AT_ONCE = 1 << 20

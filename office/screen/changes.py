@@ -73,7 +73,7 @@ def apart(text, other):
 
 
 def lone(text, other):
-    """The lines that only one of two dockers has, ignoring STP indicators: those of the first docker, and those of the other one."""
+    """The lines that only the first of two dockers has, and the lines that only the other has, ignoring STP indicators."""
     both = apart(text, other)
     return [unmatched(*both), unmatched(*reversed(both))]
 
