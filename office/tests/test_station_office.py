@@ -250,6 +250,16 @@ def test_a_desk_that_refuses_a_docker(south, command):
         told.says(f"{DAY}: 1 cancelled, 1 altered, 1 added at 2 of 2 places; ")
 
 
+def test_a_desk_of_an_older_version_that_never_writes(south, folder):
+    """A morning that changes nothing needs only its answers."""
+    program = folder / "older"
+    program.write_text(f'#!/bin/sh\n[ "$1" = --write ] && echo "desk: usage: STATE" >&2 && exit 2\nexec {STAND_IN["DESK"]} "$@"\n')
+    program.chmod(0o755)
+    told = office(0, "morning", south, DAY, DESK=str(program))
+    assert told.out.splitlines() == PRINTED
+    told.says(f"{DAY}: 1 cancelled, 1 altered, 1 added at 3 of 3 places; ")
+
+
 @pytest.mark.parametrize("trouble", ["", "refuses 4", "ends 4", "ends 9"])
 def test_a_morning_compares_dockers_while_state_is_packed(south, folder, trouble):
     """A slow zstd gives it time for all of them. If one can't be had then, it is asked for again later."""
