@@ -7,7 +7,10 @@ as STATE's file is the same. Both ways give the same bytes.
 DOCKER names the program `docker`, and DESK the program `desk`. Without them, the programs that ./install has put here are used. If there are none, the
 programs of the sources around this file are used, and then those that ./install has put elsewhere on the PATH."""
 import collections
+import contextlib
 import datetime
+import fcntl
+import itertools
 import os
 import pathlib
 import re
@@ -53,8 +56,12 @@ LACKING = (UNKNOWN, NO_REQUEST)
 # one of the newer requests, this fact is remembered too.
 LISTS = (("files",), ("known",), ("places",))
 NEWER = ("permanent", "detail", "permanent-detail")
-# The most bytes of requests that are sent together. Every pipe has room for this many.
-TOGETHER = 4096
+# The most bytes of requests that are sent together. Every pipe holds 4096, which is enough for these and for the requests that were sent ahead.
+TOGETHER = 3072
+# How many times many requests are sent, if the process ends.
+TRIES = 2
+# How many of the next dockers a process is asked for before one is read, and how many bytes of answers its pipe then holds, if the system allows that.
+AHEAD, ROOM = 8, 1 << 20
 # The most bytes that are read at once from a process.
 AT_ONCE = 1 << 20
 
@@ -304,45 +311,63 @@ class Desk(Reader):
     def __init__(self, program, state):
         super().__init__(program, state)
         self.process = None
+        # How many times the process has ended by itself.
+        self.ends = 0
         self.seen = None
         self.knowledge = None
         self.lists = {}
         # What the process has written and nobody has read yet.
         self.came = bytearray()
+        # The requests whose answers nobody has read yet, in their order, and the answers that were read and that nobody wanted yet.
+        self.sent, self.early = collections.deque(), {}
 
     def ask(self, request):
-        return self.tried(lambda: [self.kept(request) or self.answered(request)], 1)[0]
+        answer, fault = self.tried(lambda: self.kept(request) or self.answered(request))
+        return answer or fault
 
     def ask_all(self, requests):
         """The answers to many requests. All are sent before the first answer is read."""
-        return self.tried(lambda: [answer for part in together(requests) for answer in self.exchange(part)], len(requests))
+        answers, fault = self.tried(lambda: [answer for part in together(requests) for answer in self.exchange(part)])
+        return [fault] * len(requests) if fault else answers
 
     def dockers(self, wanted, command="print"):
-        """The dockers of many places, as above. Those that aren't at hand are asked for together, so that the process makes the next ones while these are read."""
+        """The dockers of many places, as above, all of the STATE that the first one is of. The process makes the next ones while one is read. If it ends twice, all that
+        are left have the fault."""
         refused = [wrong_place(tiploc) or wrong_day(date) for tiploc, date in wanted]
-        requests = [(command, *one) for one, fault in zip(wanted, refused) if fault is None]
-        answers = iter(self.tried(lambda: self.several(requests), len(requests)) if requests else ())
-        return [fault or next(answers) for fault in refused]
+        left = collections.deque((command, *one) for one, wrong in zip(wanted, refused) if not wrong)
+        most, renews, fault = self.ends + TRIES, True, None
+        for wrong in refused:
+            if not wrong and not fault:
+                request, ahead = left.popleft(), tuple(itertools.islice(left, AHEAD))
+                answer, fault = self.tried(lambda: self.kept(request) or self.answered(request, ahead), most, renews)
+                renews = False
+            yield wrong or fault or answer
 
-    def several(self, requests):
-        """The answers to requests, from what is at hand and from the process."""
-        lacking = [request for request in requests if not self.kept(request)]
-        new = iter([answer for part in together(lacking) for answer in self.exchange(part)])
-        return [self.kept(request) or next(new) for request in requests]
-
-    def tried(self, asks, number):
-        """Reads this number of answers. If the process ends, all requests are sent again. If that fails too, each answer is the fault."""
+    def tried(self, asks, most=None, renews=True):
+        """What `asks` returns, and no fault. If the process ends, it is asked again, until it has ended twice, or this number of times since it was first started. Then the
+        fault is returned, and nothing else."""
         with self.turn:
-            for _ in range(2):
+            most = most or self.ends + TRIES
+            while self.ends < most:
                 try:
-                    fault = self.renewed()
+                    fault = self.renewed() if renews or self.process is None else None
                     if fault is None:
-                        return asks()
+                        return asks(), None
                 except Ended:
+                    self.ends += 1
                     fault = self.end()
                 if fault is not None:
-                    return [fault] * number
-            return [Answer(4, b"desk: ended twice without an answer\n")] * number
+                    return None, fault
+            return None, Answer(4, b"desk: ended twice without an answer\n")
+
+    def begins(self):
+        """Starts the process, so that it reads STATE before it is asked. If it can't be started, the first request fails."""
+        with self.turn, contextlib.suppress(OSError):
+            self.renewed()
+
+    def is_running(self):
+        """Whether the process was started and hasn't ended."""
+        return self.process is not None and self.process.poll() is None
 
     def at_hand(self, tiploc, date):
         """The docker of a place, if it can be had without reading STATE; here it always can."""
@@ -352,9 +377,15 @@ class Desk(Reader):
         """The list that this request asks for, if it was read since STATE changed; or the answer that the process doesn't know the request."""
         return self.lists.get(request) or self.lists.get(request[:1])
 
-    def answered(self, request):
-        """The answer of the process. A list is kept until STATE changes, and so is the answer that there is none."""
-        answer = self.exchange([request])[0]
+    def forgets(self):
+        """Forgets the answers, since STATE has changed."""
+        self.lists.clear()
+        self.early.clear()
+
+    def answered(self, request, ahead=()):
+        """The answer of the process, which is asked for other answers ahead. A list is kept until STATE changes, and so is the answer that there is none."""
+        self.sends([one for one in (request, *ahead) if one not in self.early and one not in self.sent and not self.kept(one)])
+        answer = self.reads(request)
         if request in LISTS and answer.status in (0, NO_REQUEST) or request[0] in NEWER and answer.status == NO_REQUEST:
             self.lists[request[:1]] = answer
         return answer
@@ -362,34 +393,53 @@ class Desk(Reader):
     def renewed(self):
         """Makes sure that the process knows exactly what STATE's file has now. Returns the fault if that fails."""
         now, known = identity(self.state), knowledge(self.state)
-        if self.process is None or now != self.seen:
-            self.lists.clear()
         if self.process is None:
+            self.forgets()
             self.start()
         elif now != self.seen:
             if grew(self.knowledge, known):
                 answer = self.exchange([("renew",)])[0]
+                self.forgets()
                 if answer.status != 0:
                     return answer
             else:
                 # Another state took STATE's place. The process would join it with the state in memory.
                 self.end()
+                self.forgets()
                 self.start()
         self.seen, self.knowledge = now, known
         return None
 
     def start(self):
-        self.process = subprocess.Popen([self.program, self.state], stdin=subprocess.PIPE, stdout=subprocess.PIPE, stderr=subprocess.PIPE)
+        self.runs([self.program, self.state])
+
+    def runs(self, words, folder=None):
+        """Starts the process, with room for the dockers that it makes ahead."""
+        self.process = subprocess.Popen(words, cwd=folder, stdin=subprocess.PIPE, stdout=subprocess.PIPE, stderr=subprocess.PIPE)
+        with contextlib.suppress(OSError):
+            fcntl.fcntl(self.process.stdout, fcntl.F_SETPIPE_SZ, ROOM)
 
     def exchange(self, requests):
-        """Sends requests, one per line, and reads their answers. A process that takes too long is ended."""
-        end = time.monotonic() + PATIENCE
+        """Sends requests, and reads their answers."""
+        self.sends(requests)
+        return [self.reads(request) for request in requests]
+
+    def sends(self, requests):
+        """Sends requests, one per line."""
         try:
             self.process.stdin.write(b"".join(map(line_of, requests)))
             self.process.stdin.flush()
-            return [self.read(end) for _ in requests]
         except OSError as error:
             raise Ended from error
+        self.sent.extend(requests)
+
+    def reads(self, request):
+        """The answer to a request that was sent. The answers before it are kept until they are wanted. A process that takes too long is ended."""
+        end = time.monotonic() + PATIENCE
+        while request not in self.early:
+            answer = self.read(end)
+            self.early[self.sent.popleft()] = answer
+        return self.early.pop(request)
 
     def read(self, end):
         """Reads an answer: a header `STATUS LINES BYTES`, and then this number of bytes. Waits for it up to this time."""
@@ -421,7 +471,8 @@ class Desk(Reader):
     def end(self):
         """Ends the process. If it had ended by itself with a line on standard error, for example because STATE is refused, that line is the fault."""
         process, self.process = self.process, None
-        self.came.clear()
+        for unread in (self.came, self.sent, self.early):
+            unread.clear()
         if process is None:
             return None
         try:

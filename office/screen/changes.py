@@ -3,6 +3,7 @@
 Trains are matched by UID and start day, and the calls of a train by their order at the place. Lines that differ only in their STP indicator count as equal."""
 import collections
 import datetime
+import itertools
 from typing import NamedTuple
 
 import lines
@@ -18,6 +19,8 @@ DAYS = 3
 ORDER = "APJVND"
 # The word for a missing event of a call.
 EVENTS = {"A": "arrival", "P": "pass", "D": "departure"}
+# The columns of the UID in a line of a docker's text.
+UID = slice(lines.COLUMNS["UID"][0] - 1, lines.COLUMNS["UID"][1])
 # What a page says of a train that isn't here, or isn't here at a certain time: first for a train that stops, then for a train that passes.
 NOT = ("doesn’t call", "doesn’t pass")
 
@@ -59,20 +62,36 @@ def bare(line):
     return line[:first - 1] + line[last:]
 
 
+def apart(text, other):
+    """For each of two dockers, its lines of the UIDs whose lines aren't the same on both, STP indicators included. The other trains needn't be compared."""
+    if text == other:
+        return [], []
+    both = [docker.split(b"\n")[1:-2] for docker in (text, other)]
+    one, two = map(collections.Counter, both)
+    uids = {line[UID] for line, _ in one.items() ^ two.items()}
+    return [[line for line in found if line[UID] in uids] for found in both]
+
+
 def lone(text, other):
-    """The lines that one docker has and the other lacks, ignoring STP indicators."""
-    left = collections.Counter(map(bare, other.split(b"\n")[1:-2]))
-    for line in text.split(b"\n")[1:-2]:
+    """The lines that only the first of two dockers has, and the lines that only the other has, ignoring STP indicators."""
+    both = apart(text, other)
+    return [unmatched(*both), unmatched(*reversed(both))]
+
+
+def unmatched(found, others):
+    """The lines that have no counterpart among others."""
+    left, alone = collections.Counter(map(bare, others)), []
+    for line in found:
         if left[key := bare(line)]:
             left[key] -= 1
         else:
-            yield line
+            alone.append(line)
+    return alone
 
 
 def uids_of(text, permanent):
     """The UIDs whose lines differ between two dockers."""
-    first, last = lines.COLUMNS["UID"]
-    return {line[first - 1:last].decode("ascii").strip() for line in (*lone(text, permanent), *lone(permanent, text))}
+    return {line[UID].decode("ascii").strip() for line in itertools.chain(*lone(text, permanent))}
 
 
 def rows_of(docker):

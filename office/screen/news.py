@@ -46,7 +46,7 @@ def news_of(moment, earlier, text, differing):
             left[line] -= 1
         else:
             new.add(number)
-    lost = tuple(lines.line_of(line.decode("ascii")) for line in changes.lone(earlier, text))
+    lost = tuple(lines.line_of(line.decode("ascii")) for line in changes.lone(earlier, text)[0])
     gone = {line._replace(stp="") for line, _ in (differing.gone if differing else ())}
     return News(moment, frozenset(new), lost, frozenset(gone & {line._replace(stp="") for line in lost}))
 

@@ -1,4 +1,5 @@
 """The folders that extracts go through, and the list of extracts that were taken."""
+import contextlib
 import filecmp
 import itertools
 import os
@@ -97,6 +98,19 @@ def free_name(folder, name):
     return next(name + number for number in numbers if not any((folder / f"{name}{number}{end}").exists() for end in ("", ".zst", ".why")))
 
 
+@contextlib.contextmanager
+def packs_ahead(office, path):
+    """Packs a file that will be moved, while the statements inside the block look at it. If that can't be done, it is packed when it is moved."""
+    with contextlib.ExitStack() as stack:
+        with contextlib.suppress(Fault, OSError):
+            if packing.packing_of(path) is None and not office.shortage(office.needed(path)):
+                office.packing = stack.enter_context(packing.Packing(path, office.work / "packed"))
+        try:
+            yield
+        finally:
+            office.packing = None
+
+
 def stores(office, path, name, folder, is_moved):
     """Puts a file into another folder, packed with zstd if it isn't packed yet. If the disk is full, a file that is moved goes there as it is. Returns
     the new file."""
@@ -105,7 +119,10 @@ def stores(office, path, name, folder, is_moved):
     target, packed = into / free_name(into, name), office.work / "packed"
     try:
         if packing.packing_of(path) is None:
-            packing.pack(path, packed)
+            if office.packing and office.packing.path == path:
+                office.packing.ends()
+            else:
+                packing.pack(path, packed)
             target = target.with_name(f"{target.name}.zst")
         else:
             shutil.copyfile(path, packed)

@@ -63,6 +63,10 @@ class Office:
         self.reported = set()
         # The desk that changes STATE, and the greatest numbers of what STATE had in this run.
         self.desk, self.counted = None, None
+        # A file that is being packed ahead, and steps of other work to do while STATE is packed.
+        self.packing, self.meanwhile = None, ()
+        # What was found to differ from the permanent timetable.
+        self.differences = None
         # Whether a copy of STATE was kept in this run.
         self.is_copied = False
 

@@ -88,12 +88,34 @@ def head_of(path, size=512):
         return stream.read(size)
 
 
-def pack(path, target):
-    """Packs a file with zstd into another file, on all processors."""
-    try:
-        subprocess.run(["zstd", "-qfT0", "-o", target, "--", path], stdin=subprocess.DEVNULL, stderr=subprocess.PIPE, check=True)
-    except FileNotFoundError:
-        raise Fault(4, path, "there is no zstd here to pack it") from None
-    except subprocess.CalledProcessError:
-        pathlib.Path(target).unlink(missing_ok=True)
-        raise OSError(f"{path} can't be packed into {pathlib.Path(target).parent}") from None
+class Packing:
+    """A file that zstd packs into another file, on all processors, while other things are done."""
+
+    def __init__(self, path, target):
+        self.path, self.target = path, pathlib.Path(target)
+        try:
+            self.process = subprocess.Popen(["zstd", "-qfT0", "-o", target, "--", path], stdin=subprocess.DEVNULL, stderr=subprocess.DEVNULL)
+        except FileNotFoundError:
+            raise Fault(4, path, "there is no zstd here to pack it") from None
+
+    def __enter__(self):
+        return self
+
+    def __exit__(self, *_):
+        self.process.kill()
+        self.process.wait()
+
+    def ends(self, meanwhile=()):
+        """Waits until the file is packed, and takes steps of other work meanwhile."""
+        for _ in meanwhile:
+            if self.process.poll() is not None:
+                break
+        if self.process.wait() != 0:
+            self.target.unlink(missing_ok=True)
+            raise OSError(f"{self.path} can't be packed into {self.target.parent}")
+
+
+def pack(path, target, meanwhile=()):
+    """Packs a file with zstd into another file, on all processors, and takes steps of other work meanwhile."""
+    with Packing(path, target) as packing:
+        packing.ends(meanwhile)

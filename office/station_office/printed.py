@@ -4,6 +4,7 @@
 days after it. So the next morning, and the screen, can compare today and tomorrow with it."""
 import datetime
 import functools
+import itertools
 import os
 import pathlib
 import urllib.parse
@@ -56,18 +57,77 @@ def kept_in(path):
         return None
 
 
-def keeps(office, path, dockers):
-    """Writes a file of dockers, by date and place, and removes the oldest files if there are too many."""
-    path.parent.mkdir(exist_ok=True)
-    draft = path.with_name(f".{path.name}.{os.getpid()}")
+class Draft:
+    """A file of dockers that is made in memory. A process of its own packs them, while others are read. It ends when nobody can send it dockers any more."""
+
+    def __init__(self):
+        self.names = set()
+        # The texts of the dockers, and the file that is made of them.
+        self.texts, self.file = (open(os.memfd_create("dockers"), "w+b") for _ in range(2))
+        source, target = os.pipe()
+        self.child = os.fork()
+        if self.child == 0:
+            packs(source, self.texts.fileno(), self.file.fileno())
+        os.close(source)
+        self.lines = open(target, "w", encoding="ascii")
+
+    def adds(self, date, place, text):
+        """Adds the docker of a place on a day, unless the file has it."""
+        if (name := entry(place, date)) not in self.names:
+            self.names.add(name)
+            self.sends(name, text)
+
+    def adding(self, date, found):
+        """Gives the dockers of a day by place, and adds each."""
+        for place, text in found:
+            self.adds(date, place, text)
+            yield place, text
+
+    def sends(self, name, text):
+        """Has the process pack a text. Without a name, the text is the comment of the file."""
+        print(name, self.texts.tell(), len(text), sep=" ", file=self.lines)
+        self.texts.write(text)
+        self.texts.flush()
+        self.lines.flush()
+
+    def made(self, comment):
+        """The content of the file, with a comment."""
+        self.sends("", comment.encode("utf-8"))
+        self.lines.close()
+        if os.waitpid(self.child, 0)[1] != 0:
+            raise OSError("the dockers can't be packed")
+        self.file.seek(0)
+        return self.file.read()
+
+
+def packs(lines, texts, target):
+    """Packs the texts that lines from a pipe name, in a process of its own, and ends it. Nothing else stays open there, such as the pipe to a desk."""
+    status = 1
     try:
-        with zipfile.ZipFile(draft, "w", zipfile.ZIP_DEFLATED, compresslevel=1) as file:
-            file.comment = f"{office.settings.now.isoformat(timespec='seconds')} {copy_of(office).name}".encode("utf-8")
-            for (date, place), text in sorted(dockers.items()):
-                file.writestr(entry(place, date), text)
-        os.replace(draft, path)
+        for first, last in itertools.pairwise(sorted([-1, lines, texts, target, os.sysconf("SC_OPEN_MAX")])):
+            os.closerange(first + 1, last)
+        with open(target, "w+b") as made, zipfile.ZipFile(made, "w", zipfile.ZIP_DEFLATED, compresslevel=1) as file:
+            for line in open(lines, encoding="ascii"):
+                name, at, length = line.rsplit(" ", 2)
+                text = os.pread(texts, int(length), int(at))
+                if name:
+                    file.writestr(name, text)
+                else:
+                    file.comment = text
+        status = 0
     finally:
-        draft.unlink(missing_ok=True)
+        os._exit(status)
+
+
+def keeps(office, path, draft):
+    """Writes a file of dockers, and removes the oldest files if there are too many."""
+    path.parent.mkdir(exist_ok=True)
+    new = path.with_name(f".{path.name}.{os.getpid()}")
+    try:
+        new.write_bytes(draft.made(f"{office.settings.now.isoformat(timespec='seconds')} {copy_of(office).name}"))
+        os.replace(new, path)
+    finally:
+        new.unlink(missing_ok=True)
     for old in names_in(path.parent)[:-MOST]:
         old.unlink()
 
@@ -77,12 +137,12 @@ def names_in(folder):
     return sorted(folder.glob("[0-9]*.zip"))
 
 
-def keeps_printed(office, date, dockers):
+def keeps_printed(office, date, draft):
     """Keeps the dockers of a day that were just printed. Dockers of other places stay as they were last printed."""
     path = office.folder / PRINTED / f"{date}.zip"
-    both = dict(all_in(path))
-    both.update({(date, place): text for place, text in dockers.items()})
-    keeps(office, path, both)
+    for (day, place), text in all_in(path):
+        draft.adds(day, place, text)
+    keeps(office, path, draft)
 
 
 def all_in(path):
@@ -101,9 +161,9 @@ def last_printed(folder, date):
     return kept_in(folder / PRINTED / f"{date}.zip")
 
 
-def keeps_morning(office, dockers):
-    """Keeps what a morning knew, by date and place."""
-    keeps(office, office.folder / MORNINGS / f"{office.settings.now:%Y-%m-%d}.zip", dockers)
+def keeps_morning(office, draft):
+    """Keeps what a morning knew."""
+    keeps(office, office.folder / MORNINGS / f"{office.settings.now:%Y-%m-%d}.zip", draft)
 
 
 def mornings(folder):

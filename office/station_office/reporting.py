@@ -98,15 +98,15 @@ def dockers_of(office, reader, date):
 
 def prints_places(office, reader, known, date):
     """Writes the dockers of the office's places, each under lines that say how much is known of its day. Keeps what was written, and returns it by place."""
-    written = {}
-    for place, text in dockers_of(office, reader, date):
+    written, draft = {}, printed.Draft()
+    for place, text in draft.adding(date, dockers_of(office, reader, date)):
         with writing():
             sys.stdout.buffer.write(covering.head(office, known, date, place) + text)
             sys.stdout.flush()
         says_unknown(office, place, text)
         written[place] = text
     if written:
-        printed.keeps_printed(office, date, written)
+        printed.keeps_printed(office, date, draft)
     return written
 
 

@@ -1,10 +1,12 @@
 """What changed on the dockers of the office's places since an earlier time, even if the permanent timetable itself changed."""
+import collections
 import contextlib
 import datetime
 import pathlib
 import shutil
 import zoneinfo
 
+import changes
 import dockers
 
 from . import copying, covering, locking, packing, printed
@@ -15,6 +17,8 @@ from .reporting import dockers_of, writing
 
 # The command, and the earlier time that means what this office last printed for a day.
 COMMAND, PRINT = "changes --since", "print"
+# On how many days, from the morning's day on, a morning says what changed.
+SAID = 2
 ZONE = zoneinfo.ZoneInfo("Europe/London")
 
 
@@ -159,38 +163,54 @@ def prints_day(office, reader, known, earlier, date):
         office.say(date, f"nothing changed since {since}")
 
 
-def says_news(office, reader, known, date, today):
+def draft_of(date, today):
+    """The file of what a morning knows, with the dockers of today. They are packed while others are read."""
+    draft = printed.Draft()
+    collections.deque(draft.adding(date, today.items()), maxlen=0)
+    return draft
+
+
+def says_news(office, reader, known, date, today, draft):
     """Prints how many lines are gone and new today and tomorrow since an earlier morning, at the places whose dockers of today were printed. Keeps what this morning
     knows for the next one, and for the screen."""
-    if not today:
-        return
     kept = [it for it in printed.mornings(office.folder) if it.moment.date() < office.settings.now.date()]
-    found = {(date, place): text for place, text in today.items()} | following(reader, date, today)
-    for day in sorted({day for day, _ in found})[:2]:
-        says_day(office, known, kept, day, {place: text for (of, place), text in found.items() if of == day})
-    printed.keeps_morning(office, found)
+    says_day(office, known, kept, date, today.items())
+    for number, (day, found) in enumerate(following(reader, date, today), 1):
+        found = draft.adding(day, found)
+        if number < SAID:
+            says_day(office, known, kept, day, found)
+        else:
+            collections.deque(found, maxlen=0)
+    printed.keeps_morning(office, draft)
 
 
 def following(reader, date, places):
-    """The dockers of the days after a day that a morning keeps, by day and place. Without a desk there are none, because each docker would take a second."""
+    """The days after a day of which a morning keeps dockers, each with its dockers by place. The dockers are read one by one, and the next days after them. Without a desk there
+    are none, because each docker would take a second."""
     first = datetime.date.fromisoformat(date)
     days = [(first + datetime.timedelta(after)).isoformat() for after in range(1, printed.AHEAD if reader.has_trains else 1)]
-    wanted = [(place, day) for day in days for place in places]
-    return {(day, place): answer.text for (place, day), answer in zip(wanted, reader.dockers(wanted)) if answer.status == 0}
+    answers = reader.dockers([(place, day) for day in days for place in places])
+    for day in days:
+        yield day, ((place, answer.text) for place, answer in zip(places, answers) if answer.status == 0)
 
 
-def says_day(office, known, kept, day, dockers_by_place):
-    """Prints what changed on a day, of which these are the dockers."""
-    before = {place: found for place in dockers_by_place if (found := printed.before(kept, place, day))}
+def says_day(office, known, kept, day, found):
+    """Prints what changed on a day, of which these are the dockers by place."""
+    number, before, changed = 0, [], []
+    for number, (place, text) in enumerate(found, 1):
+        if earlier := printed.before(kept, place, day):
+            before.append(earlier[0])
+            changed.append([len(rows) for rows in changes.lone(earlier[1], text)])
+    if not number:
+        return
     if not before:
         office.say(day, "no earlier morning kept its dockers, so what changed since then isn't known")
         return
-    oldest = min((kept for kept, _ in before.values()), key=lambda kept: kept.moment)
+    oldest = min(before, key=lambda kept: kept.moment)
     moment, copy = oldest.moment, office.folder / "copies" / oldest.copy
-    changed = [differences(dockers_by_place[place], text) for place, (_, text) in before.items()]
-    gone, new = (sum(line.startswith(mark) for lines in changed for line in lines) for mark in "-+")
+    gone, new = map(sum, zip(*changed))
     if gone or new:
-        at = f"at {sum(map(bool, changed))} of {len(dockers_by_place)} {'place' if len(dockers_by_place) == 1 else 'places'}"
+        at = f"at {sum(map(any, changed))} of {number} {'place' if number == 1 else 'places'}"
         prints = f"; `station-office changes --since {copy} {office.state} {day}` prints them" if copy.exists() else ""
         office.say(day, f"{gone} {'line' if gone == 1 else 'lines'} gone and {new} new {at} since {moment:%Y-%m-%d %H:%M}{prints}")
     elif not known.gaps(day):

@@ -150,7 +150,7 @@ def sends(office):
         return
     part, state = target.with_name(f".{target.name}.part"), identity_text(office)
     try:
-        packing.pack(office.state, part)
+        packing.pack(office.state, part, office.meanwhile)
         office.beside("sent").write_text("\n".join([digest_of(part), *sent(office)[:1]]) + "\n", encoding="utf-8")
         os.replace(part, target)
         office.beside("sent-state").write_text(state, encoding="utf-8")

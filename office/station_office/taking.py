@@ -1,4 +1,5 @@
 """Takes extracts. Each is checked before it is believed."""
+import contextlib
 import pathlib
 import re
 from typing import NamedTuple
@@ -44,14 +45,15 @@ def is_own(office, path):
 
 def takes(office, path):
     """Takes an extract that is whole and believed. A file that came through in/ goes to another folder; if STATE is at fault, the file waits."""
-    try:
-        found = looks_at(office, path)
-        if not is_known(office, path, found):
-            joins(office, path, found)
-        keeps(office, path, found)
-    except PutAside as fault:
-        puts_aside(office, path, fault)
-        raise
+    with archive.packs_ahead(office, path) if is_own(office, path) else contextlib.nullcontext():
+        try:
+            found = looks_at(office, path)
+            if not is_known(office, path, found):
+                joins(office, path, found)
+            keeps(office, path, found)
+        except PutAside as fault:
+            puts_aside(office, path, fault)
+            raise
 
 
 def looks_at(office, path):

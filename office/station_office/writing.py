@@ -2,7 +2,6 @@
 import contextlib
 import os
 import pathlib
-import subprocess
 
 import dockers
 
@@ -23,7 +22,7 @@ class Writer(dockers.Desk):
     def start(self):
         """Starts the process. The folder is there as long as this station-office holds the lock. After that the desk may only read."""
         words, folder = (["--write"], self.folder) if self.folder.exists() else ([], None)
-        self.process = subprocess.Popen([self.program, *words, self.state], cwd=folder, stdin=subprocess.PIPE, stdout=subprocess.PIPE, stderr=subprocess.PIPE)
+        self.runs([self.program, *words, self.state], folder)
 
     def renewed(self):
         """As for any desk, if everything is saved. A process that ended with unsaved changes isn't started again, since it would answer without them."""
@@ -40,12 +39,12 @@ class Writer(dockers.Desk):
     def carries_out(self, *request):
         """Carries out a request that changes what is in memory, or saves it. Such a request isn't sent twice."""
         with self.turn:
-            if request != ("save",):
-                self.lists.clear()
             try:
                 answer = self.renewed() or self.exchange([request])[0]
             except dockers.Ended:
                 answer = self.end() or dockers.Answer(4, b"desk: ended without an answer\n")
+            if request != ("save",):
+                self.forgets()
             if answer.status == 0:
                 self.is_unsaved = request != ("save",)
             return answer
@@ -68,6 +67,12 @@ def writer_of(office):
     """The desk that changes STATE. One process serves a whole run."""
     office.desk = office.desk or Writer(judging.desk_program(), office.state, office.work)
     return office.desk
+
+
+def begins(office):
+    """Has the desk read STATE while files are looked at. If there is no desk, that is said when one is needed."""
+    if dockers.programs()[1]:
+        writer_of(office).begins()
 
 
 @contextlib.contextmanager

@@ -228,6 +228,55 @@ def test_one_process_of_desk_prints_all_dockers(south, folder):
     assert len(pathlib.Path("starts").read_text(encoding="ascii").splitlines()) == 1
 
 
+@pytest.mark.parametrize("command", ["print", "morning"])
+def test_a_desk_that_ends_while_dockers_are_printed(south, folder, command):
+    """The desk ends instead of giving the second docker, with requests that it was sent ahead. Another one gives it, and all that follow."""
+    office(0, "send", south)
+    told = office(0, command, south, DAY, **STAND_IN, TROUBLE="ends 4", ONCE=str(folder / "once"), STARTS=str(folder / "starts"))
+    assert told.out.splitlines() == PRINTED
+    assert len(pathlib.Path("starts").read_text(encoding="ascii").splitlines()) == 2
+    if command == "morning":
+        told.says(f"{DAY}: 1 cancelled, 1 altered, 1 added at 3 of 3 places; ")
+
+
+@pytest.mark.parametrize("command", ["print", "morning"])
+def test_a_desk_that_refuses_a_docker(south, command):
+    """The second docker is reported, and the third one is printed."""
+    places = PLACES.split()
+    office(0, "send", south)
+    told = office(3, command, south, DAY, **STAND_IN, TROUBLE="refuses 4").says(f"{places[1]}: docker: want of memory").silent_on(f"{places[2]}: ")
+    assert told.dockers() == [places[0], places[2]]
+    if command == "morning":
+        told.says(f"{DAY}: 1 cancelled, 1 altered, 1 added at 2 of 2 places; ")
+
+
+def test_a_desk_of_an_older_version_that_never_writes(south, folder):
+    """A morning that changes nothing needs only its answers."""
+    program = folder / "older"
+    program.write_text(f'#!/bin/sh\n[ "$1" = --write ] && echo "desk: usage: STATE" >&2 && exit 2\nexec {STAND_IN["DESK"]} "$@"\n')
+    program.chmod(0o755)
+    told = office(0, "morning", south, DAY, DESK=str(program))
+    assert told.out.splitlines() == PRINTED
+    told.says(f"{DAY}: 1 cancelled, 1 altered, 1 added at 3 of 3 places; ")
+
+
+@pytest.mark.parametrize("trouble", ["", "refuses 4", "ends 4", "ends 9"])
+def test_a_morning_compares_dockers_while_state_is_packed(south, folder, trouble):
+    """A slow zstd gives it time for all of them. If one can't be had then, it is asked for again later."""
+    program = folder / "bin" / "zstd"
+    program.parent.mkdir()
+    program.write_text(f'#!/bin/sh\nsleep 1.5\nexec {shutil.which("zstd")} "$@"\n')
+    program.chmod(0o755)
+    path = f"{program.parent}:{os.environ['PATH']}"
+    told = office(0, "morning", south, DAY, **STAND_IN, PATH=path, ASKED=str(folder / "asked"), TROUBLE=trouble, ONCE=str(folder / "once"))
+    assert told.out.splitlines() == PRINTED
+    told.says(f"{DAY}: 1 cancelled, 1 altered, 1 added at 3 of 3 places; ")
+    asked = pathlib.Path("asked").read_text(encoding="ascii").splitlines()
+    assert asked[0].startswith("print")
+    if not trouble:
+        assert len(asked) == len(set(asked)) and asked.index("files") > asked.index(f"permanent {PLACES.split()[-1]} {DAY}")
+
+
 def test_what_differs_from_the_permanent_timetable(south):
     told = office(0, "changes", south, DAY, **STAND_IN)
     assert told.said == ""

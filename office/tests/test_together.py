@@ -1,5 +1,6 @@
 """Tests that many dockers can be asked for together: the answers are the same as for one request each, in the same order, whatever happens to the process. DOCKER names the
 program. A stand-in speaks the protocol of the program `desk`."""
+import fcntl
 import os
 import pathlib
 import sys
@@ -15,6 +16,9 @@ STAND_IN = pathlib.Path(__file__).resolve().parent / "desk-of-docker"
 WANTED = [
     ("ASHFELD", "2024-06-12"), ("BRAYTON", "2024-06-12"), ("NOWHERE", "2024-06-12"), ("-A", "2024-06-12"), ("ASHFELD", "2024-06-31"), ("CORHAM", "2024-06-13"), ("ASHFELD", "2024-06-12"),
 ]
+
+DAYS = [(place, f"2024-06-{day}") for place in ("ASHFELD", "BRAYTON", "CORHAM") for day in range(10, 18)]
+TRAINS = [(f"A1000{number}", "2024-06-12") for number in range(1, 6)]
 
 
 @pytest.fixture
@@ -77,13 +81,91 @@ def test_what_is_at_hand_is_not_asked_for(reader_of, tmp_path):
     assert asked(tmp_path)[1:] == ["print ASHFELD 2024-06-12", "print NOWHERE 2024-06-12", "print CORHAM 2024-06-13", "print ASHFELD 2024-06-12"]
 
 
-@pytest.mark.parametrize("trouble", ["ends 3", "short 2", "babbles 2"])
-def test_a_process_that_fails(reader_of, trouble, state):
-    """Each process fails at the same answer, so the second try fails too, and every answer is the fault. A sound process gives all of them."""
-    reader = reader_of(TROUBLE=trouble)
+@pytest.mark.parametrize("trouble, statuses", [("ends 1", [4, 4, 4, 2, 2, 4, 4]), ("ends 3", [0, 0, 0, 2, 2, 0, 4]), ("short 2", [0, 0, 4, 2, 2, 4, 4]), ("babbles 2", [0, 0, 4, 2, 2, 4, 4])])
+def test_a_process_that_fails(reader_of, tmp_path, trouble, statuses):
+    """Each process fails at the same answer. The second one is asked for all that is left, and after its end every answer is the fault."""
+    sound = list(reader_of().dockers(WANTED))
+    reader = reader_of(TROUBLE=trouble, STARTS=str(tmp_path / "starts"))
     found = list(reader.dockers(WANTED))
-    assert [answer.status for answer in found] == [4, 4, 4, 2, 2, 4, 4]
+    assert [answer.status for answer in found] == statuses
+    assert [answer for answer in found if answer.status == 0] == [answer for answer, status in zip(sound, statuses) if status == 0]
     assert len({answer.text for answer in found if answer.status == 4}) == 1
+    assert len((tmp_path / "starts").read_text().splitlines()) == 2
+
+
+@pytest.mark.parametrize("trouble", ["ends 2", "short 4", "counts 5", "babbles 7"])
+def test_a_process_that_ends_among_several_requests(reader_of, tmp_path, trouble):
+    """The first process fails, with requests whose answers nobody has read. The second one answers them, and no other request has to be sent again."""
+    sound = list(reader_of().dockers(DAYS))
+    reader = reader_of(TROUBLE=trouble, ASKED=str(tmp_path / "asked"))
+    answers = reader.dockers(DAYS)
+    found = [next(answers)]
+    os.environ["TROUBLE"] = ""
+    assert found + list(answers) == sound
+    left = [f"print {place} {day}" for place, day in DAYS[int(trouble.split()[1]) - 1:]]
+    assert asked(tmp_path)[-len(left):] == left
+
+
+def test_a_process_that_refuses_one_of_several(reader_of):
+    """Only the docker that was refused is lacking."""
+    sound = list(reader_of().dockers(DAYS))
+    found = list(reader_of(TROUBLE="refuses 5").dockers(DAYS))
+    assert found == [*sound[:4], dockers.Answer(3, b"docker: want of memory\n"), *sound[5:]]
+
+
+def test_other_requests_between(reader_of, tmp_path):
+    """While the next dockers are asked for ahead, other requests get their own answers, even the same ones. Nothing is asked for twice."""
+    calm = reader_of()
+    sound, trains = list(calm.dockers(DAYS)), [calm.train(uid, day) for uid, day in TRAINS]
+    reader = reader_of(ASKED=str(tmp_path / "asked"))
+    for number, answer in enumerate(reader.dockers(DAYS)):
+        assert answer == sound[number]
+        assert reader.train(*TRAINS[number % len(TRAINS)]) == trains[number % len(TRAINS)]
+        if number == 3:
+            assert reader.trains(TRAINS) == trains
+            assert reader.print_docker(*DAYS[5]) == sound[5]
+    assert sorted(line for line in asked(tmp_path) if line.startswith("print")) == sorted([*(f"print {place} {day}" for place, day in DAYS), f"print {DAYS[5][0]} {DAYS[5][1]}"])
+
+
+def test_no_answer_is_given_of_an_earlier_state(reader_of, state):
+    """A docker that was asked for ahead isn't given after STATE has changed, and after that all dockers are new."""
+    reader = reader_of()
+    wanted = [("ASHFELD", f"2024-06-{day}") for day in range(10, 20)]
+    answers = reader.dockers(wanted)
+    before = next(answers)
+    docker("take", state, EXAMPLES / "monday.cif")
+    docker("take", state, EXAMPLES / "tuesday.cif")
+    place, day = wanted[2]
+    assert reader.print_docker(place, day).text == docker("print", state, place, day)
+    assert [answer.text for answer in answers] == [docker("print", state, *one) for one in wanted[1:]]
+    assert before.status == 0
+
+
+def test_the_dockers_of_one_call_are_of_one_state(reader_of, state):
+    """If STATE changes while they are read, only the next call sees the new one."""
+    sound = list(reader_of().dockers(DAYS))
+    reader = reader_of()
+    answers = reader.dockers(DAYS)
+    found = [next(answers)]
+    docker("take", state, EXAMPLES / "monday.cif")
+    docker("take", state, EXAMPLES / "tuesday.cif")
+    assert found + list(answers) == sound
+    assert list(reader.dockers(DAYS)) != sound
+
+
+def test_pipes_of_one_page(reader_of, monkeypatch):
+    """Neither side waits for the other for ever if pipes have little room: many requests are sent while the dockers that were asked for ahead don't fit."""
+    monkeypatch.setattr(dockers, "ROOM", 4096)
+    calm = reader_of()
+    sound, trains = list(calm.dockers(DAYS)), calm.trains(TRAINS * 100)
+    reader = reader_of()
+    reader.begins()
+    fcntl.fcntl(reader.process.stdin, fcntl.F_SETPIPE_SZ, 4096)
+    found = []
+    for answer in reader.dockers(DAYS):
+        found.append(answer)
+        assert len(found) > 2 or reader.trains(TRAINS * 100) == trains
+    assert found == sound
 
 
 def test_a_state_that_changes(reader_of, state):
