@@ -23,7 +23,7 @@ IsSetAs old new = (new.fails ≡ old.fails) × (new.room ≡ old.room)
 -- an opened file on a shelf. `left` has the bytes left in the file, and `sound` is the number of
 -- bytes that can be read before a read fails. `failures` is the file's failure count. `ended` says
 -- whether the file has reported its end, and `passed` says whether it was read after that
-pub record PageView : Type 0 where
+pub record ShelfFileView : Type 0 where
   pub left : List ℕ
   pub sound : ℕ
   pub failures : ℕ
@@ -32,8 +32,8 @@ pub record PageView : Type 0 where
 
 -- the number of bytes that a read returns if the buffer has the length `room` and the read doesn't
 -- fail
-abbrev pub page_count : PageView → ℕ → ℕ
-page_count page room = min room (min (min page.sound 100) (length page.left))
+abbrev pub read_count : ShelfFileView → ℕ → ℕ
+read_count file room = min room (min (min file.sound 100) (length file.left))
 
 -- the text of each file, or `None` if there is no file with that name
 abbrev pub Texts : Type 0

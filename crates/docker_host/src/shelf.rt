@@ -9,7 +9,7 @@ ghost use Rattle.docker_host.specs.Places.{since_when, texts_of};
 use crate::counted::{CountedHistory, next_count};
 use crate::folder::{Drafted, Folder, OpenFault};
 use crate::history::{Note, Position};
-use crate::page::Page;
+use crate::shelf_file::ShelfFile;
 use cif_device::{Failed, Kept, Memory, Sink, Source};
 use std::alloc::Global;
 use std::marker::Model;
@@ -265,7 +265,7 @@ impl Shelf {
 }
 
 impl Folder for Shelf {
-    type File = Page;
+    type File = ShelfFile;
 
     type Draft = Kept;
 
@@ -296,7 +296,7 @@ impl Folder for Shelf {
         Sight { count, position }
     }
 
-    fn open(&mut self, name: &str) -> Result<Page, OpenFault>
+    fn open(&mut self, name: &str) -> Result<ShelfFile, OpenFault>
         requires { self.old.failures < 2 ^ 64 - 1 }
         ensures asked { IfOk result (λ file.
             self.new.events ≡ self.old.events ++ opened name.now (Some file.left) ∷ []) }
@@ -316,7 +316,7 @@ impl Folder for Shelf {
         match self.copy_of(name) {
             Ok(text) => {
                 self.history = self.history.then(&Note::Opened(name, text.as_slice()));
-                Ok(Page::new(text, self.sound()))
+                Ok(ShelfFile::new(text, self.sound()))
             }
             Err(OpenFault::Memory) => {
                 self.history = self.history.then(&Note::Unopened(name));
@@ -330,7 +330,7 @@ impl Folder for Shelf {
         }
     }
 
-    fn close(&mut self, file: Page)
+    fn close(&mut self, file: ShelfFile)
         requires { self.old.failures + file.failures < 2 ^ 64 }
         ensures asked { self.new.events ≡ self.old.events ++ closed (Some file.left) ∷ [] }
         ensures counted { self.new.failures ≡ self.old.failures + file.failures }

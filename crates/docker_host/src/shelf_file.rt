@@ -1,7 +1,7 @@
 //! An opened file of a folder in memory.
 ghost use Rattle.std.specs.Prelude.{◌≡◌, ◌+◌, ◌-◌, ◌^◌, ◌<◌, ◌≤◌, ◌↔◌, min, [], ◌++◌, length, take, false, Some, IfOk, IsErr, OnOk, OnErr};
 ghost use Rattle.cif_device.specs.Device.{Ends};
-ghost use Rattle.docker_host.specs.Shelf.{page_count};
+ghost use Rattle.docker_host.specs.Shelf.{read_count};
 
 use cif_device::{Failed, Source};
 use std::marker::Model;
@@ -12,7 +12,7 @@ const STEP: usize = 100;
 /// A source that owns its bytes. One read returns at most 100 bytes. After a given number of bytes
 /// each read fails.
 #[derive(Debug, Drop)]
-pub struct Page {
+pub struct ShelfFile {
     bytes: Vec<u8>,
     at: usize,
     sound: usize,
@@ -21,33 +21,33 @@ pub struct Page {
     passed: bool,
 }
 
-impl Model for Page {
+impl Model for ShelfFile {
     ghost use Rattle.std.specs.Prelude.{◌≤◌, drop, length};
-    ghost use Rattle.docker_host.specs.Shelf.{PageView};
+    ghost use Rattle.docker_host.specs.Shelf.{ShelfFileView};
 
-    ghost Value = { PageView };
+    ghost Value = { ShelfFileView };
 
-    ghost view = { λ page. record {
-      left = drop page.at page.bytes.items;
-      sound = page.sound;
-      failures = page.failures;
-      ended = page.ended;
-      passed = page.passed;
+    ghost view = { λ file. record {
+      left = drop file.at file.bytes.items;
+      sound = file.sound;
+      failures = file.failures;
+      ended = file.ended;
+      passed = file.passed;
     } };
 
-    ghost invariant = { λ page. page.at ≤ length page.bytes.items };
+    ghost invariant = { λ file. file.at ≤ length file.bytes.items };
 }
 
-impl Page {
+impl ShelfFile {
     /// Returns a source of these bytes. After the first `sound` bytes each read fails.
-    pub fn new(bytes: Vec<u8>, sound: usize) -> Page
+    pub fn new(bytes: Vec<u8>, sound: usize) -> ShelfFile
         ensures left { result.left ≡ bytes.items }
         ensures sound { result.sound ≡ sound }
         ensures no_failure { result.failures ≡ 0 }
         ensures ended { result.ended ≡ false }
         ensures passed { result.passed ≡ false }
     {
-        Page {
+        ShelfFile {
             bytes,
             at: 0,
             sound,
@@ -65,14 +65,14 @@ impl Page {
     }
 }
 
-impl Source for Page {
-    ghost left = { λ page. Some page.left };
+impl Source for ShelfFile {
+    ghost left = { λ file. Some file.left };
 
-    ghost failures = { λ page. page.failures };
+    ghost failures = { λ file. file.failures };
 
-    ghost ended = { λ page. page.ended };
+    ghost ended = { λ file. file.ended };
 
-    ghost passed = { λ page. page.passed };
+    ghost passed = { λ file. file.passed };
 
     fn read(&mut self, into: &mut [u8]) -> Result<usize, Failed>
         requires { self.old.failures < 2 ^ 64 - 1 }
@@ -89,7 +89,7 @@ impl Source for Page {
 
         // The clauses above are promised for every source. The clauses below are promised only for
         // this source.
-        ensures count { IfOk result (λ n. n ≡ page_count self.old (length into.old)) }
+        ensures count { IfOk result (λ n. n ≡ read_count self.old (length into.old)) }
         ensures sound { IfOk result (λ n. self.new.sound ≡ self.old.sound - n) }
         ensures fails { IsErr result ↔ (self.old.sound ≡ 0) }
     {
