@@ -77,8 +77,8 @@ pub fn shortened_state_has_one_docker()
 {}
 
 /// For the docker of a place and a day, the records of a schedule that `lines_for` keeps may
-/// replace the schedule. The schedule may be replaced by any records that have the same first record
-/// and don't call at the place, if it doesn't call there itself, or no event of it may be on the
+/// replace the schedule. It may also be replaced by any records that have the same first record and
+/// don't call at the place. But then it may not call there itself, or no event of it may be on the
 /// day. The first record, followed by any origin and any terminus with good fields, forms a
 /// schedule with the same key.
 pub fn stand_in_of_a_schedule()
