@@ -43,8 +43,8 @@ pub record Reasons : Type 1 where
   pub sink : Type 0
   pub memory : Type 0
 
--- the reasons of an operation that reports no fault. The reasons of every other operation change those
--- of the faults that the operation can report
+-- the reasons of an operation that reports no fault. Every other operation replaces the reasons of the
+-- faults that it can report
 abbrev pub no_fault : Reasons
 no_fault = record { file = λ fault. ⊥; state = λ fault. ⊥; lapsed = ⊥; source = ⊥; sink = ⊥; memory = ⊥ }
 
