@@ -8,7 +8,8 @@ use Rattle.std.proofs.lemmas.Slice.Eq.{bytes_eq-Decides}
 use Rattle.docker_host.specs.Counts.{IsCountOf}
 use Rattle.docker_host.specs.History.{Text, Event, drafted, opened, placed}
 use Rattle.docker_host.specs.Standing.{HappensAt, IsStandingOf, IsStill}
-use Rattle.docker_host.specs.Shelf.{Texts, no_texts, with_text, after_event, after_events, IsMet, AreMet, is_put, last_put, put_from, shelf_standing, text_under}
+use Rattle.docker_host.specs.Shelf.{Texts, no_texts, with_text, after_event, after_events, IsMet, AreMet, shelf_standing, text_under}
+use Rattle.docker_host.specs.Shelf.{is_put, last_put, put_from}
 use Rattle.docker_host.specs.Places.{texts_of, since_when, HoldsSince, IsKept}
 use Rattle.docker_host.specs.declared.shelf.Place.{Place}
 use Rattle.docker_host.proofs.CountLemmas.{number_of_few, put_after}

@@ -159,9 +159,9 @@ abbrev pub last_put : List Event → Text → ℕ
 last_put events name = put_from 0 0 events name
 
 -- a shelf refused for this fault to make a draft for the named file, based on the look at this
--- position. Unless it is to fail at this call, the reason for `Failed` is that a text was put under
--- the name since the look, or that the shelf can't count as far as the look. The reason for `Memory`
--- is that memory ran out, and the file has held the same bytes since the look
+-- position. Unless it is to fail here, `Failed` means that a text was put under the name since the
+-- look, or that the shelf can't count as far as the look. `Memory` means that memory ran out. The
+-- file has then held the same bytes since the look
 abbrev pub RefusesDraft : ShelfView → Text → ℕ → OpenFault → Type 0
 RefusesDraft shelf name look opening.Failed =
     shelf.fails ≢ failing.AtCreate → look < 2 ^ 64 - 1 → look < last_put shelf.events name
