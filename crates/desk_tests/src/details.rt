@@ -1,10 +1,10 @@
 //! Tests of detailed dockers.
 
 use crate::answers::{answers, answers_whole};
-use crate::desks::{day_of, desk_of};
+use crate::desks::{day_of, desk_of, docker_on};
 use crate::expected::DAY_REFUSED;
 use crate::records::OVERLAID_STATE;
-use cif_line::Tiploc;
+use docker_desk::DockerKind;
 use test_records::dockers::{AT_ASHFELD, END, LEAVES_0900, LEAVES_AS_OVERLAY};
 use test_records::states::Parts;
 use test_records::{BS, BS_OVERLAY_WEEKDAYS, LO, LO_0905};
@@ -84,22 +84,12 @@ const DETAILED_PERMANENT: Parts = &[
 #[test]
 fn answers_with_details(rt: HostRuntime) {
     let alloc = rt.alloc();
-    let place = Tiploc::from_text("ASHFELD").expect(&rt, "a TIPLOC");
-    let monday = day_of(&rt, "2024-06-10");
+    let detail = docker_on(&rt, DockerKind::Detailed, "2024-06-10");
+    let permanent = docker_on(&rt, DockerKind::PermanentDetailed, "2024-06-10");
     let mut desk = desk_of(&rt, alloc, OVERLAID_STATE);
-    answers_whole(&rt, alloc, &desk.detail(&place, monday), DETAILED_OVERLAY);
-    answers_whole(
-        &rt,
-        alloc,
-        &desk.permanent_detail(&place, monday),
-        DETAILED_PERMANENT,
-    );
+    answers_whole(&rt, alloc, &desk.show(&detail), DETAILED_OVERLAY);
+    answers_whole(&rt, alloc, &desk.show(&permanent), DETAILED_PERMANENT);
     desk.set_horizon(day_of(&rt, "2024-06-08"));
-    answers(&rt, alloc, &desk.detail(&place, monday), DAY_REFUSED);
-    answers(
-        &rt,
-        alloc,
-        &desk.permanent_detail(&place, monday),
-        DAY_REFUSED,
-    );
+    answers(&rt, alloc, &desk.show(&detail), DAY_REFUSED);
+    answers(&rt, alloc, &desk.show(&permanent), DAY_REFUSED);
 }

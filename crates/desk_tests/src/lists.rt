@@ -4,7 +4,7 @@ use crate::answers::answers;
 use crate::desks::{day_of, desk_of};
 use crate::expected::DONE;
 use crate::records::PLACES_STATE;
-use docker_desk::Desk;
+use docker_desk::{Desk, Query};
 use std::alloc::Global;
 use std::process::Abort;
 use test_records::dockers::Lines;
@@ -66,8 +66,8 @@ const KNOWN_NOTHING: Lines = &[
 
 /// Asserts the answers of a desk to `places` and `known`.
 fn lists(rt: &impl Abort, alloc: Global, desk: &mut Desk, places: &[&[u8]], known: &[&[u8]]) {
-    answers(rt, alloc, &desk.places(), places);
-    answers(rt, alloc, &desk.known(), known);
+    answers(rt, alloc, &desk.show(&Query::Places), places);
+    answers(rt, alloc, &desk.show(&Query::Known), known);
 }
 
 #[test]
@@ -76,7 +76,7 @@ fn timing_points_and_what_is_known(rt: HostRuntime) {
     let mut desk = desk_of(&rt, alloc, PLACES_STATE);
     lists(&rt, alloc, &mut desk, PLACES, KNOWN);
     desk.set_horizon(day_of(&rt, "2024-06-14"));
-    answers(&rt, alloc, &desk.places(), PLACES);
+    answers(&rt, alloc, &desk.show(&Query::Places), PLACES);
     desk.set_horizon(day_of(&rt, "2024-06-15"));
     lists(&rt, alloc, &mut desk, PLACES_LAPSED, KNOWN_LAPSED);
 }

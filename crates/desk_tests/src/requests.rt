@@ -2,8 +2,8 @@
 
 use crate::compare::same_in;
 use crate::session_parts::room;
-use cif_line::{Bytes, Day, Tiploc};
-use docker_desk::{Ahead, Asked, Request, next_line, request_in};
+use cif_line::{Bytes, Day};
+use docker_desk::{Ahead, Asked, DockerKind, Query, Request, next_line, request_in};
 use docker_host::Streams;
 use std::alloc::Global;
 use std::process::Abort;
@@ -17,51 +17,43 @@ fn add(rt: &impl Abort, text: &mut Vec<u8>, word: &[u8]) {
     text.extend_from_slice(word).expect(rt, "room");
 }
 
-/// Appends the words of a request for a timing point and a day.
-fn add_place_and_day(rt: &impl Abort, text: &mut Vec<u8>, verb: &[u8], place: &Tiploc, day: &Day) {
+/// Appends a verb, a word and a day.
+fn add_dated(rt: &impl Abort, text: &mut Vec<u8>, verb: &[u8], word: &[u8], day: &Day) {
     text.extend_from_slice(verb).expect(rt, "room");
-    add(rt, text, place.bytes());
+    add(rt, text, word);
     add(rt, text, &day.iso());
 }
 
-/// Appends the words of a request that names a day. Appends nothing for any other request.
-fn add_dated(rt: &impl Abort, text: &mut Vec<u8>, request: &Request<'_>) {
-    match request {
-        Request::Print { place, day } => add_place_and_day(rt, text, b"print", place, day),
-        Request::Permanent { place, day } => {
-            add_place_and_day(rt, text, b"permanent", place, day);
-        }
-        Request::Detail { place, day } => add_place_and_day(rt, text, b"detail", place, day),
-        Request::PermanentDetail { place, day } => {
-            add_place_and_day(rt, text, b"permanent-detail", place, day);
-        }
-        Request::Train { uid, day } => {
-            text.extend_from_slice(b"train").expect(rt, "room");
-            add(rt, text, uid.bytes());
-            add(rt, text, &day.iso());
-        }
-        Request::Trains { identity, day } => {
-            text.extend_from_slice(b"trains").expect(rt, "room");
-            add(rt, text, identity);
-            add(rt, text, &day.iso());
-        }
-        Request::Horizon { day } => {
-            text.extend_from_slice(b"horizon").expect(rt, "room");
-            add(rt, text, &day.iso());
-        }
-        _ => {}
+/// Returns the verb that requests a docker of this kind.
+fn docker_verb(kind: DockerKind) -> &'static [u8] {
+    match kind {
+        DockerKind::Ordinary => b"print",
+        DockerKind::Permanent => b"permanent",
+        DockerKind::Detailed => b"detail",
+        DockerKind::PermanentDetailed => b"permanent-detail",
     }
 }
 
-/// Returns the verb of a request that names no day, and the name of its file if it has one. For a
-/// request that names a day, the verb is empty.
+/// Appends the words of a query.
+fn add_query(rt: &impl Abort, text: &mut Vec<u8>, query: &Query) {
+    match query {
+        Query::Docker { kind, place, day } => {
+            add_dated(rt, text, docker_verb(*kind), place.bytes(), day);
+        }
+        Query::Train { uid, day } => add_dated(rt, text, b"train", uid.bytes(), day),
+        Query::Trains { identity, day } => add_dated(rt, text, b"trains", identity, day),
+        Query::Files => text.extend_from_slice(b"files").expect(rt, "room"),
+        Query::Places => text.extend_from_slice(b"places").expect(rt, "room"),
+        Query::Known => text.extend_from_slice(b"known").expect(rt, "room"),
+    }
+}
+
+/// Returns the verb of a request that names no day and isn't a query, and the name of its file if it
+/// has one. For any other request, the verb is empty.
 fn file_words<'a>(request: &Request<'a>) -> (&'static str, Option<&'a str>) {
     match request {
         Request::Take(file) => ("take", Some(*file)),
         Request::Merge(other) => ("merge", Some(*other)),
-        Request::Files => ("files", None),
-        Request::Places => ("places", None),
-        Request::Known => ("known", None),
         Request::Renew => ("renew", None),
         Request::Save => ("save", None),
         _ => ("", None),
@@ -71,7 +63,14 @@ fn file_words<'a>(request: &Request<'a>) -> (&'static str, Option<&'a str>) {
 /// Returns the words of a request, separated by one space.
 fn words_of(rt: &impl Abort, alloc: Global, request: &Request<'_>) -> Vec<u8> {
     let mut text = Vec::new(alloc);
-    add_dated(rt, &mut text, request);
+    match request {
+        Request::Show(query) => add_query(rt, &mut text, query),
+        Request::Horizon { day } => {
+            text.extend_from_slice(b"horizon").expect(rt, "room");
+            add(rt, &mut text, &day.iso());
+        }
+        _ => {}
+    }
     let (verb, file) = file_words(request);
     text.extend_from_slice(verb.as_bytes()).expect(rt, "room");
     if let Some(file) = file {

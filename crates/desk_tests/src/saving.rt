@@ -51,10 +51,10 @@ fn a_desk_takes_prints_saves_and_goes_on(rt: HostRuntime) {
     let mut folder = shelf_of(&rt, alloc, MORNING_STATE);
     let mut seen = folder.look("S");
     let mut desk = desk_with_revision(&rt, alloc);
-    prints(&rt, alloc, &desk, "2024-06-10", ANSWER_0905);
+    prints(&rt, alloc, &mut desk, "2024-06-10", ANSWER_0905);
     saves(&rt, &mut desk, &mut seen, &mut folder, Ok(()), false);
     holds(&rt, alloc, &folder, BOTH_STATE, 0);
-    prints(&rt, alloc, &desk, "2024-06-10", ANSWER_0905);
+    prints(&rt, alloc, &mut desk, "2024-06-10", ANSWER_0905);
     saves(&rt, &mut desk, &mut seen, &mut folder, Ok(()), false);
     holds(&rt, alloc, &folder, BOTH_STATE, 0);
     ends(&rt, alloc, desk, false, BOTH_STATE);
@@ -161,7 +161,7 @@ fn fails_once(rt: &impl Abort, alloc: Global, fails: Fails) {
     let refused = Err(OfficeFault::Sink);
     saves(rt, &mut desk, &mut seen, &mut folder, refused, true);
     holds(rt, alloc, &folder, MORNING_STATE, 1);
-    prints(rt, alloc, &desk, "2024-06-10", ANSWER_0905);
+    prints(rt, alloc, &mut desk, "2024-06-10", ANSWER_0905);
     folder.fail(Fails::Never);
     saves(rt, &mut desk, &mut seen, &mut folder, Ok(()), false);
     holds(rt, alloc, &folder, BOTH_STATE, 1);

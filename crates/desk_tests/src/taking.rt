@@ -50,7 +50,7 @@ fn a_file_is_taken(rt: HostRuntime) {
     let mut desk = desk_of(&rt, alloc, MORNING_STATE);
     let file = lines_text(&rt, alloc, REVISION);
     same(&rt, taken(&rt, alloc, &mut desk, file.as_slice()), Ok(()));
-    prints(&rt, alloc, &desk, "2024-06-10", ANSWER_0905);
+    prints(&rt, alloc, &mut desk, "2024-06-10", ANSWER_0905);
     same(&rt, taken(&rt, alloc, &mut desk, file.as_slice()), Ok(()));
     ends(&rt, alloc, desk, true, BOTH_STATE);
 }
@@ -72,7 +72,7 @@ fn files_that_are_refused(rt: HostRuntime) {
     let mut shelf = shelf_with(&rt, alloc, "F2", file.as_slice());
     shelf.fail(Fails::AfterReading(300));
     same(&rt, take(&mut desk, &mut shelf), failed);
-    prints(&rt, alloc, &desk, "2024-06-10", ANSWER_0900);
+    prints(&rt, alloc, &mut desk, "2024-06-10", ANSWER_0900);
     ends(&rt, alloc, desk, false, MORNING_STATE);
 }
 
@@ -83,7 +83,7 @@ fn a_state_is_received(rt: HostRuntime) {
     let other = state_text(&rt, alloc, REVISION_STATE);
     let answer = received(&rt, alloc, &mut desk, "S2", other.as_slice());
     same(&rt, answer, Ok(()));
-    prints(&rt, alloc, &desk, "2024-06-10", ANSWER_0905);
+    prints(&rt, alloc, &mut desk, "2024-06-10", ANSWER_0905);
     ends(&rt, alloc, desk, true, BOTH_STATE);
 }
 

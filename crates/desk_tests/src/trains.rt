@@ -3,10 +3,10 @@
 
 use crate::answers::answers;
 use crate::desks::{day_of, desk_of};
-use crate::expected::DAY_REFUSED;
+use crate::expected::{DAY_REFUSED, DONE};
 use crate::records::BOTH_STATE;
 use cif_line::Uid;
-use docker_desk::Desk;
+use docker_desk::{Desk, Query};
 use std::alloc::Global;
 use std::process::Abort;
 use test_records::dockers::Lines;
@@ -43,50 +43,64 @@ const UNKNOWN: Lines = &[
 fn answers_train(
     rt: &impl Abort,
     alloc: Global,
-    desk: &Desk,
+    desk: &mut Desk,
     uid: &[u8; 6],
     date: &str,
     lines: &[&[u8]],
 ) {
     let uid = Uid::from_field(uid).expect(rt, "a UID");
-    answers(rt, alloc, &desk.train(&uid, day_of(rt, date)), lines);
+    let day = day_of(rt, date);
+    answers(rt, alloc, &desk.show(&Query::Train { uid, day }), lines);
 }
 
 #[test]
 fn trains(rt: HostRuntime) {
     let alloc = rt.alloc();
-    let desk = desk_of(&rt, alloc, MORNING_STATE);
-    answers_train(&rt, alloc, &desk, b"C10001", "2024-06-10", RUNS);
-    answers_train(&rt, alloc, &desk, b"C10001", "2024-06-15", NONE_RUNS);
-    answers_train(&rt, alloc, &desk, b"C10009", "2024-06-10", UNKNOWN);
-    let desk = desk_of(&rt, alloc, BOTH_STATE);
-    answers_train(&rt, alloc, &desk, b"C10001", "2024-06-10", REVISED);
+    let mut desk = desk_of(&rt, alloc, MORNING_STATE);
+    answers_train(&rt, alloc, &mut desk, b"C10001", "2024-06-10", RUNS);
+    answers_train(&rt, alloc, &mut desk, b"C10001", "2024-06-15", NONE_RUNS);
+    answers_train(&rt, alloc, &mut desk, b"C10009", "2024-06-10", UNKNOWN);
+    let mut desk = desk_of(&rt, alloc, BOTH_STATE);
+    answers_train(&rt, alloc, &mut desk, b"C10001", "2024-06-10", REVISED);
 }
 
 #[test]
 fn a_train_before_the_horizon(rt: HostRuntime) {
     let alloc = rt.alloc();
-    let desk = desk_of(&rt, alloc, LAPSED_STATE);
-    answers_train(&rt, alloc, &desk, b"C10001", "2024-06-14", DAY_REFUSED);
-    answers_train(&rt, alloc, &desk, b"C10001", "2024-06-15", NONE_RUNS);
+    let mut desk = desk_of(&rt, alloc, LAPSED_STATE);
+    answers_train(&rt, alloc, &mut desk, b"C10001", "2024-06-14", DAY_REFUSED);
+    answers_train(&rt, alloc, &mut desk, b"C10001", "2024-06-15", NONE_RUNS);
 }
 
 /// The answer to `trains` with the morning train on 10 June.
 const ONE_TRAIN: Lines = &[b"0 1 20", b"C10001 2024-06-10 P"];
 
+/// Asserts the answer of a desk to a request for the trains with a train identity on a day.
+fn lists_trains(
+    rt: &impl Abort,
+    alloc: Global,
+    desk: &mut Desk,
+    identity: &[u8; 4],
+    date: &str,
+    lines: &[&[u8]],
+) {
+    let identity = *identity;
+    let day = day_of(rt, date);
+    answers(
+        rt,
+        alloc,
+        &desk.show(&Query::Trains { identity, day }),
+        lines,
+    );
+}
+
 #[test]
 fn lists_of_trains(rt: HostRuntime) {
     let alloc = rt.alloc();
-    let desk = desk_of(&rt, alloc, MORNING_STATE);
-    let (monday, saturday) = (day_of(&rt, "2024-06-10"), day_of(&rt, "2024-06-15"));
-    answers(&rt, alloc, &desk.trains(b"1A10", monday), ONE_TRAIN);
-    answers(&rt, alloc, &desk.trains(b"1A11", monday), &[b"0 0 0"]);
-    answers(&rt, alloc, &desk.trains(b"1A10", saturday), &[b"0 0 0"]);
-    let desk = desk_of(&rt, alloc, LAPSED_STATE);
-    answers(
-        &rt,
-        alloc,
-        &desk.trains(b"1A10", day_of(&rt, "2024-06-14")),
-        DAY_REFUSED,
-    );
+    let mut desk = desk_of(&rt, alloc, MORNING_STATE);
+    lists_trains(&rt, alloc, &mut desk, b"1A10", "2024-06-10", ONE_TRAIN);
+    lists_trains(&rt, alloc, &mut desk, b"1A11", "2024-06-10", DONE);
+    lists_trains(&rt, alloc, &mut desk, b"1A10", "2024-06-15", DONE);
+    let mut desk = desk_of(&rt, alloc, LAPSED_STATE);
+    lists_trains(&rt, alloc, &mut desk, b"1A10", "2024-06-14", DAY_REFUSED);
 }

@@ -1,5 +1,5 @@
 -- The known files determine the detailed dockers.
-use Rattle.std.proofs.Common.{◌≡◌, ℕ, List, subst, sym}
+use Rattle.std.proofs.Common.{◌≡◌, ℕ, List, subst}
 use Rattle.docker_model.specs.docker.DetailedText.{IsDetailedText}
 use Rattle.docker_model.specs.docker.Permanent.{permanent_table}
 use Rattle.docker_model.specs.run.Run.{Known}
@@ -10,25 +10,7 @@ use Rattle.docker_model.specs.state.Summary.{HaveDistinctMoments}
 use Rattle.docker_model.specs.state.Table.{Table, IsPlainTable}
 use Rattle.docker_laws.proofs.dockers.DetailedDocker.{detailed_is_plain, detailed_of_files, permanent_detailed_is_plain, permanent_detailed_of_files}
 use Rattle.state_laws.proofs.states.OnePlainTable.{some_plain_table}
-use Rattle.docker_desk.specs.Desk.{IsDetailAnswer, IsDockerRefused, IsPermanentDetailAnswer, TellsDetails}
-use Rattle.docker_desk.specs.Replies.{AnswerView, done_with, no_request, refused_for}
 use Rattle.docker_desk.specs.Learning.{DetailsAs, IsKnown}
-
--- suppose that a day isn't refused. If an answer has the detailed docker for this day, or reports
--- that memory ran out, it is an answer to `detail`
-pub told_detail : (state : State) (place : List ℕ) (day : ℕ) (answer : AnswerView) → ¬ IsDayRefused state.horizon day
-    → TellsDetails (live_table state) place day answer → IsDetailAnswer state place day answer
-told_detail state place day (done_with text) allowed told = (told, allowed)
-told_detail state place day (refused_for fault) allowed same = subst (IsDockerRefused state day) (sym same) allowed
-told_detail state place day no_request allowed never = never
-
--- suppose that a day isn't refused. If an answer has the permanent detailed docker for this day, or
--- reports that memory ran out, it is an answer to `permanent-detail`
-pub told_permanent_detail : (state : State) (place : List ℕ) (day : ℕ) (answer : AnswerView) → ¬ IsDayRefused state.horizon day
-    → TellsDetails (permanent_table (live_table state)) place day answer → IsPermanentDetailAnswer state place day answer
-told_permanent_detail state place day (done_with text) allowed told = (told, allowed)
-told_permanent_detail state place day (refused_for fault) allowed same = subst (IsDockerRefused state day) (sym same) allowed
-told_permanent_detail state place day no_request allowed never = never
 
 -- suppose that two states know the same files. Then the detailed dockers made from the two states
 -- are equal, for each place and for each day that isn't refused under either state's horizon

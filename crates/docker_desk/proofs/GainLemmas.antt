@@ -17,9 +17,7 @@ use Rattle.docker_desk.specs.Learning.{GainedBy, GainsAsked, GainsDone, GainsFil
 use Rattle.docker_desk.specs.SessionViews.{SessionView, Setting, Step}
 use Rattle.docker_desk.specs.Reading.{Reading, StopsInFile, StopsInState, events_of, opening_of}
 use Rattle.docker_desk.specs.Replies.{AnswerView, done_with, no_request, refused_for}
-use Rattle.docker_desk.specs.Requests.{RequestView, print_request, permanent_request, train_request, trains_request, files_request, places_request}
-use Rattle.docker_desk.specs.Requests.{detail_request, permanent_detail_request}
-use Rattle.docker_desk.specs.Requests.{known_request, renew_request, take_request, merge_request, horizon_request, save_request}
+use Rattle.docker_desk.specs.Requests.{RequestView, show_request, renew_request, take_request, merge_request, horizon_request, save_request}
 use Rattle.docker_desk.specs.Serving.{BeginsAt}
 use Rattle.docker_desk.specs.declared.compared.Compared.{Compared}
 use Rattle.docker_desk.proofs.HeardLemmas.{held_after_look, held_once, unsaved_by}
@@ -100,15 +98,7 @@ module _ (earlier : List (List ℕ)) where
     gained_done : (request : RequestView) (text : List ℕ) (gains : List Gain) → ((day : ℕ) → request ≡ horizon_request day → IsDay day)
         → DoesRequest setting request before (done_with text) after → GainsDone setting earlier request before after gains
         → AreGained earlier gains before.desk.state after.desk.state
-    gained_done (print_request place day) text gains days does gained = gained_none gains _ _ gained (ap (λ (m : SessionView). m.desk.state) does.1)
-    gained_done (permanent_request place day) text gains days does gained = gained_none gains _ _ gained (ap (λ (m : SessionView). m.desk.state) does.1)
-    gained_done (detail_request place day) text gains days does gained = gained_none gains _ _ gained (ap (λ (m : SessionView). m.desk.state) does.1)
-    gained_done (permanent_detail_request place day) text gains days does gained = gained_none gains _ _ gained (ap (λ (m : SessionView). m.desk.state) does.1)
-    gained_done (train_request uid day) text gains days does gained = gained_none gains _ _ gained (ap (λ (m : SessionView). m.desk.state) does.1)
-    gained_done (trains_request identity day) text gains days does gained = gained_none gains _ _ gained (ap (λ (m : SessionView). m.desk.state) does.1)
-    gained_done files_request text gains days does gained = gained_none gains _ _ gained (ap (λ (m : SessionView). m.desk.state) does.1)
-    gained_done places_request text gains days does gained = gained_none gains _ _ gained (ap (λ (m : SessionView). m.desk.state) does.1)
-    gained_done known_request text gains days does gained = gained_none gains _ _ gained (ap (λ (m : SessionView). m.desk.state) does.1)
+    gained_done (show_request query) text gains days does gained = gained_none gains _ _ gained (ap (λ (m : SessionView). m.desk.state) does.1)
     gained_done renew_request text gains days does gained = gained_renewed text gains does gained
     gained_done (take_request file) text gains days does gained = gained_file file text gains does gained
     gained_done (merge_request other) text gains days does gained = gained_merged other text gains does gained

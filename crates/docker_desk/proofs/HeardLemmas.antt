@@ -12,9 +12,7 @@ use Rattle.docker_office.specs.declared.fault.OfficeFault.TheVariants as office
 use Rattle.docker_desk.specs.Desk.{EndsReceiving, EndsRenewing, EndsSaving, EndsTaking}
 use Rattle.docker_desk.specs.Reading.{Reading, StopsInFile, StopsInState, events_of, opening_of}
 use Rattle.docker_desk.specs.declared.compared.Compared.{Compared}
-use Rattle.docker_desk.specs.Requests.{RequestView, print_request, permanent_request, train_request, trains_request, files_request, places_request}
-use Rattle.docker_desk.specs.Requests.{detail_request, permanent_detail_request}
-use Rattle.docker_desk.specs.Requests.{known_request, renew_request, take_request, merge_request, horizon_request, save_request}
+use Rattle.docker_desk.specs.Requests.{RequestView, show_request, renew_request, take_request, merge_request, horizon_request, save_request}
 use Rattle.docker_desk.specs.Replies.{AnswerView, done_with, no_request, refused_for}
 use Rattle.docker_desk.specs.SessionViews.{SessionView, Setting, Step}
 use Rattle.docker_desk.specs.Doing.{AreSteps, DoesAsked, DoesRequest, Joins, Renews, Saves, answer_of}
@@ -154,15 +152,7 @@ module _ (setting : Setting) where
   -- with each request that succeeded, the desk came to know files and a horizon, or nothing new
   hears_some : (request : RequestView) (text : List ℕ) (before after : SessionView) → DoesRequest setting request before (done_with text) after
       → ReceivesKnown setting request before after → (heard : Known) × Hears setting request before after heard
-  hears_some (print_request place day) text before after does received = (nothing, refl)
-  hears_some (permanent_request place day) text before after does received = (nothing, refl)
-  hears_some (detail_request place day) text before after does received = (nothing, refl)
-  hears_some (permanent_detail_request place day) text before after does received = (nothing, refl)
-  hears_some (train_request uid day) text before after does received = (nothing, refl)
-  hears_some (trains_request identity day) text before after does received = (nothing, refl)
-  hears_some files_request text before after does received = (nothing, refl)
-  hears_some places_request text before after does received = (nothing, refl)
-  hears_some known_request text before after does received = (nothing, refl)
+  hears_some (show_request query) text before after does received = (nothing, refl)
   hears_some renew_request text before after does received = (received.0, hears_renewed before after received.0 setting text does received.1)
   hears_some (take_request file) text before after does received = takes_heard file text before after does
   hears_some (merge_request other) text before after does received = (received.0, hears_merged before after received.0 other text does received.1)

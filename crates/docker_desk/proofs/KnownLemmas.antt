@@ -13,16 +13,12 @@ use Rattle.docker_laws.proofs.runs.GoodKnowledge.{horizon_good, united_good}
 use Rattle.state_laws.proofs.states.SummaryLaws.{join_is_summary, raised_summary}
 use Rattle.state_laws.proofs.texts.TextsApart.{one_text}
 use Rattle.cif_device.specs.Device.{Held}
-use Rattle.docker_cmd.specs.Words.{NamesDay, OfOne, Text}
-use Rattle.docker_host.specs.History.{Event}
+use Rattle.docker_host.specs.History.{Event, Text}
 use Rattle.docker_bytes.specs.SourceRead.{ReadsState}
 use Rattle.docker_office.specs.Office.{HoldsState}
 use Rattle.docker_office.specs.declared.fault.OfficeFault.{OfficeFault}
 use Rattle.docker_desk.specs.Lines.{LineView, whole_line, bad_line, cut_line}
-use Rattle.docker_cmd.specs.JobLine.{words_in}
-use Rattle.docker_desk.specs.Requests.{RequestView, after_word, print_request, permanent_request, train_request, trains_request, files_request, places_request}
-use Rattle.docker_desk.specs.Requests.{detail_request, permanent_detail_request}
-use Rattle.docker_desk.specs.Requests.{known_request, renew_request, take_request, merge_request, horizon_request, save_request}
+use Rattle.docker_desk.specs.Requests.{RequestView, after_word, show_request, renew_request, take_request, merge_request, horizon_request, save_request}
 use Rattle.docker_desk.specs.Desk.{DeskView, EndsReceiving, EndsRenewing, EndsTaking}
 use Rattle.docker_desk.specs.Reading.{Reading, events_of}
 use Rattle.docker_desk.specs.declared.compared.Compared.{Compared}
@@ -30,6 +26,7 @@ use Rattle.docker_desk.specs.Replies.{AnswerView, done_with, no_request, refused
 use Rattle.docker_desk.specs.SessionViews.{SessionView, Setting, Step}
 use Rattle.docker_desk.specs.Doing.{AreSteps, AsksOf, DoesAsked, DoesRequest, IsStep, answer_of, desk_by}
 use Rattle.docker_desk.specs.Learning.{AreLearned, Hears, HearsFile, HearsState, IsKnown, KnowsAt, Learns, renewing}
+use Rattle.docker_desk.proofs.RequestLemmas.{day_made}
 
 -- ---- what is known
 
@@ -125,21 +122,8 @@ module _ (setting : Setting) (before after : SessionView) where
   known_done : (request : RequestView) (text : List ℕ) (old heard : Known) → ((day : ℕ) → request ≡ horizon_request day → IsDay day)
       → DoesRequest setting request before (done_with text) after → Hears setting request before after heard → IsKnown old before.desk.state
       → IsKnown (united old heard) after.desk.state
-  known_done (print_request place day) text old heard days does hears is =
+  known_done (show_request query) text old heard days does hears is =
       nothing_heard old heard _ _ hears (ap (λ (m : SessionView). m.desk.state) does.1) is
-  known_done (permanent_request place day) text old heard days does hears is =
-      nothing_heard old heard _ _ hears (ap (λ (m : SessionView). m.desk.state) does.1) is
-  known_done (detail_request place day) text old heard days does hears is =
-      nothing_heard old heard _ _ hears (ap (λ (m : SessionView). m.desk.state) does.1) is
-  known_done (permanent_detail_request place day) text old heard days does hears is =
-      nothing_heard old heard _ _ hears (ap (λ (m : SessionView). m.desk.state) does.1) is
-  known_done (train_request uid day) text old heard days does hears is =
-      nothing_heard old heard _ _ hears (ap (λ (m : SessionView). m.desk.state) does.1) is
-  known_done (trains_request identity day) text old heard days does hears is =
-      nothing_heard old heard _ _ hears (ap (λ (m : SessionView). m.desk.state) does.1) is
-  known_done files_request text old heard days does hears is = nothing_heard old heard _ _ hears (ap (λ (m : SessionView). m.desk.state) does.1) is
-  known_done places_request text old heard days does hears is = nothing_heard old heard _ _ hears (ap (λ (m : SessionView). m.desk.state) does.1) is
-  known_done known_request text old heard days does hears is = nothing_heard old heard _ _ hears (ap (λ (m : SessionView). m.desk.state) does.1) is
   known_done renew_request text old heard days does hears is = state_known (renewing setting.name) old heard hears is
   known_done (take_request file) text old heard days does hears is = file_known file old heard hears is
   known_done (merge_request other) text old heard days does hears is = state_known (events_of other) old heard hears is
@@ -151,15 +135,7 @@ module _ (setting : Setting) (before after : SessionView) where
   -- a refused request doesn't change the state
   pub same_refused : (request : RequestView) (fault : OfficeFault) → DoesRequest setting request before (refused_for fault) after
       → after.desk.state ≡ before.desk.state
-  same_refused (print_request place day) fault does = ap (λ (m : SessionView). m.desk.state) does.1
-  same_refused (permanent_request place day) fault does = ap (λ (m : SessionView). m.desk.state) does.1
-  same_refused (detail_request place day) fault does = ap (λ (m : SessionView). m.desk.state) does.1
-  same_refused (permanent_detail_request place day) fault does = ap (λ (m : SessionView). m.desk.state) does.1
-  same_refused (train_request uid day) fault does = ap (λ (m : SessionView). m.desk.state) does.1
-  same_refused (trains_request identity day) fault does = ap (λ (m : SessionView). m.desk.state) does.1
-  same_refused files_request fault does = ap (λ (m : SessionView). m.desk.state) does.1
-  same_refused places_request fault does = ap (λ (m : SessionView). m.desk.state) does.1
-  same_refused known_request fault does = ap (λ (m : SessionView). m.desk.state) does.1
+  same_refused (show_request query) fault does = ap (λ (m : SessionView). m.desk.state) does.1
   same_refused renew_request fault does = refused_renew fault does.result does.opens.read does.told does.opens.ends
   same_refused (take_request file) fault does = refused_take fault does.result does.opens.read does.told does.opens.ends
   same_refused (merge_request other) fault does = refused_merge fault does.result does.opens.read does.told does.opens.ends
@@ -168,15 +144,7 @@ module _ (setting : Setting) (before after : SessionView) where
 
   -- the answer to a request is never `no_request`
   pub never_unasked : (request : RequestView) → ¬ DoesRequest setting request before no_request after
-  never_unasked (print_request place day) does = does.0
-  never_unasked (permanent_request place day) does = does.0
-  never_unasked (detail_request place day) does = does.0
-  never_unasked (permanent_detail_request place day) does = does.0
-  never_unasked (train_request uid day) does = does.0
-  never_unasked (trains_request identity day) does = does.0
-  never_unasked files_request does = does.0
-  never_unasked places_request does = does.0
-  never_unasked known_request does = does.0
+  never_unasked (show_request query) does = does.0
   never_unasked renew_request does = some_answer does.result does.told
   never_unasked (take_request file) does = some_answer does.result does.told
   never_unasked (merge_request other) does = some_answer does.result does.told
@@ -199,15 +167,10 @@ module _ (setting : Setting) (before after : SessionView) where
 -- ---- what is known after each step
 
 -- the day that a `horizon` request names is a valid day number
-one_day : (words : List Text) (day : ℕ) → OfOne (λ date. NamesDay date day) words → IsDay day
-one_day [] day of = absurd of
-one_day (word ∷ []) day of = of.within
-one_day (word ∷ second ∷ more) day of = absurd of
-
 pub day_asked : (may_write : Bool) (line : LineView) (request : Option RequestView) (day : ℕ) → AsksOf may_write line request
     → request ≡ Some (horizon_request day) → IsDay day
 day_asked may_write (whole_line line) request day asks same =
-    let asked = subst (λ r. AsksOf may_write (whole_line line) r) same asks in one_day (words_in (after_word line)) day asked.1.rest
+    let asked = subst (λ r. AsksOf may_write (whole_line line) r) same asks in day_made asked.1.verb (after_word line) day asked.1.makes
 day_asked may_write bad_line request day asks same = let never : ⊥ = cc in absurd never
 day_asked may_write cut_line request day asks same = let never : ⊥ = cc in absurd never
 

@@ -1,6 +1,7 @@
 pub mod LineLemmas
 pub mod WordLemmas
 pub mod RequestLemmas
+pub mod ShowLemmas
 pub mod WritingLemmas
 pub mod MatchLemmas
 pub mod ReadFiles

@@ -13,9 +13,7 @@ use Rattle.docker_office.specs.declared.fault.OfficeFault.TheVariants as office
 use Rattle.docker_desk.specs.Desk.{DeskView, EndsRenewing, EndsSaving, look_by}
 use Rattle.docker_desk.specs.Reading.{Reading, opening_of}
 use Rattle.docker_desk.specs.declared.compared.Compared.{Compared}
-use Rattle.docker_desk.specs.Requests.{RequestView, print_request, permanent_request, train_request, trains_request, files_request, places_request}
-use Rattle.docker_desk.specs.Requests.{detail_request, permanent_detail_request}
-use Rattle.docker_desk.specs.Requests.{known_request, renew_request, take_request, merge_request, horizon_request, save_request}
+use Rattle.docker_desk.specs.Requests.{RequestView, show_request, renew_request, take_request, merge_request, horizon_request, save_request}
 use Rattle.docker_desk.specs.Replies.{AnswerView}
 use Rattle.docker_desk.specs.SessionViews.{SessionView, Setting, Step}
 use Rattle.docker_desk.specs.Doing.{AreSteps, DoesAsked, DoesRequest}
@@ -115,15 +113,7 @@ module _ (setting : Setting) where
   -- after each request, the look is still good
   good_request : (request : RequestView) (before after : SessionView) (answer : AnswerView) → DoesRequest setting request before answer after → LooksWell before
       → LooksWell after
-  good_request (print_request place day) before after answer does good = good_kept before after does.1 good
-  good_request (permanent_request place day) before after answer does good = good_kept before after does.1 good
-  good_request (detail_request place day) before after answer does good = good_kept before after does.1 good
-  good_request (permanent_detail_request place day) before after answer does good = good_kept before after does.1 good
-  good_request (train_request uid day) before after answer does good = good_kept before after does.1 good
-  good_request (trains_request identity day) before after answer does good = good_kept before after does.1 good
-  good_request files_request before after answer does good = good_kept before after does.1 good
-  good_request places_request before after answer does good = good_kept before after does.1 good
-  good_request known_request before after answer does good = good_kept before after does.1 good
+  good_request (show_request query) before after answer does good = good_kept before after does.1 good
   good_request renew_request before after answer does good =
       good_renewed setting.name before.history after.history does.opens.read does.result before.desk after.desk before.look after.look
       does.opens.asked does.opens.ends does.look good

@@ -1,5 +1,5 @@
 -- The known files determine the dockers without the short-term plan.
-use Rattle.std.proofs.Common.{◌≡◌, ℕ, List, [], ◌++◌, Option, Some, subst, sym}
+use Rattle.std.proofs.Common.{◌≡◌, ℕ, List, subst}
 use Rattle.docker_model.specs.docker.DockerText.{IsDockerText}
 use Rattle.docker_model.specs.docker.Permanent.{permanent_table}
 use Rattle.docker_model.specs.run.Run.{Known}
@@ -10,23 +10,7 @@ use Rattle.docker_model.specs.state.Summary.{HaveDistinctMoments}
 use Rattle.docker_model.specs.state.Table.{Table, IsPlainTable}
 use Rattle.docker_laws.proofs.dockers.PermanentDocker.{permanent_is_plain, permanent_of_files}
 use Rattle.state_laws.proofs.states.OnePlainTable.{some_plain_table}
-use Rattle.docker_desk.specs.Desk.{IsDockerRefused, IsPermanentAnswer, TellsDocker}
-use Rattle.docker_desk.specs.Replies.{AnswerView, done_with, no_request, refused_for}
 use Rattle.docker_desk.specs.Learning.{IsKnown, KeepsAs}
-
--- if a text was written to a sink that had taken nothing, the sink has taken exactly this text
-pub written_whole : (own text new : List ℕ) → own ≡ [] → ◌≡◌ {A = Option (List ℕ)} (Some new) (Some (own ++ text)) → new ≡ text
-written_whole own text new none whole =
-    let same : ◌≡◌ {A = Option (List ℕ)} (Some new) (Some text) =
-    subst (λ (front : List ℕ). ◌≡◌ {A = Option (List ℕ)} (Some new) (Some (front ++ text))) none whole in cc
-
--- suppose that a day isn't refused. If an answer has the permanent docker for this day, or reports
--- that memory ran out, it is an answer to `permanent`
-pub told_docker : (state : State) (place : List ℕ) (day : ℕ) (answer : AnswerView) → ¬ IsDayRefused state.horizon day
-    → TellsDocker (permanent_table (live_table state)) place day answer → IsPermanentAnswer state place day answer
-told_docker state place day (done_with text) allowed told = (told, allowed)
-told_docker state place day (refused_for fault) allowed same = subst (IsDockerRefused state day) (sym same) allowed
-told_docker state place day no_request allowed never = never
 
 -- suppose that two states know the same files. Then the permanent dockers made from the two states
 -- are equal, for each place and for each day that isn't refused under either state's horizon

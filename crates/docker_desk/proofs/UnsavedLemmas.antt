@@ -17,9 +17,7 @@ use Rattle.docker_desk.specs.Desk.{DeskView, EndsReceiving, EndsRenewing, EndsSa
 use Rattle.docker_desk.specs.Reading.{Reading, opening_of}
 use Rattle.docker_desk.specs.declared.compared.Compared.{Compared}
 use Rattle.docker_desk.specs.declared.compared.Compared.TheVariants as compared
-use Rattle.docker_desk.specs.Requests.{RequestView, print_request, permanent_request, train_request, trains_request, files_request, places_request}
-use Rattle.docker_desk.specs.Requests.{detail_request, permanent_detail_request}
-use Rattle.docker_desk.specs.Requests.{known_request, renew_request, take_request, merge_request, horizon_request, save_request}
+use Rattle.docker_desk.specs.Requests.{RequestView, show_request, renew_request, take_request, merge_request, horizon_request, save_request}
 use Rattle.docker_desk.specs.Replies.{AnswerView, refused_for}
 use Rattle.docker_desk.specs.SessionViews.{SessionView, Setting, Step}
 use Rattle.docker_desk.specs.Doing.{AreSteps, DoesAsked, DoesRequest, answer_of, desk_by}
@@ -188,15 +186,7 @@ module _ (setting : Setting) where
   -- each request keeps this true
   saved_request : (request : RequestView) (before after : SessionView) (answer : AnswerView) → DoesRequest setting request before answer after → IsSaved before
       → IsSaved after
-  saved_request (print_request place day) before after answer does saved = saved_kept before after does.1 saved
-  saved_request (permanent_request place day) before after answer does saved = saved_kept before after does.1 saved
-  saved_request (detail_request place day) before after answer does saved = saved_kept before after does.1 saved
-  saved_request (permanent_detail_request place day) before after answer does saved = saved_kept before after does.1 saved
-  saved_request (train_request uid day) before after answer does saved = saved_kept before after does.1 saved
-  saved_request (trains_request identity day) before after answer does saved = saved_kept before after does.1 saved
-  saved_request files_request before after answer does saved = saved_kept before after does.1 saved
-  saved_request places_request before after answer does saved = saved_kept before after does.1 saved
-  saved_request known_request before after answer does saved = saved_kept before after does.1 saved
+  saved_request (show_request query) before after answer does saved = saved_kept before after does.1 saved
   saved_request renew_request before after answer does saved =
       own_renewed setting.name does.opens.read does.result before.history after.history before.desk after.desk before.look after.look
       does.opens.asked does.opens.ends does.look saved

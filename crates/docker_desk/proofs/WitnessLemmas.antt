@@ -15,10 +15,10 @@ use Rattle.docker_host.specs.History.{Bytes, Event, Text, closed, looked, opened
 use Rattle.docker_host.specs.SessionHost.{SessionHostView}
 use Rattle.docker_host.specs.Shelf.{IsShelfHistory}
 use Rattle.docker_desk.specs.Lines.{AreLines, LineView, whole_line}
-use Rattle.docker_desk.specs.Requests.{AsksFor, IsRequestOf, RequestView, print_request, permanent_request, train_request, trains_request, files_request}
-use Rattle.docker_desk.specs.Requests.{detail_request, permanent_detail_request}
-use Rattle.docker_desk.specs.Requests.{places_request, known_request, renew_request, take_request, merge_request, horizon_request, save_request}
-use Rattle.docker_desk.specs.Desk.{IsFilesAnswer}
+use Rattle.docker_desk.specs.Requests.{AsksFor, IsRequestOf, RequestView, show_request}
+use Rattle.docker_desk.specs.Desk.{IsShown}
+use Rattle.docker_desk.specs.declared.query.Query.TheVariants as query
+use Rattle.docker_desk.specs.declared.requests.Verb.TheVariants as verb
 use Rattle.docker_desk.specs.Replies.{AnswerView, answer_bytes, done_with, memory_answer, no_request, refused_for}
 use Rattle.docker_desk.specs.SessionViews.{SessionView, Setting, Step, setting}
 use Rattle.docker_desk.specs.Doing.{AreSteps, AsksOf, DoesAsked}
@@ -31,6 +31,7 @@ use Rattle.docker_desk.specs.declared.ending.Ending.{Ending}
 use Rattle.docker_desk.specs.declared.ending.Ending.TheVariants.{Ended, InputFailed, InputEndless, OutputFailed}
 use Rattle.docker_desk.proofs.ReadingLemmas.{one_reading}
 use Rattle.docker_desk.proofs.KnownLemmas.{one_read}
+use Rattle.docker_desk.proofs.RequestLemmas.{with_verb}
 use Rattle.state_laws.proofs.texts.ReportedWithHorizon.{valid_is_told}
 use Rattle.docker_office.specs.Office.{HoldsState, no_state}
 use Rattle.docker_office.specs.declared.fault.OfficeFault.{OfficeFault}
@@ -73,30 +74,17 @@ named_so word name true same = let never : ⊥ = cc in absurd never
 one_line : AreLines (codes "files\n") (whole_line asked_line ∷ [])
 one_line = ([], (record { whole = refl; line_text = record { short = omega arith; printable = AllPass-from_list_all is_printable asked_line refl } }, refl))
 
+-- the request `files`
+abbrev files_request : RequestView
+files_request = show_request query.Files
+
 -- the line `files` is the request `files`
 asks_files : (may_write : Bool) → IsRequestOf may_write asked_line files_request
-asks_files may_write = record { name = refl; rest = refl; allowed = λ writes. let never : ⊥ = cc in absurd never }
-
--- if two texts are equal, their first bytes are equal
-heads : (a b : ℕ) (front back : List ℕ) → a ∷ front ≡ b ∷ back → a ≡ b
-heads a b front back same = cc
+asks_files may_write = record { verb = verb.Files; name = refl; makes = (refl, refl); allowed = λ writes. let never : ⊥ = cc in absurd never }
 
 asked_files : (may_write : Bool) (request : Option RequestView) → AsksFor may_write asked_line request → request ≡ Some files_request
 asked_files may_write None asks = absurd (asks files_request (asks_files may_write))
-asked_files may_write (Some (print_request place day)) asks = let first = heads 102 112 _ _ asks.name in absurd (omega (arith, first))
-asked_files may_write (Some (permanent_request place day)) asks = let first = heads 102 112 _ _ asks.name in absurd (omega (arith, first))
-asked_files may_write (Some (detail_request place day)) asks = let first = heads 102 100 _ _ asks.name in absurd (omega (arith, first))
-asked_files may_write (Some (permanent_detail_request place day)) asks = let first = heads 102 112 _ _ asks.name in absurd (omega (arith, first))
-asked_files may_write (Some (train_request uid day)) asks = let first = heads 102 116 _ _ asks.name in absurd (omega (arith, first))
-asked_files may_write (Some (trains_request identity day)) asks = let first = heads 102 116 _ _ asks.name in absurd (omega (arith, first))
-asked_files may_write (Some files_request) asks = refl
-asked_files may_write (Some places_request) asks = let first = heads 102 112 _ _ asks.name in absurd (omega (arith, first))
-asked_files may_write (Some known_request) asks = let first = heads 102 107 _ _ asks.name in absurd (omega (arith, first))
-asked_files may_write (Some renew_request) asks = let first = heads 102 114 _ _ asks.name in absurd (omega (arith, first))
-asked_files may_write (Some (take_request file)) asks = let first = heads 102 116 _ _ asks.name in absurd (omega (arith, first))
-asked_files may_write (Some (merge_request other)) asks = let first = heads 102 109 _ _ asks.name in absurd (omega (arith, first))
-asked_files may_write (Some (horizon_request day)) asks = let first = heads 102 104 _ _ asks.name in absurd (omega (arith, first))
-asked_files may_write (Some save_request) asks = let first = heads 102 115 _ _ asks.name in absurd (omega (arith, first))
+asked_files may_write (Some request) asks = ap Some (with_verb may_write asked_line verb.Files request refl asks).1
 
 -- ---- the bytes of the answer
 
@@ -109,13 +97,17 @@ empty_told = ap (λ (zero : List ℕ). zero ++ codes " " ++ zero ++ codes " " ++
 
 -- if the state knows no files, then after the answer to `files` the output lists no files or
 -- reports that memory ran out
-answered : (output : Bytes) (state : State) (answer : AnswerView) → state ≡ no_state → IsFilesAnswer state answer
+answered : (output : Bytes) (state : State) (answer : AnswerView) → state ≡ no_state → IsShown state query.Files answer
     → Takes (Some []) (answer_bytes answer ++ []) output → IsAnswered output
 answered output state (done_with text) same is takes =
-    let none : text ≡ [] = subst (λ (s : State). IsFilesAnswer s (done_with text)) same is in
+    let none : text ≡ [] = (subst (λ (s : State). IsShown s query.Files (done_with text)) same is).0 in
     inl (takes ∙ ap (λ (t : List ℕ). Some (answer_bytes (done_with t) ++ [])) none ∙ ap Some (append-nil (answer_bytes (done_with [])) ∙ empty_told))
-answered output state (refused_for fault) same is takes =
-    inr (takes ∙ ap (λ (f : OfficeFault). Some (answer_bytes (refused_for f) ++ [])) is ∙ ap Some (append-nil (answer_bytes (refused_for office.Memory))))
+answered output state (refused_for office.Memory) same is takes = inr (takes ∙ ap Some (append-nil (answer_bytes (refused_for office.Memory))))
+answered output state (refused_for office.Lapsed) same is takes = absurd is
+answered output state (refused_for (office.File fault)) same is takes = absurd is
+answered output state (refused_for (office.State fault)) same is takes = absurd is
+answered output state (refused_for office.Source) same is takes = absurd is
+answered output state (refused_for office.Sink) same is takes = absurd is
 answered output state no_request same is takes = absurd is
 
 -- ---- the file holds the state without files

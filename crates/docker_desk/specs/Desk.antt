@@ -1,18 +1,9 @@
 -- What a desk knows, how it answers each request, and what each request changes.
-use Rattle.std.specs.Prelude.{◌≡◌, ◌≢◌, ◌<◌, ℕ, Bool, true, false, List, [], ◌∷◌, ◌++◌, Option, Some, None, Result, Ok, Err, ⊤}
+use Rattle.std.specs.Prelude.{◌≡◌, ◌≢◌, ℕ, Bool, true, false, List, [], ◌∷◌, ◌++◌, Option, Some, None, Result, Ok, Err, ⊤}
 use Rattle.docker_model.specs.file.File.{most_records}
-use Rattle.docker_model.specs.state.State.{State, live_table}
+use Rattle.docker_model.specs.state.State.{State}
 use Rattle.docker_model.specs.state.StateText.{dks_2, state_text}
-use Rattle.docker_model.specs.state.Lapse.{IsDayRefused}
-use Rattle.docker_model.specs.docker.DetailedText.{IsDetailedText}
-use Rattle.docker_model.specs.docker.Permanent.{permanent_table}
-use Rattle.docker_model.specs.state.Table.{Table}
-use Rattle.docker_model.specs.docker.DockerText.{IsDockerText, files_text}
 use Rattle.cif_file.specs.SourceRead.{RefusesText}
-use Rattle.docker_model.specs.lists.TrainText.{IsTrainText}
-use Rattle.docker_model.specs.lists.TrainsText.{IsTrainsText}
-use Rattle.docker_model.specs.lists.KnownText.{IsKnownText}
-use Rattle.docker_model.specs.lists.PlacesText.{IsPlacesText}
 use Rattle.docker_cmd.specs.Prepared.{WantsForState, most_bytes}
 use Rattle.cif_device.specs.Device.{IsEnd, Held}
 use Rattle.docker_host.specs.History.{Bytes, Event, Text, drafted, looked, named_if, placed}
@@ -24,7 +15,9 @@ use Rattle.docker_office.specs.declared.fault.OfficeFault.TheVariants as office
 use Rattle.docker_desk.specs.Reading.{HasOpened, Reading}
 use Rattle.docker_desk.specs.declared.compared.Compared.{Compared}
 use Rattle.docker_desk.specs.declared.compared.Compared.TheVariants as compared
+use Rattle.docker_desk.specs.Queries.{IsQueryLapsed, IsQueryText}
 use Rattle.docker_desk.specs.Replies.{AnswerView, done_with, refused_for, no_request}
+use Rattle.docker_desk.specs.declared.query.Query.{Query}
 
 -- what a desk knows: its state, and whether the desk may have unsaved changes. The flag is set if
 -- the state may differ from the state that the file was last seen to hold
@@ -32,100 +25,21 @@ pub record DeskView : Type 0 where
   pub state : State
   pub unsaved : Bool
 
--- this fault is why a docker is refused: `Lapsed` if its day is refused under the state's
--- horizon, otherwise `Memory`
-abbrev pub IsDockerRefused : State → ℕ → OfficeFault → Type 0
-IsDockerRefused state day office.Lapsed = IsDayRefused state.horizon day
-IsDockerRefused state day office.Memory = ¬ IsDayRefused state.horizon day
-IsDockerRefused state day (office.File fault) = ⊥
-IsDockerRefused state day (office.State fault) = ⊥
-IsDockerRefused state day office.Source = ⊥
-IsDockerRefused state day office.Sink = ⊥
+-- the answer has a text for which `Is` holds, or is a refusal: for `Lapsed` if the day is refused,
+-- otherwise for `Memory`
+abbrev pub IsAnswer : (List ℕ → Type 0) → (IsRefused : Type 0) → AnswerView → Type 0
+IsAnswer Is IsRefused (done_with text) = Is text × (¬ IsRefused)
+IsAnswer Is IsRefused (refused_for office.Lapsed) = IsRefused
+IsAnswer Is IsRefused (refused_for office.Memory) = ¬ IsRefused
+IsAnswer Is IsRefused (refused_for (office.File fault)) = ⊥
+IsAnswer Is IsRefused (refused_for (office.State fault)) = ⊥
+IsAnswer Is IsRefused (refused_for office.Source) = ⊥
+IsAnswer Is IsRefused (refused_for office.Sink) = ⊥
+IsAnswer Is IsRefused no_request = ⊥
 
--- this is an answer to `print` for a timing point and a day
-abbrev pub IsDockerAnswer : State → List ℕ → ℕ → AnswerView → Type 0
-IsDockerAnswer state place day (done_with text) =
-    IsDockerText (live_table state) place day text × (¬ IsDayRefused state.horizon day)
-IsDockerAnswer state place day (refused_for fault) = IsDockerRefused state day fault
-IsDockerAnswer state place day no_request = ⊥
-
--- the answer has the docker of this table as its text, or says that memory ran out
-abbrev pub TellsDocker : Table → List ℕ → ℕ → AnswerView → Type 0
-TellsDocker live place day (done_with text) = IsDockerText live place day text
-TellsDocker live place day (refused_for fault) = fault ≡ office.Memory
-TellsDocker live place day no_request = ⊥
-
--- this is an answer to `permanent`, the request for a docker without the short-term plan. The
--- request is refused for the same faults as `print`
-abbrev pub IsPermanentAnswer : State → List ℕ → ℕ → AnswerView → Type 0
-IsPermanentAnswer state place day (done_with text) =
-    IsDockerText (permanent_table (live_table state)) place day text × (¬ IsDayRefused state.horizon day)
-IsPermanentAnswer state place day (refused_for fault) = IsDockerRefused state day fault
-IsPermanentAnswer state place day no_request = ⊥
-
--- this is an answer to `detail`, the request for a docker whose lines show what they were made from.
--- The request is refused for the same faults as `print`
-abbrev pub IsDetailAnswer : State → List ℕ → ℕ → AnswerView → Type 0
-IsDetailAnswer state place day (done_with text) =
-    IsDetailedText (live_table state) place day text × (¬ IsDayRefused state.horizon day)
-IsDetailAnswer state place day (refused_for fault) = IsDockerRefused state day fault
-IsDetailAnswer state place day no_request = ⊥
-
--- the answer has the detailed docker of this table as its text, or says that memory ran out
-abbrev pub TellsDetails : Table → List ℕ → ℕ → AnswerView → Type 0
-TellsDetails live place day (done_with text) = IsDetailedText live place day text
-TellsDetails live place day (refused_for fault) = fault ≡ office.Memory
-TellsDetails live place day no_request = ⊥
-
--- this is an answer to `permanent-detail`, the request for a detailed docker without the short-term
--- plan. The request is refused for the same faults as `print`
-abbrev pub IsPermanentDetailAnswer : State → List ℕ → ℕ → AnswerView → Type 0
-IsPermanentDetailAnswer state place day (done_with text) =
-    IsDetailedText (permanent_table (live_table state)) place day text × (¬ IsDayRefused state.horizon day)
-IsPermanentDetailAnswer state place day (refused_for fault) = IsDockerRefused state day fault
-IsPermanentDetailAnswer state place day no_request = ⊥
-
--- this fault is why `train` or `trains` is refused: `Lapsed` if the day is before the horizon,
--- otherwise `Memory`
-abbrev pub IsTrainRefused : State → ℕ → OfficeFault → Type 0
-IsTrainRefused state day office.Lapsed = day < state.horizon
-IsTrainRefused state day office.Memory = ¬ (day < state.horizon)
-IsTrainRefused state day (office.File fault) = ⊥
-IsTrainRefused state day (office.State fault) = ⊥
-IsTrainRefused state day office.Source = ⊥
-IsTrainRefused state day office.Sink = ⊥
-
--- this is an answer to `train` for a UID and a day
-abbrev pub IsTrainAnswer : State → List ℕ → ℕ → AnswerView → Type 0
-IsTrainAnswer state uid day (done_with text) =
-    IsTrainText state uid day text × (¬ (day < state.horizon))
-IsTrainAnswer state uid day (refused_for fault) = IsTrainRefused state day fault
-IsTrainAnswer state uid day no_request = ⊥
-
--- this is an answer to `trains` for a train identity and a day
-abbrev pub IsTrainsAnswer : State → List ℕ → ℕ → AnswerView → Type 0
-IsTrainsAnswer state identity day (done_with text) =
-    IsTrainsText (live_table state) identity day text × (¬ (day < state.horizon))
-IsTrainsAnswer state identity day (refused_for fault) = IsTrainRefused state day fault
-IsTrainsAnswer state identity day no_request = ⊥
-
--- this is an answer to `files`
-abbrev pub IsFilesAnswer : State → AnswerView → Type 0
-IsFilesAnswer state (done_with text) = text ≡ files_text state.ledger
-IsFilesAnswer state (refused_for fault) = fault ≡ office.Memory
-IsFilesAnswer state no_request = ⊥
-
--- this is an answer to `places`
-abbrev pub IsPlacesAnswer : State → AnswerView → Type 0
-IsPlacesAnswer state (done_with text) = IsPlacesText (live_table state) text
-IsPlacesAnswer state (refused_for fault) = fault ≡ office.Memory
-IsPlacesAnswer state no_request = ⊥
-
--- this is an answer to `known`
-abbrev pub IsKnownAnswer : State → AnswerView → Type 0
-IsKnownAnswer state (done_with text) = IsKnownText state text
-IsKnownAnswer state (refused_for fault) = fault ≡ office.Memory
-IsKnownAnswer state no_request = ⊥
+-- this is an answer to the query
+abbrev pub IsShown : State → Query → AnswerView → Type 0
+IsShown state query answer = IsAnswer (IsQueryText state query) (IsQueryLapsed state query) answer
 
 -- ---- how files are read
 

@@ -7,12 +7,8 @@ use Rattle.docker_cmd.specs.JobLine.{IsLineText}
 use Rattle.docker_host.specs.History.{Text}
 use Rattle.docker_office.specs.declared.fault.OfficeFault.{OfficeFault}
 use Rattle.docker_desk.specs.Lines.{LineView, whole_line, bad_line, cut_line}
-use Rattle.docker_desk.specs.Requests.{AsksFor, RequestView, print_request, permanent_request, train_request, trains_request, files_request, places_request}
-use Rattle.docker_desk.specs.Requests.{detail_request, permanent_detail_request}
-use Rattle.docker_desk.specs.Requests.{known_request, renew_request, take_request, merge_request, horizon_request, save_request}
-use Rattle.docker_desk.specs.Desk.{DeskView, EndsReceiving, EndsRenewing, EndsSaving, EndsTaking, IsDetailAnswer, IsDockerAnswer, IsFilesAnswer}
-use Rattle.docker_desk.specs.Desk.{IsKnownAnswer, IsPermanentAnswer, IsPermanentDetailAnswer, IsPlacesAnswer, IsTrainAnswer, IsTrainsAnswer, look_by}
-use Rattle.docker_desk.specs.Desk.{unsaved_by}
+use Rattle.docker_desk.specs.Requests.{AsksFor, RequestView, show_request, renew_request, take_request, merge_request, horizon_request, save_request}
+use Rattle.docker_desk.specs.Desk.{DeskView, EndsReceiving, EndsRenewing, EndsSaving, EndsTaking, IsShown, look_by, unsaved_by}
 use Rattle.docker_desk.specs.Reading.{LooksAndOpens, OpensOnce, Reading, StopsInFile, StopsInState}
 use Rattle.docker_desk.specs.declared.compared.Compared.{Compared}
 use Rattle.docker_desk.specs.Replies.{AnswerView, done_with, no_request, refused_for, answer_status}
@@ -73,24 +69,8 @@ with_horizon day before =
 
 -- carrying out this request at the point `before` gives this answer and ends at the point `after`
 abbrev pub DoesRequest : Setting → RequestView → SessionView → AnswerView → SessionView → Type 0
-DoesRequest setting (print_request place day) before answer after =
-    IsDockerAnswer before.desk.state place day answer × (after ≡ before)
-DoesRequest setting (permanent_request place day) before answer after =
-    IsPermanentAnswer before.desk.state place day answer × (after ≡ before)
-DoesRequest setting (detail_request place day) before answer after =
-    IsDetailAnswer before.desk.state place day answer × (after ≡ before)
-DoesRequest setting (permanent_detail_request place day) before answer after =
-    IsPermanentDetailAnswer before.desk.state place day answer × (after ≡ before)
-DoesRequest setting (train_request uid day) before answer after =
-    IsTrainAnswer before.desk.state uid day answer × (after ≡ before)
-DoesRequest setting (trains_request identity day) before answer after =
-    IsTrainsAnswer before.desk.state identity day answer × (after ≡ before)
-DoesRequest setting files_request before answer after =
-    IsFilesAnswer before.desk.state answer × (after ≡ before)
-DoesRequest setting places_request before answer after =
-    IsPlacesAnswer before.desk.state answer × (after ≡ before)
-DoesRequest setting known_request before answer after =
-    IsKnownAnswer before.desk.state answer × (after ≡ before)
+DoesRequest setting (show_request query) before answer after =
+    IsShown before.desk.state query answer × (after ≡ before)
 DoesRequest setting renew_request before answer after = Renews setting before answer after
 DoesRequest setting (take_request file) before answer after =
     Joins file StopsInFile EndsTaking before answer after

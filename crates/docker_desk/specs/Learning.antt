@@ -23,9 +23,7 @@ use Rattle.docker_bytes.specs.SourceRead.{JoinsState}
 use Rattle.docker_office.specs.Office.{HoldsState, TakesFile}
 use Rattle.docker_office.specs.declared.fault.OfficeFault.{OfficeFault}
 use Rattle.docker_office.specs.declared.fault.OfficeFault.TheVariants.{Sink}
-use Rattle.docker_desk.specs.Requests.{RequestView, print_request, permanent_request, train_request, trains_request, files_request, places_request}
-use Rattle.docker_desk.specs.Requests.{detail_request, permanent_detail_request}
-use Rattle.docker_desk.specs.Requests.{known_request, renew_request, take_request, merge_request, horizon_request, save_request}
+use Rattle.docker_desk.specs.Requests.{RequestView, show_request, renew_request, take_request, merge_request, horizon_request, save_request}
 use Rattle.docker_desk.specs.Replies.{AnswerView, done_with, no_request, refused_for}
 use Rattle.docker_desk.specs.SessionViews.{SessionView, Setting, Step}
 use Rattle.docker_desk.specs.Doing.{AreSteps}
@@ -80,15 +78,7 @@ renewing name read = looked name ∷ events_of name read
 -- added the files and the horizon of the summary that they received. `horizon` added its day. Any
 -- other request added nothing
 abbrev pub Hears : Setting → RequestView → SessionView → SessionView → Known → Type 0
-Hears setting (print_request place day) before after heard = heard ≡ nothing
-Hears setting (permanent_request place day) before after heard = heard ≡ nothing
-Hears setting (detail_request place day) before after heard = heard ≡ nothing
-Hears setting (permanent_detail_request place day) before after heard = heard ≡ nothing
-Hears setting (train_request uid day) before after heard = heard ≡ nothing
-Hears setting (trains_request identity day) before after heard = heard ≡ nothing
-Hears setting files_request before after heard = heard ≡ nothing
-Hears setting places_request before after heard = heard ≡ nothing
-Hears setting known_request before after heard = heard ≡ nothing
+Hears setting (show_request query) before after heard = heard ≡ nothing
 Hears setting renew_request before after heard =
     HearsState (renewing setting.name) before after heard
 Hears setting (take_request file) before after heard = HearsFile file before after heard
@@ -127,15 +117,7 @@ pub record HoldsKnown (events : Reading → List Event) (before after : SessionV
 
 -- if the request is `merge` or `renew`, the file held the text of a summary
 abbrev pub ReceivesKnown : Setting → RequestView → SessionView → SessionView → Type 0
-ReceivesKnown setting (print_request place day) before after = ⊤
-ReceivesKnown setting (permanent_request place day) before after = ⊤
-ReceivesKnown setting (detail_request place day) before after = ⊤
-ReceivesKnown setting (permanent_detail_request place day) before after = ⊤
-ReceivesKnown setting (train_request uid day) before after = ⊤
-ReceivesKnown setting (trains_request identity day) before after = ⊤
-ReceivesKnown setting files_request before after = ⊤
-ReceivesKnown setting places_request before after = ⊤
-ReceivesKnown setting known_request before after = ⊤
+ReceivesKnown setting (show_request query) before after = ⊤
 ReceivesKnown setting renew_request before after =
     (known : Known) × HoldsKnown (renewing setting.name) before after known
 ReceivesKnown setting (take_request file) before after = ⊤
@@ -205,15 +187,7 @@ pub record GainsVersion (events : Reading → List Event) (earlier : List Text) 
 -- this is what the state gained by a request that succeeded: a file, a version in `earlier`, a
 -- horizon, or nothing
 abbrev pub GainsDone : Setting → List Text → RequestView → SessionView → SessionView → List Gain → Type 0
-GainsDone setting earlier (print_request place day) before after gains = gains ≡ []
-GainsDone setting earlier (permanent_request place day) before after gains = gains ≡ []
-GainsDone setting earlier (detail_request place day) before after gains = gains ≡ []
-GainsDone setting earlier (permanent_detail_request place day) before after gains = gains ≡ []
-GainsDone setting earlier (train_request uid day) before after gains = gains ≡ []
-GainsDone setting earlier (trains_request identity day) before after gains = gains ≡ []
-GainsDone setting earlier files_request before after gains = gains ≡ []
-GainsDone setting earlier places_request before after gains = gains ≡ []
-GainsDone setting earlier known_request before after gains = gains ≡ []
+GainsDone setting earlier (show_request query) before after gains = gains ≡ []
 GainsDone setting earlier renew_request before after gains =
     GainsVersion (renewing setting.name) earlier before after gains
 GainsDone setting earlier (take_request file) before after gains =

@@ -1,4 +1,5 @@
 pub mod Lines
+pub mod Queries
 pub mod Requests
 pub mod Answers
 pub mod Replies

@@ -29,7 +29,7 @@ pub fn answer_line<D: Folder>(
         (point_of D.look_of D.history D.failures session.new folder.new) }
 {
     match request_in(line, words.may_write) {
-        Some(request) => answer_request(words, request, session, folder),
+        Some(request) => answer_request(words, &request, session, folder),
         None => Answer::Usage,
     }
 }
@@ -37,28 +37,20 @@ pub fn answer_line<D: Folder>(
 /// Carries out a request, and returns the answer.
 fn answer_request<D: Folder>(
     words: &SessionWords<'_>,
-    request: Request<'_>,
+    request: &Request<'_>,
     session: &mut Session<D::Seen>,
     folder: &mut D,
 ) -> Answer
     requires { D.failures folder.old < 2 ^ 64 - 1 }
     ensures does { DoesRequest (setting_of words.now D.names_bytes)
-        (request_meant request.entry)
+        (request_meant request.now)
         (point_of D.look_of D.history D.failures session.old folder.old) (answer_meant result)
         (point_of D.look_of D.history D.failures session.new folder.new) }
     ensures counted { IsCounted (answer_status (answer_meant result))
         (D.failures folder.old) (D.failures folder.new) }
 {
     match request {
-        Request::Print { place, day } => session.desk.print(&place, day),
-        Request::Permanent { place, day } => session.desk.permanent(&place, day),
-        Request::Detail { place, day } => session.desk.detail(&place, day),
-        Request::PermanentDetail { place, day } => session.desk.permanent_detail(&place, day),
-        Request::Train { uid, day } => session.desk.train(&uid, day),
-        Request::Trains { identity, day } => session.desk.trains(&identity, day),
-        Request::Files => session.desk.files(),
-        Request::Places => session.desk.places(),
-        Request::Known => session.desk.known(),
+        Request::Show(query) => session.desk.show(query),
         Request::Renew => {
             let compares = words.may_write;
             let renewed = session
@@ -69,7 +61,7 @@ fn answer_request<D: Folder>(
         Request::Take(name) => answer_to(session.desk.take(name, folder)),
         Request::Merge(name) => answer_to(session.desk.receive(name, folder)),
         Request::Horizon { day } => {
-            session.desk.set_horizon(day);
+            session.desk.set_horizon(*day);
             Answer::Done
         }
         Request::Save => {

@@ -1,31 +1,25 @@
 //! A desk, and the requests that it answers.
-ghost use Rattle.std.specs.Prelude.{◌≡◌, ℕ, List, ◌+◌, ◌-◌, ◌^◌, ◌<◌, false, true, length, IfSome, IsErr, IsOk};
+ghost use Rattle.std.specs.Prelude.{◌≡◌, ◌+◌, ◌-◌, ◌^◌, ◌<◌, false, true, length, IfSome};
 ghost use Rattle.docker_model.specs.state.State.{raise_horizon};
 ghost use Rattle.docker_model.specs.state.StateText.{dks_2, state_text};
+ghost use Rattle.docker_model.specs.lists.KnownText.{IsKnownText};
 ghost use Rattle.docker_cmd.specs.FaultLine.{IsCounted, result_status};
-ghost use Rattle.docker_desk.specs.Desk.{EndsReceiving, EndsRenewing, EndsSaving, EndsTaking, IsDetailAnswer, IsDockerAnswer, IsFilesAnswer, IsKnownAnswer, IsPermanentAnswer, IsPermanentDetailAnswer, IsPlacesAnswer, IsTrainAnswer, IsTrainsAnswer, TellsDetails, TellsDocker, look_by, unsaved_by};
+ghost use Rattle.docker_desk.specs.Desk.{EndsReceiving, EndsRenewing, EndsSaving, EndsTaking, IsShown, look_by, unsaved_by};
 ghost use Rattle.docker_desk.specs.Reading.{LooksAndOpens, OpensOnce, StopsInFile, StopsInState};
 ghost use Rattle.docker_desk.specs.Doing.{desk_by};
-ghost use Rattle.docker_desk.specs.Replies.{answer_meant, done_with, refused_for};
-ghost use Rattle.docker_model.specs.state.Table.{Table};
-ghost use Rattle.docker_day.specs.Dockers.{IsDockerOf};
-ghost use Rattle.docker_detail.specs.DetailedValue.{IsDetailedOf};
-ghost use Rattle.docker_model.specs.lists.KnownText.{IsKnownText};
-ghost use Rattle.docker_office.specs.declared.fault.OfficeFault.TheVariants as office;
+ghost use Rattle.docker_desk.specs.Replies.{answer_meant};
 
 use crate::compared::Compared;
 use crate::page::Page;
+use crate::query::Query;
 use crate::reading::{receive_state, renew_state, take_file};
 use crate::reply::Answer;
 use crate::saving::store_office;
-use cif_line::{Day, Failed, Tiploc, Uid, write_all};
+use crate::showing::{answer_on, show_docker, show_files, show_places, show_train, show_trains};
+use cif_line::{Day, write_all};
 use docker_cmd::{Office, OfficeFault};
-use docker_detail::{DetailedDocker, detailed_docker, permanent_detailed_docker, write_detailed};
 use docker_host::Folder;
-use docker_train::{
-    Docker, DockerFault, TrainFault, permanent_docker, print_train, print_trains, write_docker,
-};
-use state_lists::{KnownText, known_text, print_places};
+use state_lists::{KnownText, known_text};
 use std::alloc::Global;
 use std::marker::Model;
 
@@ -74,111 +68,30 @@ impl Desk {
         self.unsaved
     }
 
-    /// Returns the text of the docker of a timing point on a day. The answer is a refusal if the
-    /// day is before the third day after the horizon, or if memory ran out.
-    pub fn print(&self, place: &Tiploc, day: Day) -> Answer
-        ensures { IsDockerAnswer self.now.state place.now day (answer_meant result) }
+    /// Returns the text that a query asks for. The answer is a refusal if the day of the query is
+    /// refused under the horizon, or if memory ran out. Only a query for a docker, a train or a list
+    /// of trains has a day. The first query for `Known` counts all entries; later ones return the
+    /// same text as long as the state can't have changed.
+    pub fn show(&mut self, query: &Query) -> Answer
+        ensures answer { IsShown self.old.state query.now (answer_meant result) }
+        ensures desk { self.new ≡ self.old }
     {
-        let mut page = Page::new(self.alloc);
-        match self.office.print(place, day, &mut page) {
-            Ok(()) => Answer::Text(page),
-            Err(OfficeFault::Sink) => Answer::Refused(OfficeFault::Memory),
-            Err(fault) => Answer::Refused(fault),
+        let alloc = self.alloc;
+        let office = &self.office;
+        match *query {
+            Query::Docker { kind, place, day } => show_docker(alloc, office, kind, &place, day),
+            Query::Train { uid, day } => show_train(alloc, office, &uid, day),
+            Query::Trains { identity, day } => show_trains(alloc, office, &identity, day),
+            Query::Files => show_files(alloc, office),
+            Query::Places => show_places(alloc, office),
+            Query::Known => self.show_known(),
         }
-    }
-
-    /// Returns the text of the docker that `permanent` prints for a timing point on a day: a docker
-    /// without the short-term plan. The answer is a refusal for the same reasons as in `print`.
-    pub fn permanent(&self, place: &Tiploc, day: Day) -> Answer
-        ensures { IsPermanentAnswer self.now.state place.now day (answer_meant result) }
-    {
-        match permanent_docker(self.alloc, self.office.state(), place, day) {
-            Ok(docker) => answer_with(self.alloc, &docker),
-            Err(DockerFault::Lapsed) => Answer::Refused(OfficeFault::Lapsed),
-            Err(DockerFault::Memory) => Answer::Refused(OfficeFault::Memory),
-        }
-    }
-
-    /// Returns the text of the detailed docker of a timing point on a day: a docker whose lines show
-    /// what they were made from. The answer is a refusal for the same reasons as in `print`.
-    pub fn detail(&self, place: &Tiploc, day: Day) -> Answer
-        ensures { IsDetailAnswer self.now.state place.now day (answer_meant result) }
-    {
-        match detailed_docker(self.alloc, self.office.state(), place, day) {
-            Ok(docker) => detailed_answer(self.alloc, &docker),
-            Err(DockerFault::Lapsed) => Answer::Refused(OfficeFault::Lapsed),
-            Err(DockerFault::Memory) => Answer::Refused(OfficeFault::Memory),
-        }
-    }
-
-    /// Returns the text of the detailed docker that `permanent-detail` prints for a timing point on
-    /// a day: a detailed docker without the short-term plan. The answer is a refusal for the same
-    /// reasons as in `print`.
-    pub fn permanent_detail(&self, place: &Tiploc, day: Day) -> Answer
-        ensures { IsPermanentDetailAnswer self.now.state place.now day (answer_meant result) }
-    {
-        match permanent_detailed_docker(self.alloc, self.office.state(), place, day) {
-            Ok(docker) => detailed_answer(self.alloc, &docker),
-            Err(DockerFault::Lapsed) => Answer::Refused(OfficeFault::Lapsed),
-            Err(DockerFault::Memory) => Answer::Refused(OfficeFault::Memory),
-        }
-    }
-
-    /// Returns the text of the schedule that is chosen for a train on a day, or a line which says
-    /// that no schedule is chosen. The answer is a refusal if the day is before the horizon, or if
-    /// memory ran out.
-    pub fn train(&self, uid: &Uid, day: Day) -> Answer
-        ensures { IsTrainAnswer self.now.state uid.now day (answer_meant result) }
-    {
-        let mut page = Page::new(self.alloc);
-        match print_train(self.office.state(), uid, day, &mut page) {
-            Ok(()) => Answer::Text(page),
-            Err(TrainFault::Lapsed) => Answer::Refused(OfficeFault::Lapsed),
-            Err(TrainFault::Sink) => Answer::Refused(OfficeFault::Memory),
-        }
-    }
-
-    /// Returns a line for each train that has this train identity and starts on this day, in
-    /// ascending order of the UIDs. The answer is a refusal for the same reasons as in `train`.
-    pub fn trains(&self, identity: &[u8; 4], day: Day) -> Answer
-        ensures { IsTrainsAnswer self.now.state identity.now day (answer_meant result) }
-    {
-        let mut page = Page::new(self.alloc);
-        match print_trains(self.office.state(), identity, day, &mut page) {
-            Ok(()) => Answer::Text(page),
-            Err(TrainFault::Sink) => Answer::Refused(OfficeFault::Memory),
-            Err(_) => Answer::Refused(OfficeFault::Lapsed),
-        }
-    }
-
-    /// Returns a line for each file that the desk knows, in the ledger's order. The answer is a
-    /// refusal only if memory ran out.
-    pub fn files(&self) -> Answer
-        ensures { IsFilesAnswer self.now.state (answer_meant result) }
-    {
-        let mut page = Page::new(self.alloc);
-        match self.office.files(&mut page) {
-            Ok(()) => Answer::Text(page),
-            Err(_) => Answer::Refused(OfficeFault::Memory),
-        }
-    }
-
-    /// Returns a line for each live timing point, with the number of live schedules that call
-    /// there. The answer is a refusal only if memory ran out.
-    pub fn places(&self) -> Answer
-        ensures { IsPlacesAnswer self.now.state (answer_meant result) }
-    {
-        let mut page = Page::new(self.alloc);
-        let printed = print_places(self.office.state(), &mut page);
-        answer_on(page, printed)
     }
 
     /// Returns a few lines on what the desk knows: the horizon, the newest full extract, the latest
-    /// last day of a live schedule, and the numbers of live entries. The answer is a refusal only
-    /// if memory ran out. The first call counts all entries; later calls return that text as long
-    /// as the state can't have changed.
-    pub fn known(&mut self) -> Answer
-        ensures answer { IsKnownAnswer self.old.state (answer_meant result) }
+    /// last day of a live schedule, and the numbers of live entries.
+    fn show_known(&mut self) -> Answer
+        ensures answer { IsShown self.old.state Query.Known (answer_meant result) }
         ensures desk { self.new ≡ self.old }
     {
         let text = text_of_known(self.known.take(), &self.office);
@@ -320,43 +233,5 @@ fn text_of_known(kept: Option<KnownText>, office: &Office) -> KnownText
     match kept {
         Some(text) => text,
         None => known_text(office.state()),
-    }
-}
-
-/// Returns the answer whose text was printed on a page, or a refusal if memory ran out for the
-/// page.
-fn answer_on(page: Page, printed: Result<(), Failed>) -> Answer
-    ensures done { IsOk printed → answer_meant result ≡ done_with page.text }
-    ensures refused { IsErr printed → answer_meant result ≡ refused_for office.Memory }
-{
-    match printed {
-        Ok(()) => Answer::Text(page),
-        Err(Failed) => Answer::Refused(OfficeFault::Memory),
-    }
-}
-
-/// Returns the answer that has the text of a docker, or a refusal if there is no memory for the
-/// text.
-fn answer_with(alloc: Global, docker: &Docker<'_>) -> Answer
-    ensures { (live : Table) (place : List ℕ) (day : ℕ) → IsDockerOf live place day docker.now
-        → TellsDocker live place day (answer_meant result) }
-{
-    let mut page = Page::new(alloc);
-    match write_docker(docker, &mut page) {
-        Ok(()) => Answer::Text(page),
-        Err(_) => Answer::Refused(OfficeFault::Memory),
-    }
-}
-
-/// Returns the answer that has the text of a detailed docker, or a refusal if there is no memory for
-/// the text.
-fn detailed_answer(alloc: Global, docker: &DetailedDocker<'_>) -> Answer
-    ensures { (live : Table) (place : List ℕ) (day : ℕ) → IsDetailedOf live place day docker.now
-        → TellsDetails live place day (answer_meant result) }
-{
-    let mut page = Page::new(alloc);
-    match write_detailed(docker, &mut page) {
-        Ok(()) => Answer::Text(page),
-        Err(_) => Answer::Refused(OfficeFault::Memory),
     }
 }

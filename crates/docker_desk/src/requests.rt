@@ -3,10 +3,11 @@ ghost use Rattle.std.specs.Prelude.{◌≡◌, ◌≢◌, ◌↔◌, ℕ, List, 
 ghost use Rattle.std.specs.Option.{option_copied};
 ghost use Rattle.std.specs.Str.{bytes_eq};
 ghost use Rattle.docker_cmd.specs.JobLine.{IsLineText, words_in};
-ghost use Rattle.docker_desk.specs.Requests.{ArePlaceAndDay, AsksFor, FitsRest, NamesFile, NamesIdentity, NamesTrain, is_writing, name_of, request_meant, row_meant, row_of, usage_line, verb_named, verbs};
-ghost use Rattle.docker_cmd.specs.Words.{OfTwo, is_plain_word};
-ghost use Rattle.docker_desk.specs.declared.requests.Verb.TheVariants as verb;
+ghost use Rattle.docker_desk.specs.Queries.{AreIdentityAndDay, ArePlaceAndDay, AreTrainAndDay, NamesIdentity, NamesTrain};
+ghost use Rattle.docker_desk.specs.Requests.{AsksFor, FindsRequest, MakesRequest, NamesFile, is_writing, name_of, request_meant, row_meant, row_of, usage_line, verb_named, verbs};
+ghost use Rattle.docker_cmd.specs.Words.{NamesDay, OfOne, OfTwo, is_plain_word};
 
+use crate::query::{DockerKind, Query};
 use crate::words::{has_word, next_word, one_word, two_words};
 use cif_line::{Day, Tiploc, Uid};
 use docker_cmd::text_of;
@@ -14,14 +15,8 @@ use docker_cmd::text_of;
 /// The verbs: the words that name requests.
 #[derive(Clone, Copy, PartialEq, Eq, Debug)]
 pub enum Verb {
-    /// Prints the docker of a timing point on a day.
-    Print,
-    /// Prints the permanent docker of a timing point on a day.
-    Permanent,
-    /// Prints the detailed docker of a timing point on a day.
-    Detail,
-    /// Prints the permanent detailed docker of a timing point on a day.
-    PermanentDetail,
+    /// Prints the docker of this kind, for a timing point and a day.
+    Docker(DockerKind),
     /// Shows the schedule that is chosen for a train on a day.
     Train,
     /// Lists the trains that have a train identity and start on a day.
@@ -73,10 +68,10 @@ impl Verb {
         ensures { result.now ≡ verbs }
     {
         &[
-            Verb::Print,
-            Verb::Permanent,
-            Verb::Detail,
-            Verb::PermanentDetail,
+            Verb::Docker(DockerKind::Ordinary),
+            Verb::Docker(DockerKind::Permanent),
+            Verb::Docker(DockerKind::Detailed),
+            Verb::Docker(DockerKind::PermanentDetailed),
             Verb::Train,
             Verb::Trains,
             Verb::Files,
@@ -95,10 +90,7 @@ impl Verb {
         ensures { row_meant result ≡ row_of self }
     {
         match self {
-            Verb::Print => RequestRow::of("print", &["TIPLOC", "DATE"], false),
-            Verb::Permanent => RequestRow::of("permanent", &["TIPLOC", "DATE"], false),
-            Verb::Detail => RequestRow::of("detail", &["TIPLOC", "DATE"], false),
-            Verb::PermanentDetail => RequestRow::of("permanent-detail", &["TIPLOC", "DATE"], false),
+            Verb::Docker(kind) => RequestRow::of(kind.word(), &["TIPLOC", "DATE"], false),
             Verb::Train => RequestRow::of("train", &["UID", "DATE"], false),
             Verb::Trains => RequestRow::of("trains", &["IDENTITY", "DATE"], false),
             Verb::Files => RequestRow::of("files", &[], false),
@@ -157,58 +149,11 @@ fn first_named<'a>(verbs: &'a [Verb], name: &str) -> Option<&'a Verb>
     verbs.iter().find(|verb| verb.is_named(name))
 }
 
-/// A request, with the timing point, the train, the train identity, the day or the file that the
-/// request names.
+/// A request, with what it asks for, or with the day or the file that it names.
 #[derive(Clone, Copy, Debug)]
 pub enum Request<'a> {
-    /// `print`: prints the docker of a timing point on a day.
-    Print {
-        /// The timing point.
-        place: Tiploc,
-        /// The day.
-        day: Day,
-    },
-    /// `permanent`: prints the permanent docker of a timing point on a day.
-    Permanent {
-        /// The timing point.
-        place: Tiploc,
-        /// The day.
-        day: Day,
-    },
-    /// `detail`: prints the detailed docker of a timing point on a day.
-    Detail {
-        /// The timing point.
-        place: Tiploc,
-        /// The day.
-        day: Day,
-    },
-    /// `permanent-detail`: prints the permanent detailed docker of a timing point on a day.
-    PermanentDetail {
-        /// The timing point.
-        place: Tiploc,
-        /// The day.
-        day: Day,
-    },
-    /// `train`: shows the schedule that is chosen for a train on a day.
-    Train {
-        /// The train.
-        uid: Uid,
-        /// The day.
-        day: Day,
-    },
-    /// `trains`: lists the trains that have a train identity and start on a day.
-    Trains {
-        /// The train identity.
-        identity: [u8; 4],
-        /// The day.
-        day: Day,
-    },
-    /// `files`: lists the files that are known.
-    Files,
-    /// `places`: lists the timing points that are known.
-    Places,
-    /// `known`: shows how much is known.
-    Known,
+    /// Shows something, and changes nothing.
+    Show(Query),
     /// `renew`: joins the state with the state that the state's file holds now.
     Renew,
     /// `take`: takes the file with this name into the state.
@@ -240,26 +185,32 @@ pub fn request_in(line: &[u8], may_write: bool) -> Option<Request<'_>>
 
 /// Returns the request with this verb, if the rest of the line fits the verb.
 fn request_of(verb: Verb, rest: &str) -> Option<Request<'_>>
-    ensures { FitsRest verb rest.now (option_map request_meant result) }
+    ensures { FindsRequest (MakesRequest verb rest.now) (option_map request_meant result) }
 {
     match verb {
-        Verb::Print => print_request(rest),
-        Verb::Permanent => permanent_request(rest),
-        Verb::Detail => detail_request(rest),
-        Verb::PermanentDetail => permanent_detail_request(rest),
-        Verb::Train => train_request(rest),
-        Verb::Trains => trains_request(rest),
+        Verb::Docker(kind) => {
+            let (place, day) = place_and_day(rest)?;
+            Some(Request::Show(Query::Docker { kind, place, day }))
+        }
+        Verb::Train => {
+            let (uid, day) = train_and_day(rest)?;
+            Some(Request::Show(Query::Train { uid, day }))
+        }
+        Verb::Trains => {
+            let (identity, day) = identity_and_day(rest)?;
+            Some(Request::Show(Query::Trains { identity, day }))
+        }
         Verb::Files => {
             alone(rest)?;
-            Some(Request::Files)
+            Some(Request::Show(Query::Files))
         }
         Verb::Places => {
             alone(rest)?;
-            Some(Request::Places)
+            Some(Request::Show(Query::Places))
         }
         Verb::Known => {
             alone(rest)?;
-            Some(Request::Known)
+            Some(Request::Show(Query::Known))
         }
         Verb::Renew => {
             alone(rest)?;
@@ -267,44 +218,15 @@ fn request_of(verb: Verb, rest: &str) -> Option<Request<'_>>
         }
         Verb::Take => Some(Request::Take(file_named(rest)?)),
         Verb::Merge => Some(Request::Merge(file_named(rest)?)),
-        Verb::Horizon => horizon_request(rest),
+        Verb::Horizon => {
+            let day = day_alone(rest)?;
+            Some(Request::Horizon { day })
+        }
         Verb::Save => {
             alone(rest)?;
             Some(Request::Save)
         }
     }
-}
-
-/// Returns the `print` request if this rest of the line fits `print`.
-fn print_request(rest: &str) -> Option<Request<'_>>
-    ensures { FitsRest verb.Print rest.now (option_map request_meant result) }
-{
-    let (place, day) = place_and_day(rest)?;
-    Some(Request::Print { place, day })
-}
-
-/// Returns the `permanent` request if this rest of the line fits `permanent`.
-fn permanent_request(rest: &str) -> Option<Request<'_>>
-    ensures { FitsRest verb.Permanent rest.now (option_map request_meant result) }
-{
-    let (place, day) = place_and_day(rest)?;
-    Some(Request::Permanent { place, day })
-}
-
-/// Returns the `detail` request if this rest of the line fits `detail`.
-fn detail_request(rest: &str) -> Option<Request<'_>>
-    ensures { FitsRest verb.Detail rest.now (option_map request_meant result) }
-{
-    let (place, day) = place_and_day(rest)?;
-    Some(Request::Detail { place, day })
-}
-
-/// Returns the `permanent-detail` request if this rest of the line fits `permanent-detail`.
-fn permanent_detail_request(rest: &str) -> Option<Request<'_>>
-    ensures { FitsRest verb.PermanentDetail rest.now (option_map request_meant result) }
-{
-    let (place, day) = place_and_day(rest)?;
-    Some(Request::PermanentDetail { place, day })
 }
 
 /// Returns the timing point and the day that the rest of the line names, or `None` if the rest
@@ -323,33 +245,40 @@ fn place_and_day(rest: &str) -> Option<(Tiploc, Day)>
     Some((place, day))
 }
 
-/// Returns the `train` request if this rest of the line fits `train`.
-fn train_request(rest: &str) -> Option<Request<'_>>
-    ensures { FitsRest verb.Train rest.now (option_map request_meant result) }
+/// Returns the UID and the day that the rest of the line names, or `None` if the rest isn't exactly
+/// a UID and a day.
+fn train_and_day(rest: &str) -> Option<(Uid, Day)>
+    ensures some { IfSome result (λ it. OfTwo (AreTrainAndDay it.0 it.1) (words_in rest.now)) }
+    ensures none { IsNone result → (uid : List ℕ) (day : ℕ)
+        → ¬ OfTwo (AreTrainAndDay uid day) (words_in rest.now) }
 {
     let (word, date) = two_words(rest)?;
     let uid = train_named(word)?;
     let day = Day::from_iso(date)?;
-    Some(Request::Train { uid, day })
+    Some((uid, day))
 }
 
-/// Returns the `trains` request if this rest of the line fits `trains`.
-fn trains_request(rest: &str) -> Option<Request<'_>>
-    ensures { FitsRest verb.Trains rest.now (option_map request_meant result) }
+/// Returns the train identity and the day that the rest of the line names, or `None` if the rest
+/// isn't exactly a train identity and a day.
+fn identity_and_day(rest: &str) -> Option<([u8; 4], Day)>
+    ensures some { IfSome result (λ it. OfTwo (AreIdentityAndDay it.0 it.1) (words_in rest.now)) }
+    ensures none { IsNone result → (identity : List ℕ) (day : ℕ)
+        → ¬ OfTwo (AreIdentityAndDay identity day) (words_in rest.now) }
 {
     let (word, date) = two_words(rest)?;
     let identity = identity_named(word)?;
     let day = Day::from_iso(date)?;
-    Some(Request::Trains { identity, day })
+    Some((identity, day))
 }
 
-/// Returns the `horizon` request if this rest of the line fits `horizon`.
-fn horizon_request(rest: &str) -> Option<Request<'_>>
-    ensures { FitsRest verb.Horizon rest.now (option_map request_meant result) }
+/// Returns the day that the rest of the line names, or `None` if the rest isn't exactly a day.
+fn day_alone(rest: &str) -> Option<Day>
+    ensures some { IfSome result (λ day. OfOne (λ date. NamesDay date day) (words_in rest.now)) }
+    ensures none { IsNone result → (day : ℕ)
+        → ¬ OfOne (λ date. NamesDay date day) (words_in rest.now) }
 {
     let date = one_word(rest)?;
-    let day = Day::from_iso(date)?;
-    Some(Request::Horizon { day })
+    Day::from_iso(date)
 }
 
 /// Returns `Some` if the rest of the line has no words.

@@ -17,20 +17,19 @@ use Rattle.docker_bytes.specs.SourceRead.{JoinsState}
 use Rattle.docker_office.specs.declared.fault.OfficeFault.{OfficeFault}
 use Rattle.docker_office.specs.declared.fault.OfficeFault.TheVariants as office
 use Rattle.docker_cmd.specs.FaultLine.{IsCounted, status_of}
-use Rattle.docker_cmd.specs.JobLine.{words_in}
 use Rattle.docker_cmd.specs.Prepared.{most_bytes}
-use Rattle.docker_cmd.specs.Words.{OfTwo}
 use Rattle.docker_cmd.specs.declared.fault.Fault.TheVariants.{Office}
 use Rattle.docker_program.specs.Commands.{HoldsKnown, PrintsKnown}
 use Rattle.docker_program.proofs.CommandLemmas.{IsKnown, known_held, known_joined, known_text}
 use Rattle.docker_desk.specs.Answers.{answer_text, line_count}
 use Rattle.docker_desk.specs.Lines.{AreLines, LineView, whole_line}
-use Rattle.docker_desk.specs.Requests.{ArePlaceAndDay, HasRest, IsRequestOf, RequestView, after_word, first_word, name_of, verb_named, verb_of}
-use Rattle.docker_desk.specs.Requests.{print_request, permanent_request, detail_request, permanent_detail_request, train_request, trains_request, files_request}
-use Rattle.docker_desk.specs.Requests.{places_request, known_request, renew_request, take_request, merge_request, horizon_request, save_request}
-use Rattle.docker_desk.specs.declared.requests.Verb.{Verb}
+use Rattle.docker_desk.specs.Requests.{IsRequestOf, RequestView, show_request, merge_request, save_request}
+use Rattle.docker_desk.specs.declared.query.DockerKind.TheVariants as kind
+use Rattle.docker_desk.specs.declared.query.Query.{Query}
+use Rattle.docker_desk.specs.declared.query.Query.TheVariants as query
 use Rattle.docker_desk.specs.declared.requests.Verb.TheVariants as verb
-use Rattle.docker_desk.specs.Desk.{DeskView, EndsReceiving, EndsSaving, IsDockerAnswer}
+use Rattle.docker_desk.specs.Desk.{DeskView, EndsReceiving, EndsSaving, IsShown}
+use Rattle.docker_desk.proofs.RequestLemmas.{with_verb}
 use Rattle.docker_desk.specs.Reading.{Reading, StopsInState, opening_of}
 use Rattle.docker_desk.specs.Replies.{AnswerView, answer_body, answer_bytes, answer_status, done_with, no_request, refused_for}
 use Rattle.docker_desk.specs.SessionViews.{SessionView, Setting, Step, setting}
@@ -82,57 +81,9 @@ lines_are = (
 abbrev pub HasOneReading : Type 0
 HasOneReading = (text : List ℕ) (lines others : List LineView) → AreLines text lines → AreLines text others → lines ≡ others
 
--- ---- the requests of the lines
-
-named_back : (v : Verb) → verb_named (name_of v) ≡ Some v
-unfolding verb_named
-named_back verb.Print = refl
-named_back verb.Permanent = refl
-named_back verb.Detail = refl
-named_back verb.PermanentDetail = refl
-named_back verb.Train = refl
-named_back verb.Trains = refl
-named_back verb.Files = refl
-named_back verb.Places = refl
-named_back verb.Known = refl
-named_back verb.Renew = refl
-named_back verb.Take = refl
-named_back verb.Merge = refl
-named_back verb.Horizon = refl
-named_back verb.Save = refl
-
--- what a request with this verb and this rest of its line is, for the verbs of the input
-abbrev IsWith : Verb → List ℕ → RequestView → Type 0
-IsWith verb.Merge rest request = request ≡ merge_request rest
-IsWith verb.Save rest request = request ≡ save_request
-IsWith verb.Print rest request =
-    (place : List ℕ) × ((day : ℕ) × ((request ≡ print_request place day) × OfTwo (ArePlaceAndDay place day) (words_in rest)))
-IsWith _ rest request = ⊤
-
-is_with : (rest : List ℕ) (request : RequestView) → HasRest request rest → IsWith (verb_of request) rest request
-is_with rest (merge_request other) has = ap merge_request has.same
-is_with rest save_request has = refl
-is_with rest (print_request there day) has = (there, (day, (refl, has)))
-is_with rest (permanent_request there day) has = tt
-is_with rest (detail_request there day) has = tt
-is_with rest (permanent_detail_request there day) has = tt
-is_with rest (train_request uid day) has = tt
-is_with rest (trains_request identity day) has = tt
-is_with rest files_request has = tt
-is_with rest places_request has = tt
-is_with rest known_request has = tt
-is_with rest renew_request has = tt
-is_with rest (take_request file) has = tt
-is_with rest (horizon_request day) has = tt
-
--- the first word of a line determines the verb of its request
-with_verb : (line : List ℕ) (v : Verb) (request : RequestView) → first_word line ≡ name_of v → IsRequestOf true line request
-    → IsWith v (after_word line) request
-with_verb line v request first is = subst (λ (u : Verb). IsWith u (after_word line) request) same (is_with (after_word line) request is.rest)
-  where
-    same : verb_of request ≡ v
-    same =
-        let both : Some (verb_of request) ≡ Some v = sym (named_back (verb_of request)) ∙ ap verb_named (sym is.name ∙ first) ∙ named_back v in cc
+-- the query of `print` for a timing point and a day
+abbrev pub docker_query : List ℕ → ℕ → Query
+docker_query there day = query.Docker kind.Ordinary there day
 
 -- ---- the answers
 
@@ -216,25 +167,26 @@ module _ (its : Setting) (text : List ℕ) (request : Option RequestView) (befor
   merge_done : AsksOf true (whole_line merge_line) request → DoesAsked its request before (done_with text) after → (text ≡ []) × IsMerged south before after
   merge_done asks does =
       let asked = asked_done its merge_line text request before after asks does in
-      let same : asked.0 ≡ merge_request south = with_verb merge_line verb.Merge asked.0 refl asked.1.0 in
+      let merge = with_verb true merge_line verb.Merge asked.0 refl asked.1.0 in
+      let same : asked.0 ≡ merge_request south = merge.1.1 ∙ ap merge_request merge.1.0.same in
       merged south text before after (subst (λ (r : RequestView). DoesRequest its r before (done_with text) after) same asked.1.1)
 
   print_done : AsksOf true (whole_line print_line) request → DoesAsked its request before (done_with text) after
-      → IsDockerAnswer before.desk.state place 23537 (done_with text) × (after ≡ before)
+      → IsShown before.desk.state (docker_query place 23537) (done_with text) × (after ≡ before)
   print_done asks does =
       let asked = asked_done its print_line text request before after asks does in
-      let print = with_verb print_line verb.Print asked.0 refl asked.1.0 in
-      let place_is : print.0 ≡ place = one_place place print.0 refl print.1.1.1.named in
-      let dated = print.1.1.1.dated in
+      let print = with_verb true print_line (verb.Docker kind.Ordinary) asked.0 refl asked.1.0 in
+      let place_is : print.0 ≡ place = one_place place print.0 refl print.1.1.0.named in
+      let dated = print.1.1.0.dated in
       let day_is : print.1.0 ≡ 23537 = sym (digits_in-day_text print.1.0 dated.within (codes "2024-06-10") dated.written).1 ∙ date_is in
-      let same : asked.0 ≡ print_request place 23537 = print.1.1.0 ∙ (λ i. print_request (place_is i) (day_is i)) in
+      let same : asked.0 ≡ show_request (docker_query place 23537) = print.1.1.1 ∙ (λ i. show_request (docker_query (place_is i) (day_is i))) in
       subst (λ (r : RequestView). DoesRequest its r before (done_with text) after) same asked.1.1
 
 save_done : (name text : List ℕ) (request : Option RequestView) (before after : SessionView) → AsksOf true (whole_line save_line) request
     → DoesAsked (setting name true true) request before (done_with text) after → (text ≡ []) × IsStoredSo name before after
 save_done name text request before after asks does =
     let asked = asked_done (setting name true true) save_line text request before after asks does in
-    let same : asked.0 ≡ save_request = with_verb save_line verb.Save asked.0 refl asked.1.0 in
+    let same : asked.0 ≡ save_request = (with_verb true save_line verb.Save asked.0 refl asked.1.0).1 in
     stored_so name text before after (subst (λ (r : RequestView). DoesRequest (setting name true true) r before (done_with text) after) same asked.1.1)
 
 -- a day that isn't refused under the state's horizon isn't refused under the known horizon
@@ -290,9 +242,9 @@ module _ (old : List Event) (first one two three : SessionView) (begins : Begins
     pub holds_all : HoldsKnown dks_2 (text_under three.history north) (united known heard)
     holds_all = (state_text dks_2 one.desk.state, text_is, known_text (united known heard) one.desk.state (state_text dks_2 one.desk.state) knows refl)
 
-    pub prints_all : (text : List ℕ) → IsDockerAnswer two.desk.state place 23537 (done_with text) → PrintsKnown (united known heard) place 23537 text
+    pub prints_all : (text : List ℕ) → IsShown two.desk.state (docker_query place 23537) (done_with text) → PrintsKnown (united known heard) place 23537 text
     prints_all text is =
-        let told = subst (λ (s : State). IsDockerAnswer s place 23537 (done_with text)) saves.state is in
+        let told = subst (λ (s : State). IsShown s (docker_query place 23537) (done_with text)) saves.state is in
         record {
           good = knows.good;
           allowed = not_refused (united known heard) one.desk.state 23537 knows told.1;
@@ -328,7 +280,7 @@ record AreThree (first last : SessionView) (answers : List ℕ) : Type 0 where
   pub merges : IsMerged south first one
   pub saves : IsStoredSo north one two
   pub docker : List ℕ
-  pub prints : IsDockerAnswer two.desk.state place 23537 (done_with docker)
+  pub prints : IsShown two.desk.state (docker_query place 23537) (done_with docker)
   pub same : last ≡ two
   pub told : answers ≡ codes "0 0 0\n" ++ codes "0 0 0\n" ++ answer_text 0 docker
   pub sound : last.failures ≡ first.failures
@@ -419,7 +371,7 @@ module _ (first last : SessionView) (x y z : Step) (taken : List ℕ) (lines : l
       × (z.after.failures ≡ z.before.failures))
   z_does = done_step the_setting print_line z z_line are.1.1.1.1.1.0 z_done.0 z_done.1
 
-  z_prints : IsDockerAnswer z.before.desk.state place 23537 (done_with z_done.0) × (z.after ≡ z.before)
+  z_prints : IsShown z.before.desk.state (docker_query place 23537) (done_with z_done.0) × (z.after ≡ z.before)
   z_prints = print_done the_setting z_done.0 z.request z.before z.after z_does.0 z_does.1.0
 
   -- the points at which the steps meet
@@ -442,7 +394,7 @@ module _ (first last : SessionView) (x y z : Step) (taken : List ℕ) (lines : l
     merges = subst (λ (m : SessionView). IsMerged south m x.after) x_from x_merges.1;
     saves = subst (λ (m : SessionView). IsStoredSo north m y.after) y_from y_saves.1;
     docker = z_done.0;
-    prints = subst (λ (m : SessionView). IsDockerAnswer m.desk.state place 23537 (done_with z_done.0)) z_from z_prints.0;
+    prints = subst (λ (m : SessionView). IsShown m.desk.state (docker_query place 23537) (done_with z_done.0)) z_from z_prints.0;
     same = last_is ∙ z_prints.1 ∙ z_from;
     told = after_three taken x.answer y.answer z.answer whole done z_done.0 x_is y_is z_done.1;
     sound =
