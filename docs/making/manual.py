@@ -18,6 +18,8 @@ MANUAL = "docs/MANUAL.md"
 # The source files with the table of subcommands and the table of requests.
 SUBCOMMANDS = "crates/docker_cmd/src/tasks.rt"
 REQUESTS = "crates/docker_desk/src/requests.rt"
+# The source file with the words that request a docker.
+QUERIES = "crates/docker_desk/src/query.rt"
 # The day on which the text in this script was last changed.
 DATE = "2026-11-27"
 
@@ -46,9 +48,16 @@ def part(heading):
     return paragraphs(section(MANUAL, heading, "###"))
 
 
+def docker_words():
+    """The words that request a docker, one for each kind of docker."""
+    return re.findall(r'DockerKind::\w+ => "([a-z-]+)"', read(QUERIES))
+
+
 def rows_of(source):
-    """The rows of a table in the code, such as `Row::of("day", &["FILE", "TIPLOC", "DATE"], ..)`: the words of each row, and its last column."""
-    rows = re.findall(r'=> \w*Row::of\(\s*"([a-z-]+)",\s*&\[([^]]*)\],(?:\s*\w+,)*\s*(\w+),?\s*\)', read(source))
+    """The rows of a table in the code, such as `Row::of("day", &["FILE", "TIPLOC", "DATE"], ..)`: the words of each row, and its last column. The row of a
+    desk's dockers stands for one row for each kind of docker."""
+    text = re.sub(r"=> (\w*Row::of)\(kind\.word\(\), (.*)\)", lambda it: "\n".join(f'=> {it[1]}("{word}", {it[2]})' for word in docker_words()), read(source))
+    rows = re.findall(r'=> \w*Row::of\(\s*"([a-z-]+)",\s*&\[([^]]*)\],(?:\s*\w+,)*\s*(\w+),?\s*\)', text)
     return [(" ".join([name, *re.findall(r'"([A-Z]+)"', ids)]), last) for name, ids, last in rows]
 
 
