@@ -38,5 +38,4 @@ returns c =
     kept place day (change_opened c.args.opened lines) refl
     (opened_elsewhere place day c.args.opened c.args.runs_near lines read whole near stays.0 stays.1 c.args.self.now has.place_is has.day_is
     c.args.lines.now renewed c.may_call_on.result c.may_call_on.ensures c.in-Some.basic.now
-    (first_line c.args.lines.now c.in-Some.basic.now c.in-Some.ensures.value)
-    c.if-may_call_on.false) all has)
+    (first_line c.args.lines.now c.in-Some.basic.now c.in-Some.ensures.value) c.if-may_call_on.false) all has)
