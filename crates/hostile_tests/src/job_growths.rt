@@ -4,7 +4,7 @@ use crate::desk::Desk;
 use crate::endings::ending_of;
 use crate::texts::{sink, source_of};
 use cif_line::Sink;
-use docker_cmd::{Fault, Job, JobFault, Prepared, emit, job, job_line, prepare, status};
+use docker_cmd::{Fault, Job, JobFault, Prepared, TableWord, emit, job, job_line, prepare, status};
 use docker_office::OfficeFault;
 
 /// Whether two words are equal.
