@@ -4,7 +4,7 @@ use Rattle.std.specs.Prelude.{Option, find}
 use Rattle.std.specs.Str.{bytes_eq}
 use Rattle.std.proofs.lemmas.Slice.Eq.{bytes_eq-Decides}
 use Rattle.docker_model.specs.records.Date.{IsDay}
-use Rattle.docker_cmd.specs.Words.{NamesDay, OfOne, Text}
+use Rattle.docker_cmd.specs.Words.{NamesDay, OfOne, Text, word_named}
 use Rattle.docker_cmd.specs.JobLine.{words_in}
 use Rattle.docker_desk.specs.Requests.{AsksFor, FindsRequest, IsRequestOf, MakesRequest, RequestView, after_word, first_word, horizon_request, is_writing}
 use Rattle.docker_desk.specs.Requests.{name_of, verb_named, verbs}
@@ -16,7 +16,7 @@ use Rattle.docker_desk.specs.declared.requests.Verb.TheVariants as verb
 
 -- if a verb's name is looked up, the result is this verb
 named_back : (v : Verb) → verb_named (name_of v) ≡ Some v
-unfolding verb_named
+unfolding word_named
 named_back (verb.Docker kind.Ordinary) = refl
 named_back (verb.Docker kind.Permanent) = refl
 named_back (verb.Docker kind.Detailed) = refl
@@ -45,7 +45,7 @@ found_name word v (u ∷ vs) found = by (bytes_eq (name_of u) word) refl found (
     by false differ found rest = rest found
 
 name_back : (word : Text) (v : Verb) → verb_named word ≡ Some v → word ≡ name_of v
-unfolding verb_named
+unfolding word_named
 name_back word v found = found_name word v verbs found
 
 -- ---- the request in a line

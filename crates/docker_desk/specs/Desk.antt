@@ -9,9 +9,9 @@ use Rattle.cif_device.specs.Device.{IsEnd, Held}
 use Rattle.docker_host.specs.History.{Bytes, Event, Text, drafted, looked, named_if, placed}
 use Rattle.docker_host.specs.Asked.{FailsToStore, IsStored, IsUndrafted}
 use Rattle.docker_bytes.specs.SourceRead.{JoinsState, ReadsState, RefusesState}
+use Rattle.docker_office.specs.Faults.{IsReason, no_fault}
 use Rattle.docker_office.specs.Office.{TakesFile, WantsForFile}
 use Rattle.docker_office.specs.declared.fault.OfficeFault.{OfficeFault}
-use Rattle.docker_office.specs.declared.fault.OfficeFault.TheVariants as office
 use Rattle.docker_desk.specs.Reading.{HasOpened, Reading}
 use Rattle.docker_desk.specs.declared.compared.Compared.{Compared}
 use Rattle.docker_desk.specs.declared.compared.Compared.TheVariants as compared
@@ -29,12 +29,8 @@ pub record DeskView : Type 0 where
 -- otherwise for `Memory`
 abbrev pub IsAnswer : (List ℕ → Type 0) → (IsRefused : Type 0) → AnswerView → Type 0
 IsAnswer Is IsRefused (done_with text) = Is text × (¬ IsRefused)
-IsAnswer Is IsRefused (refused_for office.Lapsed) = IsRefused
-IsAnswer Is IsRefused (refused_for office.Memory) = ¬ IsRefused
-IsAnswer Is IsRefused (refused_for (office.File fault)) = ⊥
-IsAnswer Is IsRefused (refused_for (office.State fault)) = ⊥
-IsAnswer Is IsRefused (refused_for office.Source) = ⊥
-IsAnswer Is IsRefused (refused_for office.Sink) = ⊥
+IsAnswer Is IsRefused (refused_for fault) =
+    IsReason (record no_fault { lapsed = IsRefused; memory = ¬ IsRefused }) fault
 IsAnswer Is IsRefused no_request = ⊥
 
 -- this is an answer to the query
@@ -46,32 +42,25 @@ IsShown state query answer = IsAnswer (IsQueryText state query) (IsQueryLapsed s
 -- this fault is why a file can't be opened: `Source` if its device failed, otherwise
 -- `Memory`
 abbrev pub IsWhyUnopened : OfficeFault → Type 0
-IsWhyUnopened office.Source = ⊤
-IsWhyUnopened office.Memory = ⊤
-IsWhyUnopened (office.File fault) = ⊥
-IsWhyUnopened (office.State fault) = ⊥
-IsWhyUnopened office.Lapsed = ⊥
-IsWhyUnopened office.Sink = ⊥
+IsWhyUnopened = IsReason (record no_fault { source = ⊤; memory = ⊤ })
 
 -- this fault is why a file isn't taken: its text is refused, its device failed, or memory
 -- ran out. If memory ran out, no record that was read before has a fault
 abbrev pub RefusesToTake : Reading → OfficeFault → Type 0
-RefusesToTake read (office.File fault) = RefusesText most_records read.held fault
-RefusesToTake read office.Source = ⊤
-RefusesToTake read office.Memory = WantsForFile most_records read.held read.left
-RefusesToTake read (office.State fault) = ⊥
-RefusesToTake read office.Lapsed = ⊥
-RefusesToTake read office.Sink = ⊥
+RefusesToTake read = IsReason (record no_fault {
+  file = λ fault. RefusesText most_records read.held fault;
+  source = ⊤;
+  memory = WantsForFile most_records read.held read.left;
+})
 
 -- this fault is why no state is received from a file: its text is refused, its device
 -- failed, or memory ran out. If memory ran out, no part that was read before has a fault
 abbrev pub RefusesToReceive : Reading → OfficeFault → Type 0
-RefusesToReceive read (office.State fault) = RefusesState dks_2 most_bytes read.held fault
-RefusesToReceive read office.Source = ⊤
-RefusesToReceive read office.Memory = WantsForState dks_2 read.held read.left
-RefusesToReceive read (office.File fault) = ⊥
-RefusesToReceive read office.Lapsed = ⊥
-RefusesToReceive read office.Sink = ⊥
+RefusesToReceive read = IsReason (record no_fault {
+  state = λ fault. RefusesState dks_2 most_bytes read.held fault;
+  source = ⊤;
+  memory = WantsForState dks_2 read.held read.left;
+})
 
 -- this fault is why a file couldn't be read. If there is no reading, the file couldn't be opened.
 -- Otherwise the file was opened, and `Refuses` holds for the reading and the fault
@@ -120,6 +109,10 @@ IsFound compared.Same state read = Held read.held (state_text dks_2 state)
 IsFound compared.Other state read = IsOtherText read.held (state_text dks_2 state)
 IsFound compared.Unknown state read = ⊤
 
+-- the result of a comparison is `Unknown` unless the texts are compared
+abbrev pub IsUnknownUnless : (compares : Bool) → Compared → Type 0
+IsUnknownUnless compares found = compares ≡ false → found ≡ compared.Unknown
+
 -- receiving the state in a file, and comparing what the file held with the text of the new state,
 -- ended with this result
 abbrev pub EndsComparing : State → State → Result Compared OfficeFault → Option Reading → Type 0
@@ -165,13 +158,10 @@ look_by (Err fault) look before = before
 abbrev pub EndsStoring : (names_bytes : Bool) (name : Text) (look : ℕ) (text : List ℕ)
     (old new : List Event) → Result ⊤ OfficeFault → Type 0
 EndsStoring names_bytes name look text old new (Ok done) = IsStored names_bytes name look text old new
-EndsStoring names_bytes name look text old new (Err office.Sink) =
-    FailsToStore names_bytes name look text old new
-EndsStoring names_bytes name look text old new (Err office.Memory) = IsUndrafted name look old new
-EndsStoring names_bytes name look text old new (Err office.Source) = ⊥
-EndsStoring names_bytes name look text old new (Err office.Lapsed) = ⊥
-EndsStoring names_bytes name look text old new (Err (office.File fault)) = ⊥
-EndsStoring names_bytes name look text old new (Err (office.State fault)) = ⊥
+EndsStoring names_bytes name look text old new (Err fault) = IsReason (record no_fault {
+  sink = FailsToStore names_bytes name look text old new;
+  memory = IsUndrafted name look old new;
+}) fault
 
 -- saving a text in the named file ended with this result. A draft with the text was made, and if it
 -- replaced the file, the file was looked at again

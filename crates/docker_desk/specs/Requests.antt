@@ -1,9 +1,8 @@
 -- The request in a line. The line's first word is a verb, and its other words must fit the verb.
 use Rattle.std.specs.Prelude.{◌≡◌, ℕ, Bool, true, false, not, if◌then◌else◌, List, [], ◌∷◌, ◌++◌, Option, Some, None, IsTrue, codes}
-use Rattle.std.specs.Prelude.{filter, find, map}
-use Rattle.std.specs.Str.{bytes_eq}
+use Rattle.std.specs.Prelude.{filter, map}
 use Rattle.std.specs.List.{before_first, after_first}
-use Rattle.docker_cmd.specs.Words.{NamesDay, NamesStored, OfOne, OfTwo, Text, is_plain_word, usage_with, with_bars}
+use Rattle.docker_cmd.specs.Words.{NamesDay, NamesStored, OfOne, OfTwo, Text, is_plain_word, usage_with, with_bars, word_named}
 use Rattle.docker_cmd.specs.JobLine.{is_space, words_in}
 use Rattle.docker_desk.specs.Queries.{AreIdentityAndDay, ArePlaceAndDay, AreTrainAndDay, docker_word}
 use Rattle.docker_desk.specs.declared.query.DockerKind.TheVariants as kind
@@ -78,8 +77,8 @@ abbrev pub is_writing : Verb → Bool
 is_writing verb = (row_of verb).writes
 
 -- the verb with this name, if there is one
-unfoldable pub verb_named : Text → Option Verb
-verb_named name = find (λ verb. bytes_eq (name_of verb) name) verbs
+abbrev pub verb_named : Text → Option Verb
+verb_named = word_named name_of verbs
 
 -- the part of the usage line that shows these verbs and the words after them
 abbrev pub usages : List Verb → Text

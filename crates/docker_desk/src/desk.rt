@@ -1,10 +1,10 @@
 //! A desk, and the requests that it answers.
-ghost use Rattle.std.specs.Prelude.{◌≡◌, ◌+◌, ◌-◌, ◌^◌, ◌<◌, false, true, length, IfSome};
+ghost use Rattle.std.specs.Prelude.{◌≡◌, ◌+◌, ◌-◌, ◌^◌, ◌<◌, false, true, length, IfOk, IfSome};
 ghost use Rattle.docker_model.specs.state.State.{raise_horizon};
 ghost use Rattle.docker_model.specs.state.StateText.{dks_2, state_text};
 ghost use Rattle.docker_model.specs.lists.KnownText.{IsKnownText};
 ghost use Rattle.docker_cmd.specs.FaultLine.{IsCounted, result_status};
-ghost use Rattle.docker_desk.specs.Desk.{EndsReceiving, EndsRenewing, EndsSaving, EndsTaking, IsShown, look_by, unsaved_by};
+ghost use Rattle.docker_desk.specs.Desk.{EndsReceiving, EndsRenewing, EndsSaving, EndsTaking, IsShown, IsUnknownUnless, look_by, unsaved_by};
 ghost use Rattle.docker_desk.specs.Reading.{LooksAndOpens, OpensOnce, StopsInFile, StopsInState};
 ghost use Rattle.docker_desk.specs.Doing.{desk_by};
 ghost use Rattle.docker_desk.specs.Replies.{answer_meant};
@@ -176,6 +176,7 @@ impl Desk {
         requires { D.failures folder.old < 2 ^ 64 - 1 }
         ensures opens { LooksAndOpens name.now (EndsRenewing self.old self.new result)
             (D.history folder.old) (D.history folder.new) }
+        ensures compared { IfOk result (λ found. IsUnknownUnless compares found) }
         ensures look { D.look_of seen.new
             ≡ look_by result (length (D.history folder.old)) (D.look_of seen.old) }
         ensures counted { IsCounted (result_status result)

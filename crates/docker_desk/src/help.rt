@@ -11,7 +11,7 @@ use crate::answers::write_both;
 use crate::ending::tell_failure;
 use crate::requests::{RequestRow, Verb};
 use cif_line::{Failed, Sink, Source};
-use docker_cmd::{Fault, OfficeFault};
+use docker_cmd::{Fault, OfficeFault, TableWord};
 use docker_host::{Folder, SessionHost, Streams};
 
 /// The first line of the text that `--help` prints.

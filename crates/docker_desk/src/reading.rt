@@ -1,7 +1,7 @@
 //! Opens a file, has an office read it, and closes it.
-ghost use Rattle.std.specs.Prelude.{◌≡◌, ◌-◌, ◌^◌, ◌<◌, Some};
+ghost use Rattle.std.specs.Prelude.{◌≡◌, ◌-◌, ◌^◌, ◌<◌, IfOk, Some};
 ghost use Rattle.docker_cmd.specs.FaultLine.{IsCounted, result_status};
-ghost use Rattle.docker_desk.specs.Desk.{EndsComparing, EndsReceiving, EndsReloading, EndsTaking};
+ghost use Rattle.docker_desk.specs.Desk.{EndsComparing, EndsReceiving, EndsReloading, EndsTaking, IsUnknownUnless};
 ghost use Rattle.docker_desk.specs.Reading.{OpensOnce, StopsInFile, StopsInState, reading};
 
 use crate::compared::Compared;
@@ -69,6 +69,7 @@ pub(crate) fn renew_state<D: Folder>(
     requires { D.failures folder.old < 2 ^ 64 - 1 }
     ensures opens { OpensOnce name.now StopsInState (EndsComparing office.old office.new result)
         (D.history folder.old) (D.history folder.new) }
+    ensures compared { IfOk result (λ found. IsUnknownUnless compares found) }
     ensures counted { IsCounted (result_status result)
         (D.failures folder.old) (D.failures folder.new) }
 {

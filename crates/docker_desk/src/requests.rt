@@ -1,16 +1,14 @@
 //! The table of requests, and the request in a line.
-ghost use Rattle.std.specs.Prelude.{◌≡◌, ◌≢◌, ◌↔◌, ℕ, List, [], option_map, IfSome, IsNone, IsSome, find, true};
-ghost use Rattle.std.specs.Option.{option_copied};
-ghost use Rattle.std.specs.Str.{bytes_eq};
+ghost use Rattle.std.specs.Prelude.{◌≡◌, ◌≢◌, ◌↔◌, ℕ, List, [], option_map, IfSome, IsNone, IsSome, true};
 ghost use Rattle.docker_cmd.specs.JobLine.{IsLineText, words_in};
 ghost use Rattle.docker_desk.specs.Queries.{AreIdentityAndDay, ArePlaceAndDay, AreTrainAndDay, NamesIdentity, NamesTrain};
-ghost use Rattle.docker_desk.specs.Requests.{AsksFor, FindsRequest, MakesRequest, NamesFile, is_writing, name_of, request_meant, row_meant, row_of, usage_line, verb_named, verbs};
-ghost use Rattle.docker_cmd.specs.Words.{NamesDay, OfOne, OfTwo, is_plain_word};
+ghost use Rattle.docker_desk.specs.Requests.{AsksFor, FindsRequest, MakesRequest, NamesFile, is_writing, request_meant, row_meant, row_of, usage_line};
+ghost use Rattle.docker_cmd.specs.Words.{NamesDay, OfOne, OfTwo};
 
 use crate::query::{DockerKind, Query};
 use crate::words::{has_word, next_word, one_word, two_words};
 use cif_line::{Day, Tiploc, Uid};
-use docker_cmd::text_of;
+use docker_cmd::{TableWord, is_plain, text_of, word_named};
 
 /// The verbs: the words that name requests.
 #[derive(Clone, Copy, PartialEq, Eq, Debug)]
@@ -62,11 +60,14 @@ impl<'a> RequestRow<'a> {
     }
 }
 
-impl Verb {
-    /// Returns all verbs, in the order of the usage line.
-    pub(crate) fn all<'a>() -> &'a [Verb]
-        ensures { result.now ≡ verbs }
-    {
+impl TableWord for Verb {
+    ghost use Rattle.docker_desk.specs.Requests as requests;
+
+    ghost words = { requests.verbs };
+
+    ghost name_of = { requests.name_of };
+
+    fn all<'a>() -> &'a [Verb] {
         &[
             Verb::Docker(DockerKind::Ordinary),
             Verb::Docker(DockerKind::Permanent),
@@ -85,6 +86,12 @@ impl Verb {
         ]
     }
 
+    fn name<'a>(self) -> &'a str {
+        self.row().name
+    }
+}
+
+impl Verb {
     /// Returns the verb's row in the table.
     pub(crate) fn row<'a>(self) -> RequestRow<'a>
         ensures { row_meant result ≡ row_of self }
@@ -102,21 +109,6 @@ impl Verb {
             Verb::Horizon => RequestRow::of("horizon", &["DATE"], true),
             Verb::Save => RequestRow::of("save", &[], true),
         }
-    }
-
-    /// Whether the verb has this name.
-    fn is_named(self, name: &str) -> bool
-        ensures { result ≡ bytes_eq (name_of self) name.now }
-    {
-        self.row().name == name
-    }
-
-    /// Returns the verb with this name, if there is one.
-    #[tactic(auto, unfolding(crate::specs::Requests::verb_named))]
-    fn of_name(name: &str) -> Option<Verb>
-        ensures { result ≡ verb_named name.now }
-    {
-        first_named(Verb::all(), name).copied()
     }
 
     /// Whether the verb's requests are allowed only if the desk may write.
@@ -140,13 +132,6 @@ pub(crate) fn usage<'a>() -> &'a [u8]
     ensures { result.now ≡ usage_line }
 {
     b"desk: usage: [--write] STATE, and then a line for each request: print TIPLOC DATE | permanent TIPLOC DATE | detail TIPLOC DATE | permanent-detail TIPLOC DATE | train UID DATE | trains IDENTITY DATE | files | places | known | renew | with --write take FILE | merge OTHER | horizon DATE | save\n"
-}
-
-/// Returns the first of these verbs that has this name.
-fn first_named<'a>(verbs: &'a [Verb], name: &str) -> Option<&'a Verb>
-    ensures { option_copied result ≡ find (λ verb. bytes_eq (name_of verb) name.now) verbs.now }
-{
-    verbs.iter().find(|verb| verb.is_named(name))
 }
 
 /// A request, with what it asks for, or with the day or the file that it names.
@@ -176,7 +161,7 @@ pub fn request_in(line: &[u8], may_write: bool) -> Option<Request<'_>>
     ensures { AsksFor may_write line.now (option_map request_meant result) }
 {
     let (name, rest) = next_word(text_of(line))?;
-    let verb = Verb::of_name(name)?;
+    let verb: Verb = word_named(name)?;
     if verb.is_allowed(may_write) {
         return request_of(verb, rest);
     }
@@ -240,9 +225,7 @@ fn place_and_day(rest: &str) -> Option<(Tiploc, Day)>
     if !is_plain(tiploc) {
         return None;
     }
-    let place = Tiploc::from_text(tiploc)?;
-    let day = Day::from_iso(date)?;
-    Some((place, day))
+    docker_cmd::place_and_day(tiploc, date)
 }
 
 /// Returns the UID and the day that the rest of the line names, or `None` if the rest isn't exactly
@@ -330,14 +313,4 @@ pub fn file_named(text: &str) -> Option<&str>
         return Some(text);
     }
     None
-}
-
-/// Whether the word isn't empty and doesn't begin with a hyphen.
-fn is_plain(word: &str) -> bool
-    ensures { result ≡ is_plain_word word.now }
-{
-    match word.as_bytes() {
-        [] => false,
-        [first, ..] => *first != b'-',
-    }
 }
