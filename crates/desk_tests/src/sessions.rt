@@ -1,14 +1,14 @@
 //! Tests of whole sessions: their words, their lines, and how they end.
 ghost use Rattle.std.specs.Prelude.{◌<◌};
 
-use crate::compare::same_in;
+use crate::compare::{same, same_in};
 use crate::end_recorder::EndRecorder;
 use crate::expected::*;
 use crate::records::{BOTH_STATE, lines_text, state_text};
 use crate::session_parts::{READING, WRITING, joined, room};
 use crate::shelves::{shelf_of_morning, text_of};
 use cif_line::Bytes;
-use docker_desk::serve;
+use docker_desk::{files_of_none, serve};
 use docker_host::{SessionHost, Streams};
 use std::alloc::Global;
 use std::process::Abort;
@@ -221,4 +221,11 @@ fn an_input_that_ends(rt: HostRuntime) {
     is_read_once(&rt, rt.alloc(), "files\n");
     is_read_once(&rt, rt.alloc(), "files\nfiles");
     is_read_once(&rt, rt.alloc(), "files\r");
+}
+
+#[test]
+fn the_worked_example_of_a_session(rt: HostRuntime) {
+    let output = files_of_none(rt.alloc()).expect(&rt, "room");
+    let wanted: &[u8] = b"0 0 0\n";
+    same(&rt, output.bytes(), wanted);
 }
