@@ -1,7 +1,8 @@
 -- Consecutive writes or reads, and the failure count of a device.
-use Rattle.std.proofs.Common.{◌≡◌, ℕ, ◌+◌, ◌-◌, List, ◌++◌, arith, length, take, drop, replicate, Option, None, Some, refl, ap, sym, subst, ◌∙◌, append_assoc}
+use Rattle.std.proofs.Common.{◌≡◌, ℕ, ◌+◌, ◌-◌, List, ◌++◌, arith, length, take, drop, replicate, Option, ap, sym, subst, ◌∙◌, append_assoc}
+use Rattle.std.proofs.Common.{rules}
 use Rattle.std.proofs.lemmas.Grind.{common_steps}
-use Rattle.std.specs.Prelude.{◌≢◌, true, false, Result, Ok, Err, IsErr, OnOk, OnErr}
+use Rattle.std.specs.Prelude.{◌≢◌, true, false, Result, IsErr, OnOk, OnErr}
 use Rattle.std.specs.List.{concat}
 use Rattle.std.proofs.lemmas.List.{replicate-append-replicate}
 use Rattle.std.proofs.lemmas.List.Folds.{concat-append}
@@ -11,17 +12,14 @@ use Rattle.cif_device.specs.Device.{CountsFailure, Takes, Round, Goes}
 -- if a sink takes one piece and then another piece, it takes their concatenation
 pub Takes-append : (old middle new : Option (List ℕ)) (front back : List ℕ) →
     Takes old front middle → Takes middle back new → Takes old (front ++ back) new
-Takes-append None middle new front back first second = rw first at second
-Takes-append (Some taken) middle new front back first second =
-    (rw first at second) ∙ ap Some (append_assoc taken front back)
+Takes-append = search (rules, append_assoc)
 
 -- if a sink takes the first `done` bytes of a piece and then the next `n` bytes, it takes the first
 -- `done + n` bytes
 pub Takes-take : (old middle new : Option (List ℕ)) (piece : List ℕ) (done n : ℕ) →
     Takes old (take done piece) middle → Takes middle (take n (drop done piece)) new →
     Takes old (take (done + n) piece) new
-Takes-take old middle new piece done n first second =
-    rw take-add (Takes-append old middle new (take done piece) (take n (drop done piece)) first second)
+Takes-take = grind (common_steps, arith, take-add)
 
 -- after `n` elements of a list are dropped, the first `length xs - n` elements of the rest are the
 -- whole rest
@@ -38,14 +36,13 @@ concat-replicate_add m n text =
 -- if an endless source returns one list of bytes and then another, it returns their concatenation
 pub Goes-append : (old middle new : Round) (front back : List ℕ) →
     Goes old front middle → Goes middle back new → Goes old (front ++ back) new
-Goes-append old middle new front back (again, step, m, first) (again', step', n, second) =
-    (again' ∙ again, step' ∙ step, m + n, whole)
+Goes-append old middle new front back (again, step, m, first) (again', step', n, second) = (again' ∙ again, step' ∙ step, m + n, whole)
   where
     then : middle.left ++ concat (replicate n old.again) ≡ back ++ new.left
     then = subst (λ text. middle.left ++ concat (replicate n text) ≡ back ++ new.left) again second
 
     whole : old.left ++ concat (replicate (m + n) old.again) ≡ (front ++ back) ++ new.left
-    whole = ap (λ more. old.left ++ more) (concat-replicate_add m n old.again)
+    whole = ap (λ more. old.left ++ more) (concat-replicate_add _ n _)
         ∙ sym (append_assoc old.left (concat (replicate m old.again)) (concat (replicate n old.again)))
         ∙ ap (λ text. text ++ concat (replicate n old.again)) first
         ∙ append_assoc front middle.left (concat (replicate n old.again))
@@ -63,16 +60,4 @@ false_is_not_true is = cc
 -- if a count is unchanged on success and rises by one on an error, it counts exactly the failures
 pub counts_error : {A E : Type 0} (result : Result A E) (before after : ℕ) →
     OnOk result (after ≡ before) → OnErr result (after ≡ before + 1) → CountsFailure (IsErr result) before after
-counts_error (Ok value) before after same more =
-    ((λ error. absurd (false_is_not_true error), λ one_more. absurd (one_more_is_other before after same one_more)), λ no_error. same)
-counts_error (Err fault) before after same more = ((λ error. more, λ one_more. refl), λ no_error. absurd (no_error refl))
-
--- a count that counts exactly the failures is unchanged on success
-pub same_if_ok : {A E : Type 0} (result : Result A E) (before after : ℕ) → CountsFailure (IsErr result) before after → OnOk result (after ≡ before)
-same_if_ok (Ok value) before after counted = counted.1 false_is_not_true
-same_if_ok (Err fault) before after counted = tt
-
--- a count that counts exactly the failures rises by one on an error
-pub one_more_if_err : {A E : Type 0} (result : Result A E) (before after : ℕ) → CountsFailure (IsErr result) before after → OnErr result (after ≡ before + 1)
-one_more_if_err (Ok value) before after counted = tt
-one_more_if_err (Err fault) before after counted = counted.0.0 refl
+counts_error = search (rules, false_is_not_true, one_more_is_other)

@@ -1,7 +1,8 @@
 -- What a taker has been fed after each read of the source that feeds it.
-use Rattle.std.proofs.Common.{◌≡◌, ℕ, ◌+◌, ◌<◌, ◌≤◌, List, [], ◌∷◌, ◌++◌, length, take, drop, Some, None, refl, sym, ◌∙◌}
-use Rattle.std.proofs.Common.{ap, subst, arith, append_assoc, append-nil, length-append, ◌^◌, Err, Result, Fits, w64, Ok}
-use Rattle.std.specs.Prelude.{Option, option_map, Bool, true, false}
+use Rattle.std.proofs.Common.{◌≡◌, ℕ, ◌+◌, ◌<◌, ◌≤◌, List, [], ◌∷◌, ◌++◌, length, take, drop, Some, None, refl, sym, ◌∙◌, rules}
+use Rattle.std.proofs.lemmas.Grind.{common_steps}
+use Rattle.std.proofs.Common.{subst, arith, append_assoc, append-nil, length-append, ◌^◌, Err, Result, Fits, w64, Ok}
+use Rattle.std.specs.Prelude.{Option, Bool, true, false}
 use Rattle.std.proofs.lemmas.List.{length-take-le, take-append-le, take-take}
 use Rattle.cif_device.specs.Device.{Reads, IsEnd, Ends}
 use Rattle.cif_device.specs.declared.feed.FeedFault.{FeedFault}
@@ -10,60 +11,41 @@ use Rattle.cif_device.specs.Taken.{Taking, Refusing, HasFed, HasRefused, LosesOn
 
 -- an unchanged source has returned no bytes
 pub lost_nothing : (left : Option (List ℕ)) → Reads left [] left
-lost_nothing None = refl
-lost_nothing (Some bytes) = refl
+lost_nothing = search rules
 
 -- if a source returns a text and then a piece, it returns their concatenation
 pub lost_more : (initial now next : Option (List ℕ)) (text piece : List ℕ) → Reads initial text now → Reads now piece next → Reads initial (text ++ piece) next
-lost_more initial now None text piece first more = first ∙ ap (option_map (λ rest. text ++ rest)) more
-lost_more initial now (Some rest) text piece first more =
-    first ∙ ap (option_map (λ r. text ++ r)) more ∙ ap (λ t. Some t) (sym (append_assoc text piece rest))
+lost_more = search (rules, append_assoc)
 
 -- before the first read, the number of fed bytes is 0
 pub at_start : {T S : Type 0} (takes : Taking T S) (settings : S) (text : List ℕ) (left : Option (List ℕ)) (taker : T) → takes taker settings text
     → HasFed takes 0 settings text left left taker
-at_start takes settings text left taker taken =
-    record { bytes = []; size = refl; lost = lost_nothing left; taken = subst (takes taker settings) (sym (append-nil text)) taken }
+at_start = search (rules, lost_nothing, append-nil)
 
 -- if a taker has been fed bytes and then takes the next piece, it has been fed these bytes followed
 -- by the piece
 pub next_turn : {T S : Type 0} (takes : Taking T S) (fed n : ℕ) (settings : S) (text : List ℕ) (initial now next : Option (List ℕ)) (before after : T)
     (piece : List ℕ) → (at : HasFed takes fed settings text initial now before) → length piece ≡ n → Reads now piece next
     → takes after settings ((text ++ at.bytes) ++ piece) → HasFed takes (fed + n) settings text initial next after
-next_turn takes fed n settings text initial now next before after piece at long more taken = record {
-  bytes = at.bytes ++ piece;
-  size = (let size = at.size in let sum = length-append at.bytes piece in omega (arith, size, sum, long));
-  lost = lost_more initial now next at.bytes piece at.lost more;
-  taken = subst (takes after settings) (append_assoc text at.bytes piece) taken;
-}
+next_turn = search (rules, length-append, lost_more, append_assoc)
 
 -- a read of no bytes leaves the fed bytes unchanged
 pub nothing_more : {T S : Type 0} (takes : Taking T S) (fed n : ℕ) (settings : S) (text : List ℕ) (initial now next : Option (List ℕ)) (taker : T)
     (into : List ℕ) → HasFed takes fed settings text initial now taker → n ≡ 0 → Reads now (take n into) next
     → HasFed takes fed settings text initial next taker
-nothing_more takes fed n settings text initial now next taker into at none more = record {
-  bytes = at.bytes;
-  size = at.size;
-  lost = subst (λ bytes. Reads initial bytes next) (append-nil at.bytes) (lost_more initial now next at.bytes [] at.lost last);
-  taken = at.taken;
-}
-  where
-    last : Reads now [] next
-    last = subst (λ m. Reads now (take m into) next) none more
+nothing_more = search (rules, append-nil, lost_more)
 
 -- a failed read leaves the fed bytes unchanged
 pub fed_where_failed : {T S : Type 0} (takes : Taking T S) (fed : ℕ) (settings : S) (text : List ℕ) (initial now next : Option (List ℕ)) (taker : T)
     → HasFed takes fed settings text initial now taker → next ≡ now → (count : ℕ) × HasFed takes count settings text initial next taker
-fed_where_failed takes fed settings text initial now next taker at same =
-    (fed, subst (λ left. HasFed takes fed settings text initial left taker) (sym same) at)
+fed_where_failed = search rules
 
 -- suppose that a source returns one more piece of at most 65,536 bytes. Then it has returned at
 -- most this piece beyond the bytes that the taker has taken
 pub one_more : {T S : Type 0} (takes : Taking T S) (fed : ℕ) (settings : S) (text : List ℕ) (initial now next : Option (List ℕ)) (taker : T)
     (piece : List ℕ) → HasFed takes fed settings text initial now taker → Reads now piece next → length piece ≤ 65536
     → LosesOnePieceMore takes 65536 settings text initial next
-one_more takes fed settings text initial now next taker piece at more few =
-    record { bytes = at.bytes; piece = piece; lost = lost_more initial now next at.bytes piece at.lost more; few = few; taker = taker; taken = at.taken }
+one_more = grind (common_steps, arith, lost_more)
 
 -- suppose that the taker has taken all bytes that a source returned. Then the source has returned
 -- at most one piece beyond the bytes that the taker has taken
@@ -91,10 +73,7 @@ refused_behind takes refuses fed settings text initial now next before after pie
 -- the number of fed bytes plus the length of the piece fits in 64 bits
 pub fits_still : (fed n : ℕ) (text bytes piece : List ℕ) → length bytes ≡ fed → length piece ≡ n → length ((text ++ bytes) ++ piece) < 2 ^ 64
     → Fits w64 (fed + n)
-fits_still fed n text bytes piece size long below =
-    let front = length-append text bytes in
-    let whole = length-append (text ++ bytes) piece in
-    omega (arith, front, whole, size, long, below)
+fits_still = search (rules, length-append)
 
 -- one read returns at most 65,536 bytes, the length of the buffer
 pub at_once : (n len : ℕ) (into : List ℕ) → length into ≡ len → len ≡ 65536 → n ≤ length into → length (take n into) ≤ 65536
@@ -131,8 +110,7 @@ still_not_passed ended now_ended passed now_passed (_, same) = same
 -- the first bytes in the buffer are the bytes that were read
 pub same_front : (n len : ℕ) (piece into items : List ℕ) → piece ≡ take len (into ++ drop (length into) items) → length into ≡ len → n ≤ length into
     → take n piece ≡ take n into
-same_front n len piece into items is whole within =
-    ap (take n) (is ∙ take-append-le len into (drop (length into) items) (omega arith)) ∙ take-take n len into (omega arith)
+same_front = search (rules, take-append-le, take-take)
 
 -- if feeding ended without the error `Source`, the source didn't fail
 pub none_failed : {Fault : Type 0} (result : Result ℕ (FeedFault Fault)) (before now after : ℕ) → ¬ (result ≡ Err feed.Source) → after ≡ now → now ≡ before

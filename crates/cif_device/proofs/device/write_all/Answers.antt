@@ -7,6 +7,5 @@ pub loop-done-preserved : goal.loop-done-preserved
 loop-done-preserved g c = record {
   within = search rules;
   no_failure = search rules;
-  written = Takes-take _ _ _ c.args.piece.now c.loop-done.done c.in_ok-done.field-0 c.loop-done.invariant.written
-      (rw take-drop_all at c.in_ok-done.ensures.moved);
+  written = Takes-take _ _ _ _ _ _ c.loop-done.invariant.written (rw take-drop_all at c.in_ok-done.ensures.moved);
 }

@@ -1,24 +1,21 @@
 -- The taker takes the pieces in the order in which they were read.
-use Rattle.std.proofs.Common.{Ok, Err, ◌≡◌, ◌+◌, ◌<◌, ◌++◌, length, take, refl, ap, arith, ◌∙◌, subst}
+use Rattle.std.proofs.Common.{◌≡◌, ◌+◌, ◌<◌, ◌++◌, length, take, refl, ap, arith, ◌∙◌, subst}
 use Rattle.std.proofs.lemmas.List.{length-take-le}
 use Rattle.cif_device.specs.Device.{IsEnd}
 use Rattle.cif_device.proofs.FeedLemmas.{at_once, at_start, count_told, end_stays, ended_by, going_on, not_passed_by, still_going}
 use Rattle.cif_device.proofs.FeedLemmas.{still_not_passed, fed_where_failed, fits_still, next_turn, no_more, none_failed, nothing_more}
 use Rattle.cif_device.proofs.FeedLemmas.{nothing_read, one_more, memory_answer, refusal_told, refused_behind, same_front}
-use Rattle.cif_device.specs.declared.feed.FeedFault.TheVariants as feed
 use Rattle.cif_device.proofs.feed.feed_all.Goals as goal
 
 pub returns-in_default-clause-ends : goal.returns-in_default-clause-ends
 returns-in_default-clause-ends g c = (refl, refl)
 
 pub returns-in_default-clause-no_further : goal.returns-in_default-clause-no_further
-returns-in_default-clause-no_further g c = λ settings text taken.
-    nothing_read g.T.Taker.takes settings text (g.S.Source.left c.args.source.now) c.args.taker.now taken
+returns-in_default-clause-no_further g c = λ settings text taken. nothing_read _ _ _ _ _ taken
 
 pub returns-in_default-clause-failures : goal.returns-in_default-clause-failures
 returns-in_default-clause-failures g c = (
-  none_failed (Err feed.Memory)
-      (g.S.Source.failures c.args.source.now) (g.S.Source.failures c.args.source.now) (g.S.Source.failures c.args.source.now) memory_answer refl refl,
+  none_failed _ _ _ _ memory_answer refl refl,
   λ other. refl,
 )
 
@@ -32,14 +29,12 @@ pieces-init g c = record {
 }
 
 pub returns-in_default-read-clause-ends : goal.returns-in_default-read-clause-ends
-returns-in_default-read-clause-ends g c = λ settings text taken.
-    fed_where_failed g.T.Taker.takes c.pieces.fed settings text (g.S.Source.left c.args.source.now) (g.S.Source.left c.pieces.source)
-    (g.S.Source.left c.read.new.self) c.pieces.taker (c.pieces.invariant.turn settings text taken) c.in_default-read.ensures.unmoved
+returns-in_default-read-clause-ends g c = λ settings text taken. fed_where_failed _ _ _ _ _ _
+    _ _ (c.pieces.invariant.turn settings text taken) c.in_default-read.ensures.unmoved
 
 pub returns-in_default-read-clause-no_further : goal.returns-in_default-read-clause-no_further
-returns-in_default-read-clause-no_further g c = λ settings text taken.
-    no_more g.T.Taker.takes c.pieces.fed settings text (g.S.Source.left c.args.source.now) (g.S.Source.left c.pieces.source)
-    (g.S.Source.left c.read.new.self) c.pieces.taker (c.pieces.invariant.turn settings text taken) c.in_default-read.ensures.unmoved
+returns-in_default-read-clause-no_further g c = λ settings text taken. no_more _ _ _ _ _ _
+    _ _ (c.pieces.invariant.turn settings text taken) c.in_default-read.ensures.unmoved
 
 pub returns-in_default-read-clause-failures : goal.returns-in_default-read-clause-failures
 returns-in_default-read-clause-failures g c =
@@ -49,27 +44,20 @@ pub returns-then-n-eq0-clause-ends : goal.returns-then-n-eq0-clause-ends
 returns-then-n-eq0-clause-ends g c =
     let room : 0 < length c.read.new.into = omega (arith, c.pieces.invariant.room, c.as_mut_slice.ensures.len, c.read.auto.into) in
     let end : IsEnd (g.S.Source.left c.pieces.source) = c.in-Ok-read.ensures.end c.if-n-eq0.true room in (
-      λ settings text taken.
-          nothing_more g.T.Taker.takes c.pieces.fed c.in-Ok-read.n settings text (g.S.Source.left c.args.source.now) (g.S.Source.left c.pieces.source)
-          (g.S.Source.left c.read.new.self) c.pieces.taker c.read.new.into (c.pieces.invariant.turn settings text taken)
-          c.if-n-eq0.true c.in-Ok-read.ensures.moved,
-      end_stays (g.S.Source.left c.pieces.source) (g.S.Source.left c.read.new.self) (take c.in-Ok-read.n c.read.new.into) c.in-Ok-read.ensures.moved end,
+      λ settings text taken. nothing_more _ _ _ _ _ _ _
+          _ _ _ (c.pieces.invariant.turn settings text taken) c.if-n-eq0.true c.in-Ok-read.ensures.moved,
+      end_stays _ _ _ c.in-Ok-read.ensures.moved end,
     )
 
 pub returns-then-n-eq0-clause-failures : goal.returns-then-n-eq0-clause-failures
 returns-then-n-eq0-clause-failures g c = (
-  none_failed (Ok c.pieces.fed) (g.S.Source.failures c.args.source.now) (g.S.Source.failures c.pieces.source) (g.S.Source.failures c.read.new.self)
-      (count_told c.pieces.fed) c.in-Ok-read.ensures.no_failure c.pieces.invariant.no_failure,
+  none_failed _ _ _ _ (count_told _) c.in-Ok-read.ensures.no_failure c.pieces.invariant.no_failure,
   λ other. c.in-Ok-read.ensures.no_failure ∙ c.pieces.invariant.no_failure,
 )
 
 pub returns-then-n-eq0-clause-no_further : goal.returns-then-n-eq0-clause-no_further
-returns-then-n-eq0-clause-no_further g c = λ settings text taken.
-    one_more g.T.Taker.takes c.pieces.fed settings text (g.S.Source.left c.args.source.now) (g.S.Source.left c.pieces.source)
-    (g.S.Source.left c.read.new.self) c.pieces.taker (take c.in-Ok-read.n c.read.new.into) (c.pieces.invariant.turn settings text taken)
-    c.in-Ok-read.ensures.moved
-    (at_once c.in-Ok-read.n c.pieces.piece.len c.read.new.into (c.read.auto.into ∙ c.as_mut_slice.ensures.len) c.pieces.invariant.room
-    c.in-Ok-read.ensures.within)
+returns-then-n-eq0-clause-no_further g c = λ settings text taken. one_more _ _ _ _ _ _ _ _ _ (c.pieces.invariant.turn settings text taken)
+    c.in-Ok-read.ensures.moved (at_once _ _ _ (c.read.auto.into ∙ c.as_mut_slice.ensures.len) c.pieces.invariant.room c.in-Ok-read.ensures.within)
 
 pub returns-in-Err-clause-ends : goal.returns-in-Err-clause-ends
 returns-in-Err-clause-ends g c = λ settings text taken.
@@ -86,31 +74,24 @@ returns-in-Err-clause-ends g c = λ settings text taken.
 
 pub returns-in-Err-clause-failures : goal.returns-in-Err-clause-failures
 returns-in-Err-clause-failures g c = (
-  none_failed (Err (feed.Refused c.in-Err.fault)) (g.S.Source.failures c.args.source.now) (g.S.Source.failures c.pieces.source)
-      (g.S.Source.failures c.read.new.self) (refusal_told c.in-Err.fault) c.in-Ok-read.ensures.no_failure c.pieces.invariant.no_failure,
+  none_failed _ _ _ _ (refusal_told _) c.in-Ok-read.ensures.no_failure c.pieces.invariant.no_failure,
   λ other. c.in-Ok-read.ensures.no_failure ∙ c.pieces.invariant.no_failure,
 )
 
 pub returns-in-Err-clause-no_further : goal.returns-in-Err-clause-no_further
-returns-in-Err-clause-no_further g c = λ settings text taken.
-    one_more g.T.Taker.takes c.pieces.fed settings text (g.S.Source.left c.args.source.now) (g.S.Source.left c.pieces.source)
-    (g.S.Source.left c.read.new.self) c.pieces.taker (take c.in-Ok-read.n c.read.new.into) (c.pieces.invariant.turn settings text taken)
-    c.in-Ok-read.ensures.moved
-    (at_once c.in-Ok-read.n c.pieces.piece.len c.read.new.into (c.read.auto.into ∙ c.as_mut_slice.ensures.len) c.pieces.invariant.room
-    c.in-Ok-read.ensures.within)
+returns-in-Err-clause-no_further g c = λ settings text taken. one_more _ _ _ _ _ _ _ _ _ (c.pieces.invariant.turn settings text taken)
+    c.in-Ok-read.ensures.moved (at_once _ _ _ (c.read.auto.into ∙ c.as_mut_slice.ensures.len) c.pieces.invariant.room c.in-Ok-read.ensures.within)
 
 pub overflow_add-fed : goal.overflow_add-fed
 overflow_add-fed g c =
     let asked = c.requires.taking in
     let at = c.pieces.invariant.turn asked.settings asked.text asked.taken in
     let long : length c.read.new.into ≡ c.pieces.piece.len = c.read.auto.into ∙ c.as_mut_slice.ensures.len in
-    let same : take c.in-Ok-read.n c.deref.result.now ≡ take c.in-Ok-read.n c.read.new.into =
-    same_front c.in-Ok-read.n c.pieces.piece.len c.deref.result.now c.read.new.into c.pieces.piece.items c.deref.ensures.value long
+    let same : take c.in-Ok-read.n c.deref.result.now ≡ take c.in-Ok-read.n c.read.new.into = same_front _ _ _ _ _ c.deref.ensures.value long
     c.in-Ok-read.ensures.within in
     let taken = subst (λ piece. g.T.Taker.takes c.take.new.self asked.settings ((asked.text ++ at.bytes) ++ piece)) same
     (c.in_default-take.ensures.taken asked.settings (asked.text ++ at.bytes) at.taken) in
-    fits_still c.pieces.fed c.in-Ok-read.n asked.text at.bytes (take c.in-Ok-read.n c.read.new.into) at.size
-    (length-take-le c.in-Ok-read.n c.read.new.into c.in-Ok-read.ensures.within)
+    fits_still _ _ _ _ _ at.size (length-take-le c.in-Ok-read.n c.read.new.into c.in-Ok-read.ensures.within)
     (g.met.T.Taker.bounded c.take.new.self asked.settings ((asked.text ++ at.bytes) ++ take c.in-Ok-read.n c.read.new.into) taken)
 
 pub pieces-preserved : goal.pieces-preserved
@@ -138,35 +119,23 @@ pieces-preserved g c =
     }
 
 pub returns-in_default-read-clause-not_ended : goal.returns-in_default-read-clause-not_ended
-returns-in_default-read-clause-not_ended g c = λ was.
-    still_going (g.S.Source.ended c.pieces.source) (g.S.Source.ended c.read.new.self) (g.S.Source.passed c.pieces.source) (g.S.Source.passed c.read.new.self)
-    c.in_default-read.ensures.still ∙ c.pieces.invariant.not_ended was
+returns-in_default-read-clause-not_ended g c = λ was. still_going _ _ _ _ c.in_default-read.ensures.still ∙ c.pieces.invariant.not_ended was
 
 pub returns-in_default-read-clause-not_passed : goal.returns-in_default-read-clause-not_passed
-returns-in_default-read-clause-not_passed g c = λ was.
-    still_not_passed (g.S.Source.ended c.pieces.source) (g.S.Source.ended c.read.new.self)
-    (g.S.Source.passed c.pieces.source) (g.S.Source.passed c.read.new.self)
-    c.in_default-read.ensures.still ∙ c.pieces.invariant.not_passed was
+returns-in_default-read-clause-not_passed g c = λ was. still_not_passed _ _ _ _ c.in_default-read.ensures.still ∙ c.pieces.invariant.not_passed was
 
 pub returns-then-n-eq0-clause-ended : goal.returns-then-n-eq0-clause-ended
 returns-then-n-eq0-clause-ended g c =
     let room : 0 < length c.read.new.into = omega (arith, c.pieces.invariant.room, c.as_mut_slice.ensures.len, c.read.auto.into) in
-    ended_by c.in-Ok-read.n (length c.read.new.into) (g.S.Source.ended c.pieces.source) (g.S.Source.ended c.read.new.self) (g.S.Source.passed c.pieces.source)
-    (g.S.Source.passed c.read.new.self) c.in-Ok-read.ensures.ending c.if-n-eq0.true room
+    ended_by _ _ _ _ _ _ c.in-Ok-read.ensures.ending c.if-n-eq0.true room
 
 pub returns-then-n-eq0-clause-not_passed : goal.returns-then-n-eq0-clause-not_passed
-returns-then-n-eq0-clause-not_passed g c = λ was.
-    not_passed_by c.in-Ok-read.n (length c.read.new.into) (g.S.Source.ended c.pieces.source) (g.S.Source.ended c.read.new.self)
-    (g.S.Source.passed c.pieces.source) (g.S.Source.passed c.read.new.self) c.in-Ok-read.ensures.ending (c.pieces.invariant.not_ended was)
+returns-then-n-eq0-clause-not_passed g c = λ was. not_passed_by _ _ _ _ _ _ c.in-Ok-read.ensures.ending (c.pieces.invariant.not_ended was)
     ∙ c.pieces.invariant.not_passed was
 
 pub returns-in-Err-clause-not_ended : goal.returns-in-Err-clause-not_ended
-returns-in-Err-clause-not_ended g c = λ was.
-    going_on c.in-Ok-read.n (length c.read.new.into) (g.S.Source.ended c.pieces.source) (g.S.Source.ended c.read.new.self) (g.S.Source.passed c.pieces.source)
-    (g.S.Source.passed c.read.new.self) c.in-Ok-read.ensures.ending c.if-n-eq0.false (c.pieces.invariant.not_ended was)
+returns-in-Err-clause-not_ended g c = λ was. going_on _ _ _ _ _ _ c.in-Ok-read.ensures.ending c.if-n-eq0.false (c.pieces.invariant.not_ended was)
 
 pub returns-in-Err-clause-not_passed : goal.returns-in-Err-clause-not_passed
-returns-in-Err-clause-not_passed g c = λ was.
-    not_passed_by c.in-Ok-read.n (length c.read.new.into) (g.S.Source.ended c.pieces.source) (g.S.Source.ended c.read.new.self)
-    (g.S.Source.passed c.pieces.source) (g.S.Source.passed c.read.new.self) c.in-Ok-read.ensures.ending (c.pieces.invariant.not_ended was)
+returns-in-Err-clause-not_passed g c = λ was. not_passed_by _ _ _ _ _ _ c.in-Ok-read.ensures.ending (c.pieces.invariant.not_ended was)
     ∙ c.pieces.invariant.not_passed was
