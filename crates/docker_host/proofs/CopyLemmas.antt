@@ -1,5 +1,6 @@
 -- Searching a shelf for the file with a given name.
-use Rattle.std.proofs.Common.{◌≡◌, ℕ, ◌+◌, ◌<◌, ◌≤◌, List, ◌∷◌, Some, None, true, false, length, drop, refl, ap, sym, ◌∙◌, string_bytes, add-one}
+use Rattle.std.proofs.Common.{◌≡◌, ℕ, ◌+◌, ◌<◌, ◌≤◌, List, ◌∷◌, Some, None, true, false, length, drop, ap, sym, ◌∙◌, string_bytes, add-one}
+use Rattle.std.proofs.Common.{rules}
 use Rattle.std.proofs.Math.Seq.{drop-cons}
 use Rattle.std.proofs.Math.ListN.{drop_of_length-le, get_or}
 use Rattle.std.specs.Str.{bytes_eq}
@@ -17,15 +18,13 @@ drop_next i places place below at = drop-cons places i place below ∙ (λ j. sy
 pub next_place : (i : ℕ) (places : List Place) (place : Place) (name : Text) → i < length places → place ≡ get_or places i place
     → texts_of places name ≡ texts_of (drop i places) name → bytes_eq (string_bytes place.name) name ≡ false
     → texts_of places name ≡ texts_of (drop (i + 1) places) name
-next_place i places place name below at so_far other =
-    so_far ∙ ap (λ (ps : List Place). texts_of ps name) (drop_next i places place below at) ∙ rw other refl
+next_place = search (rules, drop_next)
 
 -- if the file at index `i` is the first file with the name, the search finds the text of this file
 pub this_place : (i : ℕ) (places : List Place) (place : Place) (name text : Text) → i < length places → place ≡ get_or places i place
     → texts_of places name ≡ texts_of (drop i places) name → bytes_eq (string_bytes place.name) name ≡ true
     → text ≡ place.text.items → texts_of places name ≡ Some text
-this_place i places place name text below at so_far this same =
-    so_far ∙ ap (λ (ps : List Place). texts_of ps name) (drop_next i places place below at) ∙ rw (this, same) refl
+this_place = search (rules, drop_next)
 
 -- if no file has the name, the search finds no text
 pub no_place : (i : ℕ) (places : List Place) (name : Text) → length places ≤ i → texts_of places name ≡ texts_of (drop i places) name
@@ -36,15 +35,13 @@ no_place i places name past so_far = so_far ∙ ap (λ (ps : List Place). texts_
 pub next_since : (i : ℕ) (places : List Place) (place : Place) (name : Text) → i < length places → place ≡ get_or places i place
     → since_when places name ≡ since_when (drop i places) name → bytes_eq (string_bytes place.name) name ≡ false
     → since_when places name ≡ since_when (drop (i + 1) places) name
-next_since i places place name below at so_far other =
-    so_far ∙ ap (λ (ps : List Place). since_when ps name) (drop_next i places place below at) ∙ rw other refl
+next_since = search (rules, drop_next)
 
 -- the same as `this_place`, for the count since which the file has held its text
 pub this_since : (i : ℕ) (places : List Place) (place : Place) (name : Text) → i < length places → place ≡ get_or places i place
     → since_when places name ≡ since_when (drop i places) name → bytes_eq (string_bytes place.name) name ≡ true
     → since_when places name ≡ place.since
-this_since i places place name below at so_far this =
-    so_far ∙ ap (λ (ps : List Place). since_when ps name) (drop_next i places place below at) ∙ rw this refl
+this_since = search (rules, drop_next)
 
 -- the same as `no_place`, for the count since which the file has held its text
 pub no_since : (i : ℕ) (places : List Place) (name : Text) → length places ≤ i → since_when places name ≡ since_when (drop i places) name

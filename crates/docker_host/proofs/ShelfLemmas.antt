@@ -1,5 +1,6 @@
 -- The calls to a shelf preserve its invariant: the shelf agrees with its history.
-use Rattle.std.proofs.Common.{◌≡◌, ℕ, ◌+◌, ◌-◌, ◌^◌, ◌<◌, ◌≤◌, ◌⊎◌, inl, inr, Bool, true, false, List, [], ◌∷◌, ◌++◌}
+use Rattle.std.proofs.Common.{◌≡◌, ℕ, ◌+◌, ◌-◌, ◌^◌, ◌<◌, ◌≤◌, Bool, true, false, List, [], ◌∷◌, ◌++◌, rules}
+use Rattle.std.proofs.lemmas.Grind.{common_steps}
 use Rattle.std.proofs.Common.{length, if◌then◌else◌, Some, arith, refl, sym, ap, subst, ◌∙◌, string_bytes, length-append}
 use Rattle.std.specs.Str.{bytes_eq}
 use Rattle.std.proofs.lemmas.List.{take-append-le, take_all}
@@ -12,7 +13,7 @@ use Rattle.docker_host.specs.Shelf.{Texts, no_texts, with_text, after_event, aft
 use Rattle.docker_host.specs.Shelf.{is_put, last_put, put_from}
 use Rattle.docker_host.specs.Places.{texts_of, since_when, HoldsSince, IsKept}
 use Rattle.docker_host.specs.declared.shelf.Place.{Place}
-use Rattle.docker_host.proofs.CountLemmas.{number_of_few, put_after}
+use Rattle.docker_host.proofs.CountLemmas.{number_of_few}
 use Rattle.docker_host.proofs.StandingLemmas.{happen_append, happen_as}
 
 -- the files after a list of events and then one more event are the files after the list, changed by
@@ -34,8 +35,7 @@ AreMet-append texts (first ∷ events) event met last = (met.0, AreMet-append (a
 -- at an earlier position, one more event makes no difference
 earlier_standing : (events : List Event) (event : Event) (position : ℕ) (name : Text) → position ≤ length events
     → shelf_standing (events ++ event ∷ []) position name ≡ shelf_standing events position name
-earlier_standing events event position name low =
-    ap (λ (es : List Event). text_under es name) (take-append-le position events (event ∷ []) low)
+earlier_standing = search (rules, take-append-le)
 
 -- at the position of the next event, each file holds the text that was last placed under its name
 pub last_standing : (events : List Event) (name : Text) → shelf_standing events (length events) name ≡ text_under events name
@@ -51,45 +51,25 @@ next_standing events event name = earlier_standing events event (length events) 
 standing_append : (events : List Event) (event : Event) → IsStandingOf (shelf_standing events) events
     → HappensAt (shelf_standing (events ++ event ∷ [])) (length events) event
     → IsStandingOf (shelf_standing (events ++ event ∷ [])) (events ++ event ∷ [])
-standing_append events event are last =
-    happen_append (shelf_standing (events ++ event ∷ [])) 0 events event
-    (happen_as (shelf_standing events) (shelf_standing (events ++ event ∷ [])) (length events)
-    (λ position name low. sym (earlier_standing events event position name low)) 0 events (omega arith) are)
-    (subst (λ (n : ℕ). HappensAt (shelf_standing (events ++ event ∷ [])) n event)
-    (let same : length events ≡ 0 + length events = omega arith in same) last)
+standing_append = search (rules, happen_append, happen_as, earlier_standing)
 
 -- if a file has held the same text since some event, it still has after an event that doesn't change
 -- this file
 since_append : (events : List Event) (event : Event) (name : Text) (since : ℕ)
     → text_under (events ++ event ∷ []) name ≡ text_under events name → HoldsSince events name since
     → HoldsSince (events ++ event ∷ []) name since
-since_append events event name since kept holds = λ position from to. by position from (eq-or-lt_of_le to)
-  where
-    long : length (events ++ event ∷ []) ≡ length events + 1
-    long = length-append events (event ∷ [])
-
-    by : (position : ℕ) → since ≤ position → (position ≡ length (events ++ event ∷ [])) ⊎ (position < length (events ++ event ∷ []))
-        → shelf_standing (events ++ event ∷ []) position name ≡ text_under (events ++ event ∷ []) name
-    by position from (inl last) =
-        ap (λ (n : ℕ). shelf_standing (events ++ event ∷ []) n name) last ∙ last_standing (events ++ event ∷ []) name
-    by position from (inr below) =
-        let low : position ≤ length events = omega (arith, long, below) in
-        earlier_standing events event position name low ∙ holds position from low ∙ sym kept
+since_append = grind (common_steps, arith, eq-or-lt_of_le, length-append, last_standing, earlier_standing)
 
 -- a file that has just got its text has held this text since the last event
 since_last : (events : List Event) (name : Text) (since : ℕ) → since ≡ length events → HoldsSince events name since
-since_last events name since is = λ position from to.
-    let last : position ≡ length events = omega (arith, is, from, to) in
-    ap (λ (n : ℕ). shelf_standing events n name) last ∙ last_standing events name
+since_last = grind (common_steps, arith, last_standing)
 
 -- ---- when a text was put
 
 -- one more event puts a text under a name, or the last text under this name was put as before
 put_from-append : (now last : ℕ) (events : List Event) (event : Event) (name : Text) → put_from now last (events ++ event ∷ []) name
     ≡ (if is_put event name then now + length events + 1 else put_from now last events name)
-put_from-append now last [] event name =
-    let same : now ≡ now + 0 = omega arith in
-    ap (λ (n : ℕ). if is_put event name then n + 1 else last) same
+put_from-append now last [] event name = search rules
 put_from-append now last (first ∷ events) event name =
     let same : now + 1 + length events ≡ now + length (first ∷ events) = omega arith in
     put_from-append (now + 1) (if is_put first name then now + 1 else last) events event name
@@ -98,16 +78,12 @@ put_from-append now last (first ∷ events) event name =
 -- an event that puts no text under this name changes nothing
 put_before : (events : List Event) (event : Event) (name : Text) → is_put event name ≡ false
     → last_put (events ++ event ∷ []) name ≡ last_put events name
-put_before events event name other =
-    put_from-append 0 0 events event name
-    ∙ (let kept : (if is_put event name then 0 + length events + 1 else last_put events name) ≡ last_put events name = rw other refl in kept)
+put_before = search (rules, put_from-append)
 
 -- an event that puts a text under this name is the last one
 put_last : (events : List Event) (event : Event) (name : Text) → is_put event name ≡ true
     → last_put (events ++ event ∷ []) name ≡ length events + 1
-put_last events event name own =
-    put_from-append 0 0 events event name
-    ∙ (let now : (if is_put event name then 0 + length events + 1 else last_put events name) ≡ length events + 1 = rw own (omega arith) in now)
+put_last = search (rules, put_from-append)
 
 -- ---- the invariant after one more event
 
@@ -117,16 +93,15 @@ pub kept_still : (places : List Place) (events : List Event) (event : Event) →
     → IsMet (after_events no_texts events) event → HappensAt (shelf_standing (events ++ event ∷ [])) (length events) event
     → IsKept places (events ++ event ∷ [])
 kept_still places events event kept still others met happens = record {
-  met = AreMet-append no_texts events event kept.met met;
-  standing = standing_append events event kept.standing happens;
+  met = AreMet-append _ events _ kept.met met;
+  standing = standing_append events _ kept.standing happens;
   same = λ name. kept.same name ∙ sym (unchanged name);
-  since = λ name few. since_append events event name (since_when places name) (unchanged name) (kept.since name few);
-  counted = λ name. subst (IsCountOf (since_when places name)) (sym (put_before events event name (others name))) (kept.counted name);
+  since = λ name few. since_append events _ name _ (unchanged name) (kept.since name few);
+  counted = λ name. subst (IsCountOf (since_when places name)) (sym (put_before events _ name (others name))) (kept.counted name);
 }
   where
     unchanged : (name : Text) → text_under (events ++ event ∷ []) name ≡ text_under events name
-    unchanged name =
-        ap (λ (texts : Texts). texts name) (after_events-append no_texts events event ∙ still (after_events no_texts events))
+    unchanged name = ap (λ (texts : Texts). texts name) (after_events-append _ events _ ∙ still (after_events no_texts events))
 
 -- if a text is written to a file and the event `placed` is appended, the shelf's invariant `IsKept`
 -- still holds. `place.since` counts the events, with the event `placed`
@@ -134,10 +109,9 @@ pub kept_placed : (place : Place) (places : List Place) (events : List Event) (n
     → string_bytes place.name ≡ name → place.text.items ≡ text → IsCountOf place.since (length events + 1)
     → IsKept (place ∷ places) (events ++ placed name (Some text) ∷ [])
 kept_placed place places events name text kept named held counted = record {
-  met = AreMet-append no_texts events (placed name (Some text)) kept.met tt;
-  standing = standing_append events (placed name (Some text)) kept.standing now_there;
-  same = λ other.
-      ap (λ (n : Text). with_text n place.text.items (texts_of places) other) named
+  met = AreMet-append no_texts _ (placed name (Some text)) kept.met tt;
+  standing = standing_append _ (placed name (Some text)) kept.standing now_there;
+  same = λ other. ap (λ (n : Text). with_text n place.text.items (texts_of places) other) named
       ∙ ap (λ (t : Text). with_text name t (texts_of places) other) held
       ∙ with_same name text other (texts_of places) (after_events no_texts events) (kept.same other)
       ∙ sym (after other);
@@ -149,7 +123,7 @@ kept_placed place places events name text kept named held counted = record {
     all = events ++ placed name (Some text) ∷ []
 
     after : (other : Text) → text_under all other ≡ with_text name text (after_events no_texts events) other
-    after other = ap (λ (texts : Texts). texts other) (after_events-append no_texts events (placed name (Some text)))
+    after other = ap (λ (texts : Texts). texts other) (after_events-append _ events _)
 
     with_same : (name text other : Text) (texts texts' : Texts) → texts other ≡ texts' other
         → with_text name text texts other ≡ with_text name text texts' other
@@ -162,8 +136,7 @@ kept_placed place places events name text kept named held counted = record {
     own n texts = let same : bytes_eq n n ≡ true = (bytes_eq-Decides n n).1 refl in rw same refl
 
     now_there : shelf_standing all (length events + 1) name ≡ Some text
-    now_there =
-        ap (λ (n : ℕ). shelf_standing all n name) (sym long) ∙ last_standing all name ∙ after name ∙ own name (after_events no_texts events)
+    now_there = ap (λ (n : ℕ). shelf_standing all n name) (sym long) ∙ last_standing all _ ∙ after name ∙ own name (after_events no_texts events)
 
     other_text : (other : Text) → bytes_eq (string_bytes place.name) other ≡ false → text_under all other ≡ text_under events other
     other_text other differs = after other
@@ -173,68 +146,44 @@ kept_placed place places events name text kept named held counted = record {
         → since_when (place ∷ places) other < 2 ^ 64 - 1 → HoldsSince all other (since_when (place ∷ places) other)
     by other true is few =
         let since : since_when (place ∷ places) other ≡ place.since = rw is refl in
-        subst (HoldsSince all other) (sym since)
-        (since_last all other place.since
-        (number_of_few place.since (length events + 1) counted (subst (λ (n : ℕ). n < 2 ^ 64 - 1) since few) ∙ sym long))
+        subst (HoldsSince all other) (sym since) (since_last all _ place.since
+        (number_of_few _ (length events + 1) counted (subst (λ (n : ℕ). n < 2 ^ 64 - 1) since few) ∙ sym long))
     by other false is few =
         let since : since_when (place ∷ places) other ≡ since_when places other = rw is refl in
-        subst (HoldsSince all other) (sym since)
-        (since_append events (placed name (Some text)) other (since_when places other) (other_text other is)
+        subst (HoldsSince all other) (sym since) (since_append _ (placed name (Some text)) _ (since_when places other) (other_text other is)
         (kept.since other (subst (λ (n : ℕ). n < 2 ^ 64 - 1) since few)))
 
-    count : (other : Text) (is : Bool) → bytes_eq (string_bytes place.name) other ≡ is
-        → IsCountOf (since_when (place ∷ places) other) (last_put all other)
+    count : (other : Text) (is : Bool) → bytes_eq (string_bytes place.name) other ≡ is → IsCountOf (since_when (place ∷ places) other) (last_put all other)
     count other true is =
         let since : since_when (place ∷ places) other ≡ place.since = rw is refl in
         let own : bytes_eq name other ≡ true = subst (λ (n : Text). bytes_eq n other ≡ true) named is in
         subst (λ (n : ℕ). IsCountOf n (last_put all other)) (sym since)
-        (subst (IsCountOf place.since) (sym (put_last events (placed name (Some text)) other own)) counted)
+        (subst (IsCountOf place.since) (sym (put_last _ (placed name (Some text)) _ own)) counted)
     count other false is =
         let since : since_when (place ∷ places) other ≡ since_when places other = rw is refl in
         let apart : bytes_eq name other ≡ false = subst (λ (n : Text). bytes_eq n other ≡ false) named is in
         subst (λ (n : ℕ). IsCountOf n (last_put all other)) (sym since)
-        (subst (IsCountOf (since_when places other)) (sym (put_before events (placed name (Some text)) other apart)) (kept.counted other))
+        (subst (IsCountOf (since_when places other)) (sym (put_before events _ other apart)) (kept.counted other))
 
 -- if a file is opened and the event `opened` is appended, the shelf's invariant `IsKept` still
 -- holds
 pub kept_opened : (places : List Place) (events : List Event) (name text : Text) → IsKept places events
     → text_under events name ≡ Some text → IsKept places (events ++ opened name (Some text) ∷ [])
-kept_opened places events name text kept found =
-    kept_still places events (opened name (Some text)) kept (λ texts. refl) (λ other. refl) (sym found, refl)
-    (sym found ∙ sym (next_standing events (opened name (Some text)) name))
+kept_opened places events name text kept found = kept_still _ events _ kept (λ texts. refl) (λ other. refl) (sym found, refl)
+    (sym found ∙ sym (next_standing events _ name))
 
 -- if no text was written to a file since a look, one more event doesn't change this
 pub still_after : (events : List Event) (event : Event) (name : Text) (look : ℕ) → IsStill (shelf_standing events) name look (length events)
     → IsStill (shelf_standing (events ++ event ∷ [])) name look (length events)
-still_after events event name look still = λ position from to.
-    earlier_standing events event position name to ∙ still position from to
-    ∙ sym (earlier_standing events event look name (omega (arith, from, to)))
+still_after = search (rules, earlier_standing)
 
 -- if a draft is made for a file to which no text was written since the look, the shelf's invariant
 -- `IsKept` still holds
 pub kept_drafted : (places : List Place) (events : List Event) (name : Text) (look : ℕ) → IsKept places events
     → IsStill (shelf_standing events) name look (length events) → IsKept places (events ++ drafted name look ∷ [])
-kept_drafted places events name look kept still =
-    kept_still places events (drafted name look) kept (λ texts. refl) (λ other. refl) tt (still_after events (drafted name look) name look still)
-
--- if the text of a file was placed before the look, no text was written to the file since the look
-pub still_since : (places : List Place) (events : List Event) (name : Text) (count look : ℕ) → IsKept places events → IsCountOf count look
-    → count < 2 ^ 64 - 1 → since_when places name ≤ count → IsStill (shelf_standing events) name look (length events)
-still_since places events name count look kept counted few early = λ position from to.
-    let low : since_when places name < 2 ^ 64 - 1 = omega (arith, few, early) in
-    let there : since_when places name ≤ look = subst (λ (n : ℕ). since_when places name ≤ n) (number_of_few count look counted few) early in
-    kept.since name low position (omega (arith, from, there)) to
-    ∙ sym (kept.since name low look there (omega (arith, from, to)))
+kept_drafted = search (rules, kept_still, still_after)
 
 -- the same as `still_since`, for a history and a look that are given by equations
 pub still_as : (events shown : List Event) (name : Text) (look seen : ℕ) → events ≡ shown → look ≡ seen
     → IsStill (shelf_standing shown) name seen (length shown) → IsStill (shelf_standing events) name look (length events)
-still_as events shown name look seen same at still =
-    subst (λ (es : List Event). IsStill (shelf_standing es) name look (length es)) (sym same)
-    (subst (λ (n : ℕ). IsStill (shelf_standing shown) name n (length shown)) (sym at) still)
-
--- if the shelf can't see that no text was put under the name since the look, a text was put, unless the look's position is too great to be counted
-pub put_since : (places : List Place) (events : List Event) (name : Text) (count look : ℕ) → IsKept places events → IsCountOf count look
-    → (count < 2 ^ 64 - 1 → count < since_when places name) → look < 2 ^ 64 - 1 → look < last_put events name
-put_since places events name count look kept counted late =
-    put_after count look (since_when places name) (last_put events name) counted (kept.counted name) late
+still_as = search rules

@@ -1,5 +1,5 @@
 -- Which events can happen at which position of a folder's history.
-use Rattle.std.proofs.Common.{◌≡◌, ℕ, ◌+◌, ◌≤◌, List, [], ◌∷◌, ◌++◌, length, arith, sym, subst, ◌∙◌}
+use Rattle.std.proofs.Common.{◌≡◌, ℕ, ◌+◌, ◌≤◌, List, [], ◌∷◌, ◌++◌, length, arith, sym, subst, ◌∙◌, rules}
 use Rattle.docker_host.specs.History.{Text, Event, looked, opened, unopened, closed, drafted, undrafted, placed, unplaced, dropped}
 use Rattle.docker_host.specs.Standing.{Standing, HappensAt, HappenFrom}
 
@@ -26,8 +26,7 @@ happen_as one two limit same now (event ∷ events) low happen =
 -- if these events can happen, and then one more event, they can all happen
 pub happen_append : (standing : Standing) (now : ℕ) (events : List Event) (event : Event) → HappenFrom standing now events
     → HappensAt standing (now + length events) event → HappenFrom standing now (events ++ event ∷ [])
-happen_append standing now [] event happen last =
-    (subst (λ (n : ℕ). HappensAt standing n event) (let same : now + 0 ≡ now = omega arith in same) last, tt)
+happen_append standing now [] event happen last = search rules
 happen_append standing now (first ∷ events) event happen last = (
   happen.0,
   happen_append standing (now + 1) events event happen.1
@@ -38,8 +37,5 @@ happen_append standing now (first ∷ events) event happen last = (
 -- if these events can happen, the event `event` can happen at its position
 pub happens_at : (standing : Standing) (now : ℕ) (front : List Event) (event : Event) (more : List Event)
     → HappenFrom standing now (front ++ event ∷ more) → HappensAt standing (now + length front) event
-happens_at standing now [] event more happen =
-    subst (λ (n : ℕ). HappensAt standing n event) (let same : now ≡ now + 0 = omega arith in same) happen.0
-happens_at standing now (first ∷ front) event more happen =
-    subst (λ (n : ℕ). HappensAt standing n event) (let same : now + 1 + length front ≡ now + length (first ∷ front) = omega arith in same)
-    (happens_at standing (now + 1) front event more happen.1)
+happens_at standing now [] event more happen = search rules
+happens_at standing now (first ∷ front) event more happen = grind (arith, (happens_at standing (now + 1) front event more happen.1))

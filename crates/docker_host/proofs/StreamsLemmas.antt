@@ -1,10 +1,9 @@
 -- Several writes to the output of streams, one after another, and the exchanges that they add.
-use Rattle.std.proofs.Common.{◌≡◌, ℕ, ◌+◌, ◌≤◌, ◌<◌, List, [], ◌∷◌, ◌++◌, length, take, drop, refl, sym, ap, subst, ◌∙◌, arith}
-use Rattle.std.proofs.Common.{append_assoc, append-nil, length-append, None, Some}
+use Rattle.std.proofs.Common.{◌≡◌, ℕ, ◌+◌, ◌≤◌, ◌<◌, List, [], ◌∷◌, ◌++◌, length, take, drop, refl, sym, ap, subst, ◌∙◌, arith, rules}
+use Rattle.std.proofs.lemmas.Grind.{common_steps}
+use Rattle.std.proofs.Common.{append_assoc, append-nil, length-append}
 use Rattle.std.proofs.lemmas.List.{take-append-le}
 use Rattle.std.proofs.Math.Seq.{take-add, take-append-add, take-length}
-use Rattle.cif_device.specs.Device.{Takes}
-use Rattle.cif_device.proofs.DeviceLemmas.{Takes-append}
 use Rattle.docker_host.specs.History.{Bytes, Text}
 use Rattle.docker_host.specs.Exchanges.{Exchange, read, unread, wrote, unwritten, AreReads, AreWrites, bytes_read, bytes_written}
 use Rattle.docker_host.specs.Streams.{StreamsView, Writes, WritesPart, WritesWhole, after_unwritten}
@@ -14,8 +13,7 @@ use Rattle.docker_host.specs.Streams.{StreamsView, Writes, WritesPart, WritesWho
 -- the bytes read in two lists of exchanges are the bytes read in their concatenation
 pub read_append : (one two : List Exchange) → bytes_read (one ++ two) ≡ bytes_read one ++ bytes_read two
 read_append [] two = refl
-read_append (read bytes ∷ one) two =
-    ap (λ (rest : Text). bytes ++ rest) (read_append one two) ∙ sym (append_assoc bytes (bytes_read one) (bytes_read two))
+read_append (read bytes ∷ one) two = grind (arith, append_assoc, (read_append one two))
 read_append (unread ∷ one) two = read_append one two
 read_append (wrote bytes ∷ one) two = read_append one two
 read_append (unwritten ∷ one) two = read_append one two
@@ -23,15 +21,10 @@ read_append (unwritten ∷ one) two = read_append one two
 -- the bytes written in two lists of exchanges are the bytes written in their concatenation
 pub written_append : (one two : List Exchange) → bytes_written (one ++ two) ≡ bytes_written one ++ bytes_written two
 written_append [] two = refl
-written_append (wrote bytes ∷ one) two =
-    ap (λ (rest : Text). bytes ++ rest) (written_append one two) ∙ sym (append_assoc bytes (bytes_written one) (bytes_written two))
+written_append (wrote bytes ∷ one) two = grind (arith, append_assoc, (written_append one two))
 written_append (read bytes ∷ one) two = written_append one two
 written_append (unread ∷ one) two = written_append one two
 written_append (unwritten ∷ one) two = written_append one two
-
-pub reads_append : (one two : List Exchange) → AreReads one → AreReads two → AreReads (one ++ two)
-reads_append [] two first second = second
-reads_append (exchange ∷ one) two first second = (first.0, reads_append one two first.1 second)
 
 pub writes_append : (one two : List Exchange) → AreWrites one → AreWrites two → AreWrites (one ++ two)
 writes_append [] two first second = second
@@ -42,16 +35,14 @@ pub writes_read_none : (exchanges : List Exchange) → AreWrites exchanges → b
 writes_read_none [] are = refl
 writes_read_none (wrote bytes ∷ exchanges) are = writes_read_none exchanges are.1
 writes_read_none (unwritten ∷ exchanges) are = writes_read_none exchanges are.1
-writes_read_none (read bytes ∷ exchanges) are = absurd are.0
-writes_read_none (unread ∷ exchanges) are = absurd are.0
+writes_read_none _ are = absurd are.0
 
 -- reads write nothing
 pub reads_write_none : (exchanges : List Exchange) → AreReads exchanges → bytes_written exchanges ≡ []
 reads_write_none [] are = refl
 reads_write_none (read bytes ∷ exchanges) are = reads_write_none exchanges are.1
 reads_write_none (unread ∷ exchanges) are = reads_write_none exchanges are.1
-reads_write_none (wrote bytes ∷ exchanges) are = absurd are.0
-reads_write_none (unwritten ∷ exchanges) are = absurd are.0
+reads_write_none _ are = absurd are.0
 
 -- ---- one write after another
 
@@ -63,54 +54,20 @@ written_to old output failures gained =
 only_both : (one two : List Exchange) (old mid new : StreamsView)
     → mid ≡ written_to old mid.output mid.output_failures one → new ≡ written_to mid new.output new.output_failures two
     → new ≡ written_to old new.output new.output_failures (one ++ two)
-only_both one two old mid new first second =
-    second ∙ ap (λ (m : StreamsView). written_to m new.output new.output_failures two) first
-    ∙ ap (λ (es : List Exchange). record old { output = new.output; output_failures = new.output_failures; exchanges = es })
-    (append_assoc old.exchanges one two)
+only_both = search (rules, append_assoc)
 
 -- if the output took some bytes and then more bytes, it took their concatenation
 pub writes_both : (front back : Text) (one two : List Exchange) (old mid new : StreamsView) → Writes front one old mid
     → Writes back two mid new → Writes (front ++ back) (one ++ two) old new
-writes_both front back one two old mid new first second = record {
-  takes = Takes-append old.output mid.output new.output front back first.takes second.takes;
-  writes = writes_append one two first.writes second.writes;
-  are = written_append one two ∙ (λ i. first.are i ++ second.are i);
-  only = only_both one two old mid new first.only second.only;
-}
+writes_both = grind (common_steps, arith, writes_append, written_append, only_both)
 
 -- if no write was made, the output took the empty text
 pub writes_none : (old : StreamsView) → WritesWhole [] old old
-writes_none old = record {
-  gained = [];
-  writes = record { takes = nothing old.output; writes = tt; are = refl; only = same };
-  failures = refl;
-}
-  where
-    nothing : (output : Bytes) → Takes output [] output
-    nothing None = refl
-    nothing (Some taken) = ap Some (sym (append-nil taken))
-
-    same : old ≡ written_to old old.output old.output_failures []
-    same = ap (λ (es : List Exchange). record old { exchanges = es }) (sym (append-nil old.exchanges))
+writes_none = search (rules, append-nil)
 
 -- a write that failed
 failed_write : (old new : StreamsView) → new ≡ after_unwritten old → Writes [] (unwritten ∷ []) old new
-failed_write old new same = record {
-  takes = ap (λ (s : StreamsView). s.output) same ∙ nothing old.output;
-  writes = (tt, tt);
-  are = refl;
-  only = same ∙ (λ i. record old { output = outputs i; output_failures = failures i; exchanges = old.exchanges ++ unwritten ∷ [] });
-}
-  where
-    nothing : (output : Bytes) → Takes output [] output
-    nothing None = refl
-    nothing (Some taken) = ap Some (sym (append-nil taken))
-
-    outputs : old.output ≡ new.output
-    outputs = sym (ap (λ (s : StreamsView). s.output) same)
-
-    failures : old.output_failures + 1 ≡ new.output_failures
-    failures = sym (ap (λ (s : StreamsView). s.output_failures) same)
+failed_write = search (rules, append-nil)
 
 -- if the output took a whole text and then another whole text, it took their concatenation
 pub whole_both : (first second : Text) (old mid new : StreamsView) → WritesWhole first old mid → WritesWhole second mid new
@@ -129,24 +86,15 @@ part_of_second first second old mid new one two = record {
   n = length first + two.n;
   short = (let short = two.short in let long = length-append first second in omega (arith, short, long));
   gained = one.gained ++ two.gained;
-  writes =
-      subst (λ (bytes : Text). Writes bytes (one.gained ++ two.gained) old new) (sym (take-append-add first second two.n))
-      (writes_both first (take two.n second) one.gained two.gained old mid new one.writes two.writes);
+  writes = subst (λ (bytes : Text). Writes bytes (one.gained ++ two.gained) old new) (sym (take-append-add first second two.n))
+      (writes_both _ _ _ _ _ _ _ one.writes two.writes);
   failures = two.failures ∙ ap (λ (n : ℕ). n + 1) one.failures;
 }
 
 -- if the output took a proper prefix of a text, it took a proper prefix of each longer text that begins
 -- with this text
 pub part_of_first : (first second : Text) (old new : StreamsView) → WritesPart first old new → WritesPart (first ++ second) old new
-part_of_first first second old new one = record {
-  n = one.n;
-  short = (let short = one.short in let long = length-append first second in omega (arith, short, long));
-  gained = one.gained;
-  writes =
-      subst (λ (bytes : Text). Writes bytes one.gained old new)
-      (sym (take-append-le one.n first second (let short = one.short in omega (arith, short)))) one.writes;
-  failures = one.failures;
-}
+part_of_first = search (rules, length-append, take-append-le)
 
 -- ---- the loop over the writes of a text
 
@@ -155,10 +103,7 @@ part_of_first first second old new one = record {
 pub whole_more : (text : Text) (done n : ℕ) (old mid new : StreamsView) → WritesWhole (take done text) old mid
     → Writes (take n (drop done text)) (wrote (take n (drop done text)) ∷ []) mid new → new.output_failures ≡ mid.output_failures
     → WritesWhole (take (done + n) text) old new
-whole_more text done n old mid new one two sound =
-    subst (λ (bytes : Text). WritesWhole bytes old new) (sym (take-add done n text))
-    (whole_both (take done text) (take n (drop done text)) old mid new one
-    (record { gained = wrote (take n (drop done text)) ∷ []; writes = two; failures = sound }))
+whole_more = search (rules, take-add, whole_both)
 
 -- if the first `done` bytes of a text were written and the next write fails, a proper prefix of the text
 -- was written
@@ -168,15 +113,12 @@ part_fails text done old mid new short one same = record {
   n = done;
   short = short;
   gained = one.gained ++ unwritten ∷ [];
-  writes =
-      subst (λ (bytes : Text). Writes bytes (one.gained ++ unwritten ∷ []) old new) (append-nil (take done text))
-      (writes_both (take done text) [] one.gained (unwritten ∷ []) old mid new one.writes (failed_write mid new same));
+  writes = subst (λ (bytes : Text). Writes bytes (one.gained ++ unwritten ∷ []) old new) (append-nil (take done text))
+      (writes_both _ _ _ _ _ _ _ one.writes (failed_write _ _ same));
   failures = ap (λ (s : StreamsView). s.output_failures) same ∙ ap (λ (n : ℕ). n + 1) one.failures;
 }
 
 -- once all bytes of a text are written, the whole text is written
 pub whole_all : (text : Text) (done : ℕ) (old new : StreamsView) → done ≤ length text → length text ≤ done
     → WritesWhole (take done text) old new → WritesWhole text old new
-whole_all text done old new within past one =
-    let all : done ≡ length text = omega (arith, within, past) in
-    subst (λ (bytes : Text). WritesWhole bytes old new) (ap (λ (n : ℕ). take n text) all ∙ take-length text) one
+whole_all = grind (common_steps, arith, take-length)

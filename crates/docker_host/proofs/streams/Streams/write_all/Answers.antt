@@ -14,16 +14,11 @@ write-requires-clause-failures g c =
 pub loop-done-preserved : goal.loop-done-preserved
 loop-done-preserved g c = record {
   within = search rules;
-  so_far = whole_more c.args.text.now c.loop-done.done c.in-Ok.n c.args.self.now c.loop-done.self c.write.new.self
-      c.loop-done.invariant.so_far (rw take-drop_all at c.in-Ok.ensures.wrote) c.in-Ok.ensures.no_failure;
+  so_far = whole_more _ _ _ _ _ _ c.loop-done.invariant.so_far (rw take-drop_all at c.in-Ok.ensures.wrote) c.in-Ok.ensures.no_failure;
 }
 
 pub returns-in-Err : goal.returns-in-Err
-returns-in-Err g c =
-    part_fails c.args.text.now c.loop-done.done c.args.self.now c.loop-done.self c.write.new.self c.loop-done-test.true
-    c.loop-done.invariant.so_far c.in-Err.ensures.failed
+returns-in-Err g c = part_fails _ _ _ _ _ c.loop-done-test.true c.loop-done.invariant.so_far c.in-Err.ensures.failed
 
 pub returns : goal.returns
-returns g c =
-    whole_all c.args.text.now c.loop-done.done c.args.self.now c.loop-done.self c.loop-done.invariant.within c.loop-done-test.false
-    c.loop-done.invariant.so_far
+returns g c = whole_all _ _ _ _ c.loop-done.invariant.within c.loop-done-test.false c.loop-done.invariant.so_far
