@@ -1,5 +1,5 @@
 -- Lemmas on comparing lists of lines by their joined bytes. Equal lines at the front can be skipped.
-use Rattle.std.proofs.Common.{◌≡◌, ℕ, List, [], ◌∷◌, ◌++◌, refl, ap, sym, ◌∙◌}
+use Rattle.std.proofs.Common.{◌≡◌, ℕ, List, [], ◌∷◌, ◌++◌, refl, ap, ◌∙◌, rules}
 use Rattle.std.specs.List.{concat}
 use Rattle.std.specs.Ordering.{ordering_then}
 use Rattle.std.specs.Cmp.{nat_cmp_total, tied_itself}
@@ -15,12 +15,10 @@ behind_front (b ∷ front) xs ys =
 -- compare
 pub behind_same : (line other : List ℕ) (lines others : List (List ℕ)) → line ≡ other
     → bytes_cmp (concat (line ∷ lines)) (concat (other ∷ others)) ≡ bytes_cmp (concat lines) (concat others)
-behind_same line other lines others same =
-    ap (λ l. bytes_cmp (line ++ concat lines) (l ++ concat others)) (sym same) ∙ behind_front line (concat lines) (concat others)
+behind_same = search (rules, behind_front)
 
 -- if the first lines of two lists are equal, comparing the lists gives the same result as comparing
 -- the lines after the first
 pub after_first_record : (lines others rest left : List (List ℕ)) (line other : List ℕ) → lines ≡ line ∷ rest → others ≡ other ∷ left → line ≡ other
     → bytes_cmp (concat rest) (concat left) ≡ bytes_cmp (concat lines) (concat others)
-after_first_record lines others rest left line other one two same =
-    sym ((λ i. bytes_cmp (concat (one i)) (concat (two i))) ∙ behind_same line other rest left same)
+after_first_record = search (rules, behind_same)

@@ -1,5 +1,5 @@
 -- Lemmas on what the reader of a schedule remembers of the lines it has taken, and why it accepts or refuses the next line.
-use Rattle.std.proofs.Common.{◌≡◌, ℕ, ◌+◌, ◌≤◌, ◌<◌, Bool, true, false, cond, List, [], ◌∷◌, ◌++◌, map}
+use Rattle.std.proofs.Common.{◌≡◌, ℕ, ◌+◌, ◌≤◌, ◌<◌, Bool, true, false, cond, List, [], ◌∷◌, ◌++◌, map, rules}
 use Rattle.std.proofs.Common.{subst, refl, ap, sym, ◌∙◌, Some, None, arith, append-nil, append_assoc}
 use Rattle.std.specs.Prelude.{Option, IsTrue, ◌↔◌, ◌||◌, ◌&&◌, nat_le, is_some, is_none, IsOk, OnOk, IfErr, Result, Ok, Err}
 use Rattle.std.proofs.lemmas.Bool.{false≢true, le-leb, le-ltb, leb-true}
@@ -12,14 +12,14 @@ use Rattle.docker_model.specs.file.FileFault as fault
 use Rattle.docker_model.specs.file.FileFault.{bad_kind, bad_place}
 use Rattle.cif_laws.specs.RecordCause.{field_cause, schedule_cause, first_line_cause}
 use Rattle.cif_laws.specs.ScheduleFault.{IsScheduleFault}
-use Rattle.docker_model.specs.file.Journey.{Occasion, arrival, pass, departure, timed, times_of, times_by_kind, times_along, midnights, fall_count}
+use Rattle.docker_model.specs.file.Journey.{Occasion, arrival, departure, timed, times_of, times_by_kind, times_along, midnights}
 use Rattle.cif_laws.proofs.records.Columns.{good_fields}
 use Rattle.cif_laws.proofs.records.ScheduledTimes.{time_there}
 use Rattle.cif_laws.specs.RecordTest.{is_record, has_good_fields}
 use Rattle.cif_laws.proofs.lists.BoolsAndOptions.{test_by_none, and_true}
 use Rattle.cif_laws.proofs.records.RecordTests.{record_iff_test, midnights_step, last_time_step, no_times, no_times_before}
 use Rattle.cif_laws.specs.TimesSoFar.{last_of, falls_after, later_or}
-use Rattle.cif_laws.specs.ScheduleStage.{Stage, after_basic, after_details, in_journey, after_journey, stage_after}
+use Rattle.cif_laws.specs.ScheduleStage.{Stage, after_basic, stage_after}
 use Rattle.cif_laws.specs.ScheduleStage.{is_basic_kind, stage_of, may_lack, may_end, is_first_line, is_sound_next, next_stage}
 use Rattle.cif_laws.proofs.schedules.ScheduleStages.{no_stage_of_none, stage_of_more, first_line_iff_test}
 use Rattle.cif_laws.proofs.schedules.ScheduleStages.{schedule_iff_stage, begins_iff_stage, sound_next_by_count}
@@ -44,19 +44,16 @@ some_is x y same = cc
 whole_iff : (lines : Lines) (stage : Stage) → stage_of lines ≡ Some stage → IsSchedule lines ↔ (may_end stage lines ≡ true)
 whole_iff lines stage at = (
   λ is.
-      let told = (schedule_iff_stage lines).0 is in
-      subst (λ s. may_end s lines ≡ true) (some_is told.0 stage (sym told.1.found ∙ at)) told.1.may,
-  λ may. (schedule_iff_stage lines).1 (stage, record { found = at; may = may }),
+      let told = (schedule_iff_stage _).0 is in
+      subst (λ s. may_end s lines ≡ true) (some_is _ _ (sym told.1.found ∙ at)) told.1.may,
+  λ may. (schedule_iff_stage _).1 (stage, record { found = at; may = may }),
 )
 
 -- whether the schedule may end is determined by the stage and by `lacking`, which the reader
 -- remembers
 may_end_same : (stage : Stage) (lines : Lines) (lacking : Bool) → lacking ≡ may_lack (first_record lines)
     → may_end_by (Some stage) lacking ≡ may_end stage lines
-may_end_same after_basic lines lacking same = same
-may_end_same after_details lines lacking same = same
-may_end_same in_journey lines lacking same = refl
-may_end_same after_journey lines lacking same = refl
+may_end_same = search rules
 
 complete_iff : (journey : JourneyState) (lines : Lines) → HasLines journey lines → IsTrue (may_end_by journey.stage journey.lacking) ↔ IsSchedule lines
 complete_iff journey lines has = by journey.stage refl
@@ -107,13 +104,12 @@ fault_by journey lines line has is nowhere = by journey.stage refl nowhere
   where
     first : (b : Bool) → is_first_line line ≡ b → cond b (Some after_basic) None ≡ None → IsScheduleFault [] line (first_line_cause line)
     first true h told = cc
-    first false h told = first_line_fault line is h
+    first false h told = first_line_fault _ is h
 
     by : (stage : Option Stage) → journey.stage ≡ stage → next_by stage lines line ≡ None → IsScheduleFault lines line (cause_by journey.stage line)
-    by None h told =
-        subst (λ s. IsScheduleFault lines line (cause_by s line)) (sym h)
+    by None h told = subst (λ s. IsScheduleFault lines line (cause_by s line)) (sym h)
         (subst (λ l. IsScheduleFault l line (first_line_cause line)) (sym (has.fresh h)) (first (is_first_line line) refl told))
-    by (Some stage) h told = subst (λ s. IsScheduleFault lines line (cause_by s line)) (sym h) (schedule_fault lines stage line (sym has.stage_is ∙ h) is told)
+    by (Some stage) h told = subst (λ s. IsScheduleFault lines line (cause_by s line)) (sym h) (schedule_fault _ _ _ (sym has.stage_is ∙ h) is told)
 
 -- if there is no stage after a line, the line is refused for the cause that `cause_by` gives
 pub refused_by : (journey : JourneyState) (lines : Lines) (line : List ℕ) (cause : fault.FileCause) → HasLines journey lines → IsRecord line
@@ -132,10 +128,10 @@ judged_ok answer journey lines line has is iff = (
     by : (next : Option Stage) → next_by journey.stage lines line ≡ next → is_some (next_by journey.stage lines line) ≡ true
         → BeginsSchedule (lines ++ line ∷ [])
     by None h some = let bad : false ≡ true = (λ i. is_some (sym h i)) ∙ some in cc
-    by (Some next) h some = begins_by journey lines line next has h
+    by (Some next) h some = begins_by _ _ _ _ has h
 
     from : (next : Option Stage) → next_by journey.stage lines line ≡ next → BeginsSchedule (lines ++ line ∷ []) → IsOk answer
-    from None h begins = absurd ((fault_by journey lines line has is h).here begins)
+    from None h begins = absurd ((fault_by _ _ _ has is h).here begins)
     from (Some next) h begins = iff.1 (λ i. is_some (h i))
 
 -- suppose that a result is `Ok` if and only if there is a stage after the line, and that its error
@@ -146,13 +142,7 @@ pub judged_err : {A : Type 0} (answer : Result A FileCause) (journey : JourneySt
     → IsOk answer ↔ (is_some (next_by journey.stage lines line) ≡ true) → told ≡ cause_by journey.stage line
     → IfErr answer (λ cause. cause_meant cause ≡ Some told)
     → IfErr answer (λ cause. IsScheduleCause lines line (cause_meant cause))
-judged_err (Ok value) journey lines line told has is iff same err = err
-judged_err (Err cause) journey lines line told has is iff same err =
-    subst (IsScheduleCause lines line) (sym err) (subst (IsScheduleFault lines line) (sym same) (by (next_by journey.stage lines line) refl))
-  where
-    by : (next : Option Stage) → next_by journey.stage lines line ≡ next → IsScheduleFault lines line (cause_by journey.stage line)
-    by None h = fault_by journey lines line has is h
-    by (Some next) h = let bad = iff.1 (λ i. is_some (h i)) in absurd cc
+judged_err = search (rules, fault_by)
 
 -- if no line has been taken yet, a line leads to a stage if and only if the line is a basic
 -- schedule with good fields
@@ -172,8 +162,7 @@ pub record LeadsOn (stage : Option Stage) (kind : Option Kind) (next : Stage) : 
 
 -- if there is a stage after a line of this kind, the reader was at a stage before the line
 pub leads_on : (stage : Option Stage) (kind : Option Kind) (next : Stage) → stage_then stage kind ≡ Some next → LeadsOn stage kind next
-leads_on None kind next led = absurd cc
-leads_on (Some here) kind next led = record { here = here; at = refl; after = led }
+leads_on = search rules
 
 -- if a line's kind may come next, there is a stage after the line if and only if its fields and times are sound
 pub next_test : (journey : JourneyState) (lines : Lines) (line : List ℕ) (next : Stage) → IsRecord line → stage_then journey.stage (kind_of line) ≡ Some next
@@ -191,16 +180,7 @@ next_test journey lines line next is led =
 -- a line of a kind that may come next is refused either for its leftmost bad field or for a third midnight
 pub next_cause : (journey : JourneyState) (line : List ℕ) (next : Stage) → stage_then journey.stage (kind_of line) ≡ Some next
     → field_cause line ≡ cause_by journey.stage line
-next_cause journey line next led =
-    let on = leads_on journey.stage (kind_of line) next led in
-    sym ((λ i. cause_by (on.at i) line) ∙ known on.here (kind_of line) refl on.after)
-  where
-    known : (here : Stage) (kind : Option Kind) → kind_of line ≡ kind → stage_after here (kind_of line) ≡ Some next
-        → schedule_cause here line ≡ field_cause line
-    known here None h after = let bad : None ≡ Some next = sym (no_stage_of_none here) ∙ ap (stage_after here) (sym h) ∙ after in cc
-    known here (Some kind) h after =
-        (λ i. cond (is_none (h i)) bad_kind (cond (is_none (stage_after here (kind_of line))) bad_place (field_cause line)))
-        ∙ (λ i. cond (is_none (after i)) bad_place (field_cause line))
+next_cause = search (rules, leads_on, no_stage_of_none)
 
 -- if a proposition holds if and only if one test passes, it holds if and only if an equal test passes
 pub iff_along : (P : Type 0) (a b : Bool) → a ≡ b → P ↔ (b ≡ true) → P ↔ (a ≡ true)
@@ -233,8 +213,7 @@ unknown_kind journey lines line has is none = refused_by journey lines line faul
 pub out_of_place : (journey : JourneyState) (lines : Lines) (line : List ℕ) (stage : Stage) (kind : Kind) → HasLines journey lines → IsRecord line
     → journey.stage ≡ Some stage → kind_of line ≡ Some kind
     → stage_after stage (Some kind) ≡ None → IsScheduleFault lines line fault.bad_place
-out_of_place journey lines line stage kind has is at known none =
-    refused_by journey lines line fault.bad_place has is
+out_of_place journey lines line stage kind has is at known none = refused_by _ _ _ _ has is
     ((λ i. next_by (at i) lines line) ∙ (λ i. cond (is_record line && is_sound_next lines line) (nowhere i) None) ∙ by
     (is_record line && is_sound_next lines line))
     ((λ i. cause_by (at i) line) ∙ (λ i. cond (is_none (known i)) bad_kind (cond (is_none (stage_after stage (known i))) bad_place (field_cause line))) ∙
@@ -253,40 +232,23 @@ out_of_place journey lines line stage kind has is at known none =
 -- First count at the optional time, and then at the times after it.
 pub falls_in_turn : (last first : Option ℕ) (rest : List ℕ) → falls_after last (time_list first ++ rest) ≡ falls_after last (time_list first) + falls_after
     (later_or first last) rest
-falls_in_turn None None rest = omega arith
-falls_in_turn (Some last) None rest = omega arith
-falls_in_turn None (Some time) rest = omega arith
-falls_in_turn (Some last) (Some time) rest = omega arith
+falls_in_turn = search rules
 
 -- after three optional times, the last time is the last of the times that are present. If none is
 -- present, the last time stays the same
 pub last_in_turn : (last first second third : Option ℕ) → later_or third (later_or second (later_or first last)) ≡ later_or
     (last_of (time_list first ++ time_list second ++ time_list third)) last
-last_in_turn last None None None = refl
-last_in_turn last (Some a) None None = refl
-last_in_turn last None (Some b) None = refl
-last_in_turn last (Some a) (Some b) None = refl
-last_in_turn last None None (Some c) = refl
-last_in_turn last (Some a) None (Some c) = refl
-last_in_turn last None (Some b) (Some c) = refl
-last_in_turn last (Some a) (Some b) (Some c) = refl
+last_in_turn = search rules
 
 -- if there is no last time yet, the midnights can be counted as if the last time were 0, since no
 -- time is below 0
 falls_from_zero : (last : Option ℕ) (times : List ℕ) → falls_after (later_or last (Some 0)) times ≡ falls_after last times
-falls_from_zero (Some last) times = refl
-falls_from_zero None [] = refl
-falls_from_zero None (time ∷ times) =
-    (λ i. cond (le-ltb time 0 (omega arith) i) 1 0 + fall_count (time ∷ times)) ∙ by (fall_count (time ∷ times))
-  where
-    by : (count : ℕ) → 0 + count ≡ count
-    by count = omega arith
+falls_from_zero = search (rules, le-ltb)
 
 -- `later_or` is associative: the last time of three lists of times doesn't depend on which two
 -- lists are combined first
 later_in_turn : (third second first : Option ℕ) → later_or third (later_or second first) ≡ later_or (later_or third second) first
-later_in_turn None second first = refl
-later_in_turn (Some third) second first = refl
+later_in_turn = search rules
 
 one_line : (line : List ℕ) → times_along (line ∷ []) ≡ map (λ (time : Occasion × ℕ). time.1) (times_of line)
 one_line line = ap (map (λ (time : Occasion × ℕ). time.1)) (append-nil (times_of line))
@@ -295,15 +257,13 @@ one_line line = ap (map (λ (time : Occasion × ℕ). time.1)) (append-nil (time
 
 -- taking another line doesn't change the first line
 first_stays : (lines : Lines) (stage : Stage) (line : List ℕ) → stage_of lines ≡ Some stage → first_record (lines ++ line ∷ []) ≡ first_record lines
-first_stays [] stage line at = cc
-first_stays (basic ∷ rest) stage line at = refl
+first_stays = search rules
 
 next_is : (lines : Lines) (line : List ℕ) (stage next : Stage) → stage_of lines ≡ Some stage → IsRecord line → is_sound_next lines line ≡ true
     → stage_after stage (kind_of line) ≡ Some next
     → stage_of (lines ++ line ∷ []) ≡ Some next
-next_is lines line stage next at is sound after =
-    stage_of_more lines stage line at
-    ∙ (λ i. cond ((record_iff_test line).0 is i && is_sound_next lines line) (stage_after stage (kind_of line)) None)
+next_is lines line stage next at is sound after = stage_of_more lines _ line at
+    ∙ (λ i. cond ((record_iff_test _).0 is i && is_sound_next lines line) (stage_after stage (kind_of line)) None)
     ∙ (λ i. cond (sound i) (stage_after stage (kind_of line)) None)
     ∙ after
 
@@ -330,18 +290,13 @@ deletion_goes_on journey lines line stage next has is at deletion after =
 -- the reader remembers
 falls_so_far : (journey : JourneyState) (lines : Lines) (line : List ℕ) → HasLines journey lines → journey.deletion ≡ false
     → falls_after (last_of (times_along lines)) (times_along (line ∷ [])) ≡ falls_after (Some journey.last) (times_along (line ∷ []))
-falls_so_far journey lines line has kept =
-    sym (falls_from_zero (last_of (times_along lines)) (times_along (line ∷ [])))
+falls_so_far journey lines line has kept = sym (falls_from_zero _ _)
     ∙ (λ i. falls_after (sym (has.last_is kept) i) (times_along (line ∷ [])))
 
 -- a line is sound if and only if its fields are good and, with its times, the schedule passes midnight at most twice
 sound_by_falls : (journey : JourneyState) (lines : Lines) (line : List ℕ) (more : ℕ) → HasLines journey lines → journey.deletion ≡ false
     → more ≡ journey.falls + falls_after (Some journey.last) (times_along (line ∷ [])) → is_sound_next lines line ≡ (has_good_fields line && nat_le more 2)
-sound_by_falls journey lines line more has kept falls =
-    sound_next_by_count lines line
-    ∙ (λ i. (sym has.deletion_is ∙ kept) i || (has_good_fields line && nat_le
-    (sym (has.falls_are kept) i + falls_so_far journey lines line has kept i) 2))
-    ∙ (λ i. has_good_fields line && nat_le (sym falls i) 2)
+sound_by_falls = search (rules, sound_next_by_count, falls_so_far)
 
 -- unless the schedule is a deletion, the reader can take a sound line. It then remembers the next
 -- stage, the new count of midnights and the new last time
@@ -376,47 +331,27 @@ pub falls_of_three : (falls : ℕ) (last first second third : Option ℕ)
     → ((falls + falls_after last (time_list first)) + falls_after (later_or first last) (time_list second)) + falls_after
     (later_or second (later_or first last)) (time_list third)
     ≡ falls + falls_after last (time_list first ++ time_list second ++ time_list third)
-falls_of_three falls last first second third =
-    let one = ap (falls_after last) (append_assoc (time_list first) (time_list second) (time_list third))
-    ∙ falls_in_turn last first (time_list second ++ time_list third) in
-    let two = falls_in_turn (later_or first last) second (time_list third) in
-    omega arith
+falls_of_three = search (rules, append_assoc, falls_in_turn)
 
 -- ---- the times of a line of each kind
 
 -- an origin has one time, in columns 11 to 15
 pub origin_time : (line : List ℕ) → HasKind origin_location line → HasGoodFields line
     → map (λ (time : Occasion × ℕ). time.1) (times_of line) ≡ half_minutes (columns 11 15 line) ∷ []
-origin_time line is good =
-    (λ i. map (λ (time : Occasion × ℕ). time.1) (times_by_kind (is i) line))
-    ∙ ap (λ time. map (λ (t : Occasion × ℕ). t.1) (timed departure time)) (time_there (columns 11 15 line) (good_fields origin_location line is good).1.0)
+origin_time line is good = (λ i. map (λ (time : Occasion × ℕ). time.1) (times_by_kind (is i) line))
+    ∙ ap (λ time. map (λ (t : Occasion × ℕ). t.1) (timed departure time)) (time_there (columns 11 15 line) (good_fields _ line is good).1.0)
 
 -- a terminus has one time, in columns 11 to 15
 pub terminus_time : (line : List ℕ) → HasKind terminating_location line → HasGoodFields line
     → map (λ (time : Occasion × ℕ). time.1) (times_of line) ≡ half_minutes (columns 11 15 line) ∷ []
-terminus_time line is good =
-    (λ i. map (λ (time : Occasion × ℕ). time.1) (times_by_kind (is i) line))
-    ∙ ap (λ time. map (λ (t : Occasion × ℕ). t.1) (timed arrival time)) (time_there (columns 11 15 line) (good_fields terminating_location line is good).1.0)
+terminus_time line is good = (λ i. map (λ (time : Occasion × ℕ). time.1) (times_by_kind (is i) line))
+    ∙ ap (λ time. map (λ (t : Occasion × ℕ). t.1) (timed arrival time)) (time_there (columns 11 15 line) (good_fields _ line is good).1.0)
 
 -- an intermediate location has up to three times: its arrival, its pass and its departure, in this order
 pub call_times : (line : List ℕ) (first second third : Option ℕ) → HasKind intermediate_location line
     → first ≡ scheduled_time (columns 11 15 line) → second ≡ scheduled_time (columns 21 25 line) → third ≡ scheduled_time (columns 16 20 line)
     → map (λ (time : Occasion × ℕ). time.1) (times_of line) ≡ time_list first ++ time_list second ++ time_list third
-call_times line first second third is one two three =
-    (λ i. map (λ (time : Occasion × ℕ). time.1) (times_by_kind (is i) line))
-    ∙ (λ i. map (λ (time : Occasion × ℕ). time.1) (timed arrival (sym one i) ++ timed pass (sym two i) ++ timed departure (sym three i)))
-    ∙ by first second third
-  where
-    by : (a b c : Option ℕ)
-        → map (λ (time : Occasion × ℕ). time.1) (timed arrival a ++ timed pass b ++ timed departure c) ≡ time_list a ++ time_list b ++ time_list c
-    by None None None = refl
-    by (Some a) None None = refl
-    by None (Some b) None = refl
-    by (Some a) (Some b) None = refl
-    by None None (Some c) = refl
-    by (Some a) None (Some c) = refl
-    by None (Some b) (Some c) = refl
-    by (Some a) (Some b) (Some c) = refl
+call_times = search rules
 
 -- ---- the first line
 
@@ -429,17 +364,7 @@ first_line_is line is kind fields = (first_line_iff_test line).0 (record { is = 
 pub basic_read : (line : List ℕ) (journey : JourneyState) → is_first_line line ≡ true → journey.stage ≡ Some after_basic
     → journey.deletion ≡ is_deletion line → journey.lacking ≡ may_lack line
     → journey.falls ≡ 0 → journey.last ≡ 0 → HasLines journey (line ∷ [])
-basic_read line journey first at deletion lacking falls last =
-    let none = no_times basic_schedule line ((first_line_iff_test line).1 first).kind refl in
-    let times = no_times_before line [] none in
-    record {
-      stage_is = at ∙ (λ i. cond (sym first i) (Some after_basic) None);
-      fresh = λ no_stage. let bad : Some after_basic ≡ None = sym at ∙ no_stage in cc;
-      deletion_is = deletion;
-      lacking_is = lacking;
-      falls_are = λ _. falls ∙ ap fall_count (sym times);
-      last_is = λ _. ap Some last ∙ (λ i. later_or (last_of (sym times i)) (Some 0));
-    }
+basic_read = search (rules, no_times, first_line_iff_test, no_times_before)
 
 -- ---- the next line, if a record of its kind may come next
 
@@ -459,8 +384,7 @@ pub record IsTimed (journey : JourneyState) (line : List ℕ) (first second thir
 timed_falls : (journey : JourneyState) (line : List ℕ) (first second third : Option ℕ) (more later : ℕ)
     → IsTimed journey line first second third more later
     → more ≡ journey.falls + falls_after (Some journey.last) (times_along (line ∷ []))
-timed_falls journey line first second third more later told =
-    told.falls ∙ (λ i. journey.falls + falls_after (Some journey.last) (sym (one_line line ∙ told.times) i))
+timed_falls = search (rules, one_line)
 
 -- a line with good fields is sound if and only if the schedule, with the line's times, passes midnight at most twice
 pub sound_test : (journey : JourneyState) (lines : Lines) (line : List ℕ) (first second third : Option ℕ) (more later : ℕ)
@@ -474,8 +398,7 @@ sound_test journey lines line first second third more later has kept fields told
 pub sound_by_few : (journey : JourneyState) (lines : Lines) (line : List ℕ) (first second third : Option ℕ) (more later : ℕ)
     → HasLines journey lines → journey.deletion ≡ false
     → HasGoodFields line → IsTimed journey line first second third more later → more ≤ 2 → is_sound_next lines line ≡ true
-sound_by_few journey lines line first second third more later has kept fields told few =
-    sound_test journey lines line first second third more later has kept fields told ∙ le-leb more 2 few
+sound_by_few journey lines line first second third more later has kept fields told few = sound_test _ _ _ _ _ _ _ _ has kept fields told ∙ le-leb more 2 few
 
 -- a line isn't sound if the schedule, with the line's times, passes midnight more than twice
 pub unsound_by_many : (journey : JourneyState) (lines : Lines) (line : List ℕ) (first second third : Option ℕ) (more later : ℕ)
@@ -506,5 +429,4 @@ of_ok (Err cause) holds is = absurd (false≢true is)
 pub faults_line : {A : Type 0} (answer : Result A FileCause) (journey : JourneyState) (line : List ℕ)
     → ((lines : Lines) → HasLines journey lines → IfErr answer (λ cause. IsScheduleCause lines line (cause_meant cause)))
     → IfErr answer (FaultsLine journey line)
-faults_line (Ok value) journey line all = tt
-faults_line (Err cause) journey line all = all
+faults_line = search rules

@@ -1,6 +1,6 @@
 -- Two lines are equal if and only if their five blocks of sixteen bytes are equal. A block is compared with one lane for each byte.
-use Rattle.std.proofs.Common.{◌≡◌, ℕ, ◌+◌, ◌*◌, ◌%◌, ◌^◌, ◌≤◌, nat_eq, Bool, true, false, cond, not, ◌&&◌, List}
-use Rattle.std.proofs.Common.{[], ◌∷◌, ◌++◌, map, length, take, drop, w8, refl, sym, ap, subst, ◌∙◌, arith}
+use Rattle.std.proofs.Common.{◌≡◌, ℕ, ◌+◌, ◌*◌, ◌%◌, ◌^◌, ◌≤◌, nat_eq, Bool, true, false, cond, not, ◌&&◌, List, rules}
+use Rattle.std.proofs.Common.{[], ◌∷◌, ◌++◌, map, length, take, drop, w8, refl, sym, ap, ◌∙◌, arith}
 use Rattle.std.specs.Prelude.{◌↔◌, IsTrue}
 use Rattle.std.proofs.lemmas.Bool.{eqb-true}
 use Rattle.std.proofs.lemmas.Bool.Decides.{nat_tests}
@@ -29,21 +29,12 @@ none_differs : (xs ys : List ℕ) → length xs ≡ length ys → nat_eq (mask_l
 none_differs [] [] even none = refl
 none_differs [] (y ∷ ys) even none = absurd (omega arith)
 none_differs (x ∷ xs) [] even none = absurd (omega arith)
-none_differs (x ∷ xs) (y ∷ ys) even none = by (nat_eq x y) refl none (none_differs xs ys (omega arith))
-  where
-    by : (b : Bool) → nat_eq x y ≡ b → nat_eq (cond (not b) 1 0 + 2 * mask_l (zip2 differ xs ys)) 0 ≡ true
-        → (nat_eq (mask_l (zip2 differ xs ys)) 0 ≡ true → xs ≡ ys) → x ∷ xs ≡ y ∷ ys
-    by true one told rest = let same = eqb-true x y one in let others = rest (sym (twice (mask_l (zip2 differ xs ys))) ∙ told) in λ i. same i ∷ others i
-    by false two told rest = absurd (let bad : false ≡ true = sym (one_set (mask_l (zip2 differ xs ys))) ∙ told in cc)
+none_differs (x ∷ xs) (y ∷ ys) even none = grind (arith, nat_eq, not, eqb-true, twice, one_set, (none_differs xs ys (omega arith)))
 
 -- if two lists are equal, their mask of differences is 0. This mask has a bit set for each pair of bytes that differ
 none_of_same : (xs : List ℕ) → nat_eq (mask_l (zip2 differ xs xs)) 0 ≡ true
 none_of_same [] = refl
-none_of_same (x ∷ xs) = by (nat_eq x x) (grind (arith, nat_tests)) (none_of_same xs)
-  where
-    by : (b : Bool) → b ≡ true → nat_eq (mask_l (zip2 differ xs xs)) 0 ≡ true → nat_eq (cond (not b) 1 0 + 2 * mask_l (zip2 differ xs xs)) 0 ≡ true
-    by true one rest = twice (mask_l (zip2 differ xs xs)) ∙ rest
-    by false two rest = absurd (let bad : false ≡ true = two in cc)
+none_of_same (x ∷ xs) = grind (arith, nat_eq, nat_tests, not, twice, (none_of_same xs))
 
 -- the top bits of the lanes form the mask of differences, which has a bit set for each pair of bytes that differ
 mask_of_lanes : (xs ys : List ℕ) → length xs ≡ length ys → length xs ≤ 64
@@ -54,14 +45,11 @@ mask_of_lanes xs ys even few =
 -- two lists of the same length are equal if no lane is set
 pub no_lane_differs : (xs ys : List ℕ) → length xs ≡ length ys → length xs ≤ 64
     → nat_eq (mask_l (map (top 7) (zip2 lane xs ys)) % 2 ^ 64) 0 ≡ true → xs ≡ ys
-no_lane_differs xs ys even few none =
-    none_differs xs ys even (ap (λ m. nat_eq m 0) (sym (mask_of_lanes xs ys even few)) ∙ none)
+no_lane_differs = search (rules, none_differs, nat_eq, mask_of_lanes)
 
 -- if two lists are equal, no lane is set
 pub no_lane_of_same : (xs ys : List ℕ) → length xs ≤ 64 → xs ≡ ys → nat_eq (mask_l (map (top 7) (zip2 lane xs ys)) % 2 ^ 64) 0 ≡ true
-no_lane_of_same xs ys few same =
-    subst (λ (other : List ℕ). nat_eq (mask_l (map (top 7) (zip2 lane xs other)) % 2 ^ 64) 0 ≡ true) same
-    (ap (λ m. nat_eq m 0) (mask_of_lanes xs xs refl few) ∙ none_of_same xs)
+no_lane_of_same = search (rules, nat_eq, mask_of_lanes, none_of_same)
 
 -- two lists are equal from an index on if their next sixteen bytes are equal and all bytes after these are equal
 same_rest : (xs ys : List ℕ) (at : ℕ) → take 16 (drop at xs) ≡ take 16 (drop at ys) → drop (at + 16) xs ≡ drop (at + 16) ys → drop at xs ≡ drop at ys
@@ -82,12 +70,7 @@ same_line xs ys left right first second third fourth fifth =
 
 -- if five tests joined by AND pass, each of them passes
 all_five : (a b c d e : Bool) → ((((a && b) && c) && d) && e) ≡ true → (a ≡ true) × (b ≡ true) × (c ≡ true) × (d ≡ true) × (e ≡ true)
-all_five true true true true true told = (refl, refl, refl, refl, refl)
-all_five true true true true false told = absurd (let bad : false ≡ true = told in cc)
-all_five true true true false e told = absurd (let bad : false ≡ true = told in cc)
-all_five true true false d e told = absurd (let bad : false ≡ true = told in cc)
-all_five true false c d e told = absurd (let bad : false ≡ true = told in cc)
-all_five false b c d e told = absurd (let bad : false ≡ true = told in cc)
+all_five = search rules
 
 -- Says that two lines have the same sixteen bytes from an index on.
 abbrev pub IsSameBlock : List ℕ → List ℕ → ℕ → Type 0
@@ -98,16 +81,4 @@ pub line_told : (xs ys : List ℕ) → length xs ≡ 80 → length ys ≡ 80 →
     → (IsTrue a ↔ IsSameBlock xs ys 0) → (IsTrue b ↔ IsSameBlock xs ys 16) → (IsTrue c ↔ IsSameBlock xs ys 32)
     → (IsTrue d ↔ IsSameBlock xs ys 48) → (IsTrue e ↔ IsSameBlock xs ys 64)
     → IsTrue ((((a && b) && c) && d) && e) ↔ (xs ≡ ys)
-line_told xs ys left right a b c d e first second third fourth fifth = (told, holds)
-  where
-    told : IsTrue ((((a && b) && c) && d) && e) → xs ≡ ys
-    told all =
-        let each = all_five a b c d e all in
-        same_line xs ys left right (first.0 each.0) (second.0 each.1) (third.0 each.2) (fourth.0 each.3) (fifth.0 each.4)
-
-    block : xs ≡ ys → (at : ℕ) → IsSameBlock xs ys at
-    block same at = ap (λ bytes. take 16 (drop at bytes)) same
-
-    holds : xs ≡ ys → IsTrue ((((a && b) && c) && d) && e)
-    holds same = λ i.
-        (((first.1 (block same 0) i && second.1 (block same 16) i) && third.1 (block same 32) i) && fourth.1 (block same 48) i) && fifth.1 (block same 64) i
+line_told = search (rules, all_five, same_line)

@@ -3,7 +3,6 @@ use Rattle.cif_change.proofs.JoinedLines.{after_first_record}
 use Rattle.cif_change.proofs.same.compare_lines.Goals as goal
 
 pub loop-one-preserved : goal.loop-one-preserved
-loop-one-preserved c =
-    after_first_record c.loop-one.own.now c.loop-one.other.now c.in-Some-Some.ones.now c.in-Some-Some.twos.now c.in-Some-Some.one.now c.in-Some-Some.two.now
+loop-one-preserved c = after_first_record _ _ _ _ _ _
     c.in-Some-Some.ensures.cases.0 c.in-Some-Some.ensures'.cases.0 (c.is_same_line.ensures.0 c.if-not-is_same_line.false)
     ∙ c.loop-one.invariant

@@ -6,8 +6,6 @@ pub returns : goal.returns
 returns c =
     let one = c.bytes-one.ensures.bytes in
     let two = c.bytes-two.ensures.bytes in
-    let told =
-    line_told c.bytes-one.result.now c.bytes-two.result.now (omega arith) (omega arith) c.is_same_block.result c.is_same_block-2.result
-    c.is_same_block-3.result c.is_same_block-4.result c.is_same_block-5.result c.is_same_block.ensures c.is_same_block-2.ensures
+    let told = line_told _ _ (omega arith) (omega arith) _ _ _ _ _ c.is_same_block.ensures c.is_same_block-2.ensures
     c.is_same_block-3.ensures c.is_same_block-4.ensures c.is_same_block-5.ensures in
     (λ all. sym one ∙ told.0 all ∙ two, λ same. told.1 (one ∙ same ∙ sym two))

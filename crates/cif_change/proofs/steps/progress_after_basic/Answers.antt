@@ -1,10 +1,7 @@
 -- After a basic schedule, the reader remembers the stage, whether the schedule is a deletion, and whether it may end without a journey. It remembers no time
 -- yet.
-use Rattle.std.proofs.Common.{◌≡◌, refl, ap, sym, ◌∙◌, Bool, Some}
-use Rattle.std.specs.Prelude.{◌||◌, ◌==◌}
-use Rattle.docker_model.specs.records.Record.{column}
-use Rattle.docker_model.specs.records.Field.{is_deletion}
-use Rattle.cif_laws.specs.ScheduleStage.{after_basic}
+use Rattle.std.proofs.Common.{◌≡◌, refl, ap, sym, ◌∙◌, Bool}
+use Rattle.std.specs.Prelude.{◌||◌}
 use Rattle.cif_change.proofs.JourneyLemmas.{basic_read}
 use Rattle.cif_change.proofs.steps.progress_after_basic.Goals as goal
 use Rattle.cif_change.proofs.steps.progress_after_basic.Goals.{then-deletion, else-deletion}
@@ -14,18 +11,8 @@ either_of : (deletion cancellation lacking : Bool) (one two : Bool) → deletion
 either_of deletion cancellation lacking one two first second told = told ∙ (λ i. first i || second i)
 
 pub returns : goal.returns
-returns c =
-    basic_read c.args.view.now (record {
-      stage = Some after_basic;
-      deletion = c.is_deletion-deletion.result;
-      lacking = c.if-deletion.result;
-      falls = c.new.result.falls;
-      last = c.new.result.last;
-    }) c.requires refl c.is_deletion-deletion.ensures
-    (either_of c.is_deletion-deletion.result c.is_cancellation-cancellation.result c.if-deletion.result (is_deletion c.args.view.now)
-    (column 80 c.args.view.now == 67)
+returns c = basic_read _ _ c.requires refl c.is_deletion-deletion.ensures (either_of _ _ _ _ _
     c.is_deletion-deletion.ensures c.is_cancellation-cancellation.ensures (elim c.if-deletion.branch [
       | then-deletion w ↦ w.result-is ∙ w.if-deletion.true ∙ (λ i. sym w.if-deletion.true i || c.is_cancellation-cancellation.result)
       | else-deletion w ↦ w.result-is ∙ (λ i. sym w.if-deletion.false i || c.is_cancellation-cancellation.result)
-    ]))
-    (ap (λ clock. clock.falls) c.new.ensures) (ap (λ clock. clock.last) c.new.ensures)
+    ])) (ap (λ clock. clock.falls) c.new.ensures) (ap (λ clock. clock.last) c.new.ensures)

@@ -5,5 +5,4 @@ use Rattle.cif_change.proofs.JourneyLemmas.{of_ok}
 use Rattle.cif_change.proofs.journey.Journey.line.Goals as goal
 
 pub returns-clause-read : goal.returns-clause-read
-returns-clause-read c = λ lines has is.
-    of_ok c.take.result c.take.ensures.read is lines (subst (λ journey. HasLines journey lines) (sym c.self.view_is) has)
+returns-clause-read c = λ lines has is. of_ok _ c.take.ensures.read is lines (subst (λ journey. HasLines journey lines) (sym c.self.view_is) has)

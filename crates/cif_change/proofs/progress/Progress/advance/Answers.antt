@@ -4,7 +4,6 @@ use Rattle.std.specs.Prelude.{option_map}
 use Rattle.std.proofs.lemmas.Bool.{false≢true}
 use Rattle.docker_model.specs.records.Record.{kind_of}
 use Rattle.cif_laws.specs.RecordCause.{field_cause, first_line_cause}
-use Rattle.cif_line.specs.Kind.{meaning}
 use Rattle.cif_change.specs.JourneyRead.{progress_meant, stage_then, stage_meant}
 use Rattle.cif_change.proofs.JourneyLemmas.{judged_ok, judged_err, iff_along, first_test, next_test, next_cause, cause_by, out_of_place, faults_line}
 use Rattle.cif_change.proofs.progress.Progress.advance.Goals as goal
@@ -21,16 +20,13 @@ returns-in_default-clause-err c = faults_line c.begin.result (progress_meant c.a
     (λ i. cause_by (sym (ap (option_map stage_meant) c.in_default.is) i) c.args.line.now) c.begin.ensures.err
 
 pub returns-in-None-clause-err : goal.returns-in-None-clause-err
-returns-in-None-clause-err c = λ lines has.
-    out_of_place (progress_meant c.args.self.now) lines c.args.line.now (stage_meant c.in-Some.stage) (meaning c.args.kind) has c.requires.«record»
+returns-in-None-clause-err c = λ lines has. out_of_place _ _ _ _ _ has c.requires.«record»
     (ap (option_map stage_meant) c.in-Some.is) c.requires.kind (sym c.in-None.ensures.stage)
 
 pub returns-in-None-clause-ok : goal.returns-in-None-clause-ok
 returns-in-None-clause-ok c = λ lines has. (
   λ bad. absurd (false≢true bad),
-  λ begins.
-      absurd
-      ((out_of_place (progress_meant c.args.self.now) lines c.args.line.now (stage_meant c.in-Some.stage) (meaning c.args.kind) has c.requires.«record»
+  λ begins. absurd ((out_of_place _ _ _ _ _ has c.requires.«record»
       (ap (option_map stage_meant) c.in-Some.is) c.requires.kind (sym c.in-None.ensures.stage)).here begins),
 )
 

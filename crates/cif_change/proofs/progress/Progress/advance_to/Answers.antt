@@ -3,13 +3,12 @@
 use Rattle.std.proofs.Common.{ap, ◌∙◌, refl}
 use Rattle.std.proofs.lemmas.Bool.{false≢true}
 use Rattle.cif_line.specs.CallRead.{number_meant}
-use Rattle.cif_change.specs.JourneyRead.{progress_meant, stage_then, stage_meant}
+use Rattle.cif_change.specs.JourneyRead.{progress_meant, stage_then}
 use Rattle.cif_change.proofs.JourneyLemmas.{deletion_read, sound_by_few, unsound_by_many, sound_read}
 use Rattle.cif_change.proofs.progress.Progress.advance_to.Goals as goal
 
 pub returns-then-self-clause-read : goal.returns-then-self-clause-read
-returns-then-self-clause-read c = λ lines has.
-    deletion_read (progress_meant c.args.self.now) lines c.args.line.now (stage_meant c.args.next) has c.requires.«record»
+returns-then-self-clause-read c = λ lines has. deletion_read _ _ _ _ has c.requires.«record»
     (ap (stage_then (progress_meant c.args.self.now).stage) c.requires.kind ∙ c.requires.stage) c.if-self.true
 
 pub returns-then-clock-gt-MOST_MIDNIGHTS-clause-ok : goal.returns-then-clock-gt-MOST_MIDNIGHTS-clause-ok
@@ -37,12 +36,7 @@ returns-clause-ok c = λ lines has. (
 )
 
 pub returns-clause-read : goal.returns-clause-read
-returns-clause-read c = λ lines has.
-    sound_read (progress_meant c.args.self.now) lines c.args.line.now
-    (stage_meant c.args.next)
-    (number_meant c.in_ok-times.times.first) (number_meant c.in_ok-times.times.second) (number_meant c.in_ok-times.times.third)
-    c.past-clock.result.falls
-    c.past-clock.result.last has
+returns-clause-read c = λ lines has. sound_read _ _ _ _ _ _ _ _ _ has
     c.requires.«record» (ap (stage_then (progress_meant c.args.self.now).stage) c.requires.kind ∙ c.requires.stage) c.if-self.false
     (c.in_ok-times.ensures.ok.0 refl)
     (record { times = c.in_ok-times.ensures.value; falls = c.past-clock.ensures.falls; last = c.past-clock.ensures.last }) c.if-clock-gt-MOST_MIDNIGHTS.false

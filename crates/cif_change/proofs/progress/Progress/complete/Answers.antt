@@ -2,11 +2,10 @@
 -- after them.
 use Rattle.std.proofs.Common.{ap, sym, ◌∙◌}
 use Rattle.std.specs.Prelude.{option_map}
-use Rattle.cif_change.specs.JourneyRead.{stage_meant, may_end_by, progress_meant}
+use Rattle.cif_change.specs.JourneyRead.{stage_meant, may_end_by}
 use Rattle.cif_change.proofs.JourneyLemmas.{complete_by}
 use Rattle.cif_change.proofs.progress.Progress.complete.Goals as goal
 
 pub returns-in-Some : goal.returns-in-Some
-returns-in-Some c = λ lines has.
-    complete_by (progress_meant c.args.self) lines c.may_end.result
+returns-in-Some c = λ lines has. complete_by _ _ _
     (c.may_end.ensures ∙ ap (λ stage. may_end_by (option_map stage_meant stage) c.args.self.lacking) (sym c.in-Some.is)) has

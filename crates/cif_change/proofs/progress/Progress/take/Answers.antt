@@ -3,18 +3,14 @@ use Rattle.std.proofs.Common.{ap, sym, ◌∙◌}
 use Rattle.std.specs.Prelude.{option_map}
 use Rattle.std.proofs.lemmas.Bool.{false≢true}
 use Rattle.cif_line.specs.Kind.{meaning}
-use Rattle.cif_change.specs.JourneyRead.{progress_meant}
 use Rattle.cif_change.proofs.JourneyLemmas.{unknown_kind}
 use Rattle.cif_change.proofs.progress.Progress.take.Goals as goal
 
 pub returns-in-None-clause-err : goal.returns-in-None-clause-err
-returns-in-None-clause-err c =
-    λ lines has. unknown_kind (progress_meant c.args.self.now) lines c.args.line.now has c.bytes-record.ensures.«record»
-    (sym c.kind.ensures ∙ ap (option_map meaning) c.in-None.is)
+returns-in-None-clause-err c = λ lines has. unknown_kind _ _ _ has c.bytes-record.ensures.«record» (sym c.kind.ensures ∙ ap (option_map meaning) c.in-None.is)
 
 pub returns-in-None-clause-ok : goal.returns-in-None-clause-ok
 returns-in-None-clause-ok c = λ lines has. (
   λ bad. absurd (false≢true bad),
-  λ begins. absurd ((unknown_kind (progress_meant c.args.self.now) lines c.args.line.now has c.bytes-record.ensures.«record»
-      (sym c.kind.ensures ∙ ap (option_map meaning) c.in-None.is)).here begins),
+  λ begins. absurd ((unknown_kind _ _ _ has c.bytes-record.ensures.«record» (sym c.kind.ensures ∙ ap (option_map meaning) c.in-None.is)).here begins),
 )
