@@ -1,13 +1,14 @@
 -- The five times of an intermediate location, each read in its own lane of a vector. The lemmas
 -- show that each lane tests and reads its field as the definitions say.
-use Rattle.std.proofs.Common.{◌≡◌, ℕ, zero, suc, ◌+◌, ◌-◌, ◌*◌, ◌%◌, ◌^◌, ◌<◌, ◌≤◌, nat_eq, nat_lt, Bool, true, false, cond, ◌&&◌, List}
+use Rattle.std.proofs.Common.{◌≡◌, ℕ, zero, suc, ◌+◌, ◌-◌, ◌*◌, ◌%◌, ◌^◌, ◌<◌, ◌≤◌, nat_eq, nat_lt, Bool, true, false, cond, ◌&&◌, List, rules}
+use Rattle.std.proofs.lemmas.Grind.{common_steps}
 use Rattle.std.proofs.Common.{[], ◌∷◌, ◌++◌, length, get_or, bit_and, bit_or, Fits, w8, refl, sym, ap, subst, ◌∙◌, arith}
 use Rattle.std.specs.Prelude.{◌==◌, ◌||◌, nat_le}
 use Rattle.std.specs.Char.{is_ascii_digit}
 use Rattle.std.proofs.lemmas.Bool.{agree_below_at, leb-true, ltb-true}
 use lib.Lanes.{chunk, top, mask_l}
 use Rattle.docker_model.specs.records.Record.{columns}
-use Rattle.docker_model.specs.records.Clock.{is_clock, is_present_time, is_scheduled_time, is_public_time, half_minutes}
+use Rattle.docker_model.specs.records.Clock.{is_present_time, is_scheduled_time, is_public_time, half_minutes}
 use Rattle.cif_laws.proofs.lists.BoolsAndOptions.{both}
 use Rattle.cif_line.specs.CallRead.{half_minutes_or_none}
 
@@ -18,20 +19,13 @@ abbrev mask : Bool → ℕ
 mask b = cond b 65535 0
 
 masks_and : (p q : Bool) → bit_and (mask p) (mask q) ≡ mask (p && q)
-masks_and true true = refl
-masks_and true false = refl
-masks_and false true = refl
-masks_and false false = refl
+masks_and = search rules
 
 masks_or : (p q : Bool) → bit_or (mask p) (mask q) ≡ mask (p || q)
-masks_or true true = refl
-masks_or true false = refl
-masks_or false true = refl
-masks_or false false = refl
+masks_or = search rules
 
 mask_set : (p : Bool) → top 15 (mask p) ≡ p
-mask_set true = refl
-mask_set false = refl
+mask_set = search rules
 
 -- ---- one lane, from its five bytes
 
@@ -61,19 +55,11 @@ space_mask e public = bit_or (mask (e == 32)) (mask public)
 
 -- a lane of a scheduled time ends in a space if and only if its last byte is a space
 scheduled_end : (e : ℕ) → space_mask e false ≡ mask (e == 32)
-scheduled_end e = by (e == 32)
-  where
-    by : (p : Bool) → bit_or (mask p) (mask false) ≡ mask p
-    by true = refl
-    by false = refl
+scheduled_end = search (rules, bit_or)
 
 -- each lane of a public time counts as one that ends in a space
 public_end : (e : ℕ) → space_mask e true ≡ mask true
-public_end e = by (e == 32)
-  where
-    by : (p : Bool) → bit_or (mask p) (mask true) ≡ mask true
-    by true = refl
-    by false = refl
+public_end = search (rules, bit_or)
 
 -- the test whether four bytes and an end are a time, as a mask: the bitwise AND of the masks of the
 -- individual tests
@@ -99,39 +85,19 @@ abbrev lane_half_minutes : ℕ → ℕ → ℕ → ℕ → ℕ → ℕ
 lane_half_minutes a b c d e = (((spells a b * 120) % 65536 + (spells c d * 2) % 65536) % 65536 + cond (top 15 (mask (e == 72))) 1 0) % 65536
 
 five_and : (p q r s t : Bool) → bit_and (bit_and (bit_and (bit_and (mask p) (mask q)) (mask r)) (mask s)) (mask t) ≡ mask ((((p && q) && r) && s) && t)
-five_and p q r s t =
-    (λ i. bit_and (bit_and (bit_and (masks_and p q i) (mask r)) (mask s)) (mask t))
-    ∙ (λ i. bit_and (bit_and (masks_and (p && q) r i) (mask s)) (mask t))
-    ∙ (λ i. bit_and (masks_and ((p && q) && r) s i) (mask t))
-    ∙ masks_and (((p && q) && r) && s) t
+five_and = search (rules, bit_and, masks_and)
 
 time_masked : (a b c d : ℕ) (half space : Bool) → time_mask a b c d (mask half) (mask space) ≡ mask (time_test a b c d half space)
-time_masked a b c d half space =
-    (λ i. bit_and
-    (bit_and
-    (five_and (nat_le (above a) 9) (nat_le (above b) 9) (nat_le (above c) 9) (nat_le (above d) 9) (nat_lt (spells a b) 24) i)
-    (mask (nat_lt (spells c d) 60)))
-    (masks_or half space i))
-    ∙ (λ i. bit_and
-    (masks_and ((((nat_le (above a) 9 && nat_le (above b) 9) && nat_le (above c) 9) && nat_le (above d) 9) && nat_lt (spells a b) 24)
-    (nat_lt (spells c d) 60) i)
-    (mask (half || space)))
-    ∙ masks_and
-    (((((nat_le (above a) 9 && nat_le (above b) 9) && nat_le (above c) 9) && nat_le (above d) 9) && nat_lt (spells a b) 24) && nat_lt (spells c d) 60)
-    (half || space)
+time_masked = search (rules, bit_and, five_and, nat_lt, masks_or, masks_and)
 
 blank_masked : (a b c d : ℕ) (space : Bool) → blank_mask a b c d (mask space) ≡ mask (blank_test a b c d space)
-blank_masked a b c d space =
-    five_and (nat_eq (above a) 65520) (nat_eq (above b) 65520) (nat_eq (above c) 65520) (nat_eq (above d) 65520) space
+blank_masked = search (rules, five_and, nat_eq)
 
 -- the top bit of a lane is set if and only if one of the lane's two tests passes
 lane_set : (a b c d : ℕ) (half space : Bool)
     → top 15 (bit_or (time_mask a b c d (mask half) (mask space)) (blank_mask a b c d (mask space)))
     ≡ (time_test a b c d half space || blank_test a b c d space)
-lane_set a b c d half space =
-    (λ i. top 15 (bit_or (time_masked a b c d half space i) (blank_masked a b c d space i)))
-    ∙ ap (top 15) (masks_or (time_test a b c d half space) (blank_test a b c d space))
-    ∙ mask_set (time_test a b c d half space || blank_test a b c d space)
+lane_set = search (rules, bit_or, time_masked, blank_masked, masks_or, mask_set)
 
 -- ---- the tests of a lane equal the tests in the definitions
 
@@ -152,122 +118,55 @@ above_is b is = omega (arith, digit_low b is, digit_high b is)
 
 -- the number that two digits spell is ten times the first digit plus the second
 spells_is : (a b : ℕ) → is_ascii_digit a ≡ true → is_ascii_digit b ≡ true → spells a b ≡ 10 * (a - 48) + (b - 48)
-spells_is a b ha hb =
-    (λ i. ((above_is a ha i * 10) % 65536 + above_is b hb i) % 65536)
-    ∙ omega (arith, digit_low a ha, digit_high a ha, digit_low b hb, digit_high b hb)
+spells_is = search (rules, above_is, digit_low, digit_high)
 
 -- a lane combines the tests of a time with AND in a different order from the definition, but the
 -- result is the same. If both bytes of the hour are digits, the lane's test of the hour has to
 -- equal the definition's test. Otherwise it may differ. The same is true of the minute
 in_order : (a b c d h m : Bool) (x y z : Bool) → (a ≡ true → b ≡ true → h ≡ x) → (c ≡ true → d ≡ true → m ≡ y)
     → ((((((a && b) && c) && d) && h) && m) && z) ≡ ((((a && (b && (c && (d && true)))) && x) && y) && z)
-in_order true true true true h m x y z hour minute = λ i. (hour refl refl i && minute refl refl i) && z
-in_order true true true false h m x y z hour minute = refl
-in_order true true false d h m x y z hour minute = refl
-in_order true false c d h m x y z hour minute = refl
-in_order false b c d h m x y z hour minute = refl
+in_order = search rules
 
 module _ (a b c d e : ℕ) (la : a < 256) (lb : b < 256) (lc : c < 256) (ld : d < 256) (le : e < 256) where
   time_is : time_test a b c d (e == 72) (e == 32) ≡ is_present_time (a ∷ b ∷ c ∷ d ∷ e ∷ [])
-  time_is =
-      (λ i. (((((digit_test a la i && digit_test b lb i) && digit_test c lc i) && digit_test d ld i) && nat_lt (spells a b) 24)
-      && nat_lt (spells c d) 60)
-      && ((e == 72) || (e == 32)))
-      ∙ in_order (is_ascii_digit a) (is_ascii_digit b) (is_ascii_digit c) (is_ascii_digit d) (nat_lt (spells a b) 24) (nat_lt (spells c d) 60)
-      (nat_lt (10 * (a - 48) + (b - 48)) 24) (nat_lt (10 * (c - 48) + (d - 48)) 60) ((e == 72) || (e == 32))
-      (λ ha hb i. nat_lt (spells_is a b ha hb i) 24) (λ hc hd i. nat_lt (spells_is c d hc hd i) 60)
+  time_is = search (rules, digit_test, nat_lt, in_order, spells_is)
 
   regrouped : (p q r s t : Bool) → ((((p && q) && r) && s) && t) ≡ (p && (q && (r && (s && (t && true)))))
-  regrouped true true true true true = refl
-  regrouped true true true true false = refl
-  regrouped true true true false t = refl
-  regrouped true true false s t = refl
-  regrouped true false r s t = refl
-  regrouped false q r s t = refl
+  regrouped = search rules
 
   or_swapped : (p q : Bool) → (p || q) ≡ (q || p)
-  or_swapped true true = refl
-  or_swapped true false = refl
-  or_swapped false true = refl
-  or_swapped false false = refl
+  or_swapped = search rules
 
   -- one of a lane's two tests passes if and only if the lane's field is blank or a time
   pub tests_good : (time_test a b c d (e == 72) (e == 32) || blank_test a b c d (e == 32)) ≡ is_scheduled_time (a ∷ b ∷ c ∷ d ∷ e ∷ [])
-  tests_good =
-      (λ i. time_is i
-      || ((((space_test a la i && space_test b lb i) && space_test c lc i) && space_test d ld i) && (e == 32)))
-      ∙ (λ i. is_present_time (a ∷ b ∷ c ∷ d ∷ e ∷ []) || regrouped (a == 32) (b == 32) (c == 32) (d == 32) (e == 32) i)
-      ∙ or_swapped (is_present_time (a ∷ b ∷ c ∷ d ∷ e ∷ [])) _
+  tests_good = search (rules, time_is, space_test, regrouped, or_swapped)
 
   -- the top bit of a lane is set if and only if the lane's field is blank or a time
   pub lane_good :
       top 15 (bit_or (time_mask a b c d (mask (e == 72)) (space_mask e false)) (blank_mask a b c d (space_mask e false)))
       ≡ is_scheduled_time (a ∷ b ∷ c ∷ d ∷ e ∷ [])
-  lane_good =
-      (λ i. top 15 (bit_or (time_mask a b c d (mask (e == 72)) (scheduled_end e i)) (blank_mask a b c d (scheduled_end e i))))
-      ∙ lane_set a b c d (e == 72) (e == 32)
-      ∙ tests_good
+  lane_good = search (rules, bit_or, scheduled_end, lane_set, tests_good)
 
   digits_of : is_present_time (a ∷ b ∷ c ∷ d ∷ e ∷ []) ≡ true
       → (is_ascii_digit a ≡ true) × (is_ascii_digit b ≡ true) × (is_ascii_digit c ≡ true) × (is_ascii_digit d ≡ true)
       × (nat_lt (10 * (a - 48) + (b - 48)) 24 ≡ true) × (nat_lt (10 * (c - 48) + (d - 48)) 60 ≡ true)
-  digits_of is =
-      let one = both _ ((e == 72) || (e == 32)) is in
-      let two = both _ (nat_lt (10 * (c - 48) + (d - 48)) 60) one.0 in
-      let three = both _ (nat_lt (10 * (a - 48) + (b - 48)) 24) two.0 in
-      let four = both (is_ascii_digit a) _ three.0 in
-      let five = both (is_ascii_digit b) _ four.1 in
-      let six = both (is_ascii_digit c) _ five.1 in
-      let seven = both (is_ascii_digit d) _ six.1 in
-      (four.0, five.0, six.0, seven.0, three.1, two.1)
+  digits_of = search (rules, both, nat_lt)
 
   half_of : (half : Bool) → ◌≡◌ {A = ℕ} (cond (top 15 (mask half)) 1 0) (cond half 1 0)
   half_of half = λ i. cond (mask_set half i) 1 0
 
   value_is : is_present_time (a ∷ b ∷ c ∷ d ∷ e ∷ []) ≡ true → lane_half_minutes a b c d e ≡ half_minutes (a ∷ b ∷ c ∷ d ∷ e ∷ [])
-  value_is is =
-      let digits = digits_of is in
-      (λ i. (((spells_is a b digits.0 digits.1 i * 120) % 65536 + (spells_is c d digits.2 digits.3 i * 2) % 65536) % 65536
-      + half_of (e == 72) i) % 65536)
-      ∙ summed (10 * (a - 48) + (b - 48)) (10 * (c - 48) + (d - 48)) (e == 72)
-      (ltb-true (10 * (a - 48) + (b - 48)) 24 digits.4) (ltb-true (10 * (c - 48) + (d - 48)) 60 digits.5)
-    where
-      summed : (hour minute : ℕ) (half : Bool) → hour < 24 → minute < 60
-          → (((hour * 120) % 65536 + (minute * 2) % 65536) % 65536 + cond half 1 0) % 65536 ≡ 2 * (60 * hour + minute) + cond half 1 0
-      summed hour minute true lh lm = omega arith
-      summed hour minute false lh lm = omega arith
+  value_is = search (rules, digits_of, spells_is, half_of, ltb-true)
 
   -- a lane computes the half minutes of its field, or 65535 if the field has no time
   pub lane_told :
       cond (top 15 (time_mask a b c d (mask (e == 72)) (space_mask e false))) (lane_half_minutes a b c d e) 65535
       ≡ half_minutes_or_none (a ∷ b ∷ c ∷ d ∷ e ∷ [])
-  lane_told =
-      (λ i. cond (top 15 (time_mask a b c d (mask (e == 72)) (scheduled_end e i))) (lane_half_minutes a b c d e) 65535)
-      ∙ (λ i. cond ((ap (top 15) (time_masked a b c d (e == 72) (e == 32)) ∙ mask_set (time_test a b c d (e == 72) (e == 32)) ∙ time_is) i)
-      (lane_half_minutes a b c d e) 65535)
-      ∙ by (is_present_time (a ∷ b ∷ c ∷ d ∷ e ∷ [])) refl
-    where
-      by : (present : Bool) → is_present_time (a ∷ b ∷ c ∷ d ∷ e ∷ []) ≡ present
-          → cond (is_present_time (a ∷ b ∷ c ∷ d ∷ e ∷ [])) (lane_half_minutes a b c d e) 65535 ≡ half_minutes_or_none (a ∷ b ∷ c ∷ d ∷ e ∷ [])
-      by true is = (λ i. cond (is_present_time (a ∷ b ∷ c ∷ d ∷ e ∷ [])) (value_is is i) 65535)
-      by false is = (λ i. cond (is i) (lane_half_minutes a b c d e) 65535) ∙ (λ i. cond (sym is i) (half_minutes (a ∷ b ∷ c ∷ d ∷ e ∷ [])) 65535)
+  lane_told = grind (common_steps, arith, scheduled_end, time_masked, mask_set, time_is, value_is)
 
--- a field is a public time, HHMM or blank, if and only if the field followed by a space is a
 -- scheduled time or blank
 public_lane : (a b c d : ℕ) → is_scheduled_time (a ∷ b ∷ c ∷ d ∷ 32 ∷ []) ≡ is_public_time (a ∷ b ∷ c ∷ d ∷ [])
-public_lane a b c d = by (a == 32) (b == 32) (c == 32) (d == 32) (is_clock (a ∷ b ∷ c ∷ d ∷ []))
-  where
-    by : (p q r s clock : Bool)
-        → ((p && (q && (r && (s && (true && true))))) || (clock && true)) ≡ ((p && (q && (r && (s && true)))) || clock)
-    by true true true true clock = refl
-    by true true true false true = refl
-    by true true true false false = refl
-    by true true false s true = refl
-    by true true false s false = refl
-    by true false r s true = refl
-    by true false r s false = refl
-    by false q r s true = refl
-    by false q r s false = refl
+public_lane = search rules
 
 -- the top bit of the lane of a public time is set if and only if the field is blank or a time. The
 -- last byte, which is a byte of another field, doesn't matter
@@ -290,38 +189,7 @@ public_good a b c d e la lb lc ld =
 -- the top bits of all eight lanes are set if and only if the five tests pass, since the last three
 -- lanes repeat the first lane
 pub eight : (a d p m n : Bool) → nat_eq (mask_l (a ∷ d ∷ p ∷ m ∷ n ∷ a ∷ a ∷ a ∷ []) % 2 ^ 64) 255 ≡ ((((a && d) && p) && m) && n)
-eight true true true true true = refl
-eight true true true true false = refl
-eight true true true false true = refl
-eight true true true false false = refl
-eight true true false true true = refl
-eight true true false true false = refl
-eight true true false false true = refl
-eight true true false false false = refl
-eight true false true true true = refl
-eight true false true true false = refl
-eight true false true false true = refl
-eight true false true false false = refl
-eight true false false true true = refl
-eight true false false true false = refl
-eight true false false false true = refl
-eight true false false false false = refl
-eight false true true true true = refl
-eight false true true true false = refl
-eight false true true false true = refl
-eight false true true false false = refl
-eight false true false true true = refl
-eight false true false true false = refl
-eight false true false false true = refl
-eight false true false false false = refl
-eight false false true true true = refl
-eight false false true true false = refl
-eight false false true false true = refl
-eight false false true false false = refl
-eight false false false true true = refl
-eight false false false true false = refl
-eight false false false false true = refl
-eight false false false false false = refl
+eight = search rules
 
 -- ---- the lanes of a line
 
@@ -387,43 +255,35 @@ module _ (line : List ℕ) (size : length line ≡ 80) (bytes : AreBytes line) w
   in_cells = subst AreBytes (sym (cells_are 80 line size)) bytes
 
   pub arrival_told : tells line 10 11 12 13 14 ≡ half_minutes_or_none (columns 11 15 line)
-  arrival_told =
-      subst (λ l. tells l 10 11 12 13 14 ≡ half_minutes_or_none (columns 11 15 l)) (cells_are 80 line size)
+  arrival_told = subst (λ l. tells l 10 11 12 13 14 ≡ half_minutes_or_none (columns 11 15 l)) (cells_are _ _ size)
       (lane_told _ _ _ _ _ (in_cells 10).fits (in_cells 11).fits (in_cells 12).fits (in_cells 13).fits (in_cells 14).fits)
 
   pub departure_told : tells line 15 16 17 18 19 ≡ half_minutes_or_none (columns 16 20 line)
-  departure_told =
-      subst (λ l. tells l 15 16 17 18 19 ≡ half_minutes_or_none (columns 16 20 l)) (cells_are 80 line size)
+  departure_told = subst (λ l. tells l 15 16 17 18 19 ≡ half_minutes_or_none (columns 16 20 l)) (cells_are _ _ size)
       (lane_told _ _ _ _ _ (in_cells 15).fits (in_cells 16).fits (in_cells 17).fits (in_cells 18).fits (in_cells 19).fits)
 
   pub pass_told : tells line 20 21 22 23 24 ≡ half_minutes_or_none (columns 21 25 line)
-  pass_told =
-      subst (λ l. tells l 20 21 22 23 24 ≡ half_minutes_or_none (columns 21 25 l)) (cells_are 80 line size)
+  pass_told = subst (λ l. tells l 20 21 22 23 24 ≡ half_minutes_or_none (columns 21 25 l)) (cells_are _ _ size)
       (lane_told _ _ _ _ _ (in_cells 20).fits (in_cells 21).fits (in_cells 22).fits (in_cells 23).fits (in_cells 24).fits)
 
   arrival_good : set_lane line 10 11 12 13 14 ≡ is_scheduled_time (columns 11 15 line)
-  arrival_good =
-      subst (λ l. set_lane l 10 11 12 13 14 ≡ is_scheduled_time (columns 11 15 l)) (cells_are 80 line size)
+  arrival_good = subst (λ l. set_lane l 10 11 12 13 14 ≡ is_scheduled_time (columns 11 15 l)) (cells_are _ _ size)
       (lane_good _ _ _ _ _ (in_cells 10).fits (in_cells 11).fits (in_cells 12).fits (in_cells 13).fits (in_cells 14).fits)
 
   departure_good : set_lane line 15 16 17 18 19 ≡ is_scheduled_time (columns 16 20 line)
-  departure_good =
-      subst (λ l. set_lane l 15 16 17 18 19 ≡ is_scheduled_time (columns 16 20 l)) (cells_are 80 line size)
+  departure_good = subst (λ l. set_lane l 15 16 17 18 19 ≡ is_scheduled_time (columns 16 20 l)) (cells_are _ _ size)
       (lane_good _ _ _ _ _ (in_cells 15).fits (in_cells 16).fits (in_cells 17).fits (in_cells 18).fits (in_cells 19).fits)
 
   pass_good : set_lane line 20 21 22 23 24 ≡ is_scheduled_time (columns 21 25 line)
-  pass_good =
-      subst (λ l. set_lane l 20 21 22 23 24 ≡ is_scheduled_time (columns 21 25 l)) (cells_are 80 line size)
+  pass_good = subst (λ l. set_lane l 20 21 22 23 24 ≡ is_scheduled_time (columns 21 25 l)) (cells_are _ _ size)
       (lane_good _ _ _ _ _ (in_cells 20).fits (in_cells 21).fits (in_cells 22).fits (in_cells 23).fits (in_cells 24).fits)
 
   public_arrival_good : arrival_lane line ≡ is_public_time (columns 26 29 line)
-  public_arrival_good =
-      subst (λ l. arrival_lane l ≡ is_public_time (columns 26 29 l)) (cells_are 80 line size)
+  public_arrival_good = subst (λ l. arrival_lane l ≡ is_public_time (columns 26 29 l)) (cells_are 80 _ size)
       (public_good _ _ _ _ (get_or (cells 80 line) 14 0) (in_cells 25).fits (in_cells 26).fits (in_cells 27).fits (in_cells 28).fits)
 
   public_departure_good : departure_lane line ≡ is_public_time (columns 30 33 line)
-  public_departure_good =
-      subst (λ l. departure_lane l ≡ is_public_time (columns 30 33 l)) (cells_are 80 line size)
+  public_departure_good = subst (λ l. departure_lane l ≡ is_public_time (columns 30 33 l)) (cells_are 80 _ size)
       (public_good _ _ _ _ (get_or (cells 80 line) 14 0) (in_cells 29).fits (in_cells 30).fits (in_cells 31).fits (in_cells 32).fits)
 
   -- all eight lanes are set if and only if the five time fields are good
@@ -437,7 +297,4 @@ module _ (line : List ℕ) (size : length line ≡ 80) (bytes : AreBytes line) w
       ≡ ((((is_scheduled_time (columns 11 15 line) && is_scheduled_time (columns 16 20 line)) && is_scheduled_time (columns 21 25 line))
       && is_public_time (columns 26 29 line))
       && is_public_time (columns 30 33 line))
-  all_set =
-      eight (set_lane line 10 11 12 13 14) (set_lane line 15 16 17 18 19) (set_lane line 20 21 22 23 24) (arrival_lane line)
-      (departure_lane line)
-      ∙ (λ i. (((arrival_good i && departure_good i) && pass_good i) && public_arrival_good i) && public_departure_good i)
+  all_set = search (rules, eight, arrival_good, departure_good, pass_good, public_arrival_good, public_departure_good)

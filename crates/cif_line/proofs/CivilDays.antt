@@ -1,5 +1,5 @@
 -- Each day number up to the last is the number of exactly one day of the calendar.
-use Rattle.std.proofs.Common.{◌≡◌, ℕ, ℤ, zero, suc, ◌+◌, ◌<◌, ◌≤◌, ◌⊎◌, refl, subst, pos, negsuc, ◌+ℤ◌, ◌<ℤ◌, arith, inl, inr}
+use Rattle.std.proofs.Common.{◌≡◌, ℕ, ℤ, zero, suc, ◌+◌, ◌<◌, ◌≤◌, ◌⊎◌, refl, subst, pos, negsuc, ◌+ℤ◌, arith, inl, inr, rules}
 use Rattle.std.specs.Prelude.{unsigned_abs}
 use Rattle.std.proofs.lemmas.Bool.{cases_order}
 use Rattle.std.proofs.lemmas.Int.{by_lt_z}
@@ -34,57 +34,41 @@ end_of_2059 = refl
 
 -- the number of days from 1 January 1960 to a date is the date's day number
 pub number_is : (number year month day : ℕ) → IsDayOf number year month day → day_number year month day ≡ number
-number_is number year month day h =
-    let there = day_number-day_count year month day h.low (omega (arith, h.high)) h.is_civil.1.0 h.is_civil.2.0 in
-    omega (arith, h.count)
+number_is = search (rules, day_number-day_count)
 
 -- the day number of a date is printed like the date
 pub text_is : (number year month day : ℕ) → IsDayOf number year month day → day_text number ≡ date_text year month day
-text_is number year month day h =
-    subst (λ n. day_text n ≡ date_text year month day) (number_is number year month day h) (day_text-day_number year month day h.low h.high h.is_civil)
+text_is number year month day h = subst (λ n. day_text n ≡ date_text year month day) (number_is _ _ _ _ h) (day_text-day_number _ _ _ h.low h.high h.is_civil)
 
 -- if the day count of a date isn't below the count of 1 January 1960 or above the count of 31
 -- December 2059, the year is from 1960 to 2059
 years_between : (year : ℤ) (month day : ℕ) → IsCivilDate year month day → 4_368_300 ≤ day_count year month day → day_count year month day ≤ 4_404_824
     → IsBetween (pos 1960) (pos 2059) year
-years_between year month day is_civil low high =
-    let last_is : IsCivilDate (pos 2059) 12 31 = (omega (arith, signed_arith), (omega arith, omega arith), (omega arith, omega arith)) in
-    let first : (year <ℤ pos 1960) → ⊥ =
-    λ lt. absurd (omega (arith, start_of_1960, day_count-lt_year year month day (pos 1960) 1 1 is_civil (omega arith) lt)) in
-    let last : (pos 2059 <ℤ year) → ⊥ = λ lt. absurd (omega (arith, end_of_2059, day_count-lt_year (pos 2059) 12 31 year month day last_is is_civil.2.0 lt)) in
-    (by_lt_z year (pos 1960) (λ lt. absurd (first lt)) (λ ge. ge), by_lt_z (pos 2059) year (λ lt. absurd (last lt)) (λ ge. ge))
+years_between = search (rules, pos, signed_arith, start_of_1960, day_count-lt_year, end_of_2059, by_lt_z)
 
 -- the calendar's day count of a date is 366 more than the number of days from -9999-01-01 to the
 -- date
 count_of : (date : Date) (days : ℕ) → epoch_day date +ℤ pos 4_371_587 ≡ pos days → day_count date.year date.month date.day ≡ days + 366
-count_of date days since =
-    let count = days_from_civil-day_count date.year date.month date.day in
-    omega (arith, signed_arith)
+count_of = search (rules, days_from_civil-day_count, signed_arith)
 
 -- if a date is `number` days after 1 January 1960, its day number is `number`, and its year is from
 -- 1960 to 2059
 pub day_of_date : (date : Date) (number : ℕ) → number ≤ last_day → epoch_day date +ℤ pos 4_371_587 ≡ pos (4_367_934 + number)
     → IsBetween (pos 1960) (pos 2059) date.year × IsDayOf number (unsigned_abs date.year) date.month date.day
 day_of_date date number low since =
-    let count = count_of date (4_367_934 + number) since in
-    let years = years_between date.year date.month date.day (civil date) (omega arith) (omega arith) in
+    let count = count_of date _ since in
+    let years = years_between date.year _ date.day (civil date) (omega arith) (omega arith) in
     (years, by date.year (civil date) count years)
   where
     by : (year : ℤ) → IsCivilDate year date.month date.day → day_count year date.month date.day ≡ 4_367_934 + number + 366
-        → IsBetween (pos 1960) (pos 2059) year
-        → IsDayOf number (unsigned_abs year) date.month date.day
+        → IsBetween (pos 1960) (pos 2059) year → IsDayOf number (unsigned_abs year) date.month date.day
     by (pos year) is_civil count years =
         record { low = omega (arith, signed_arith, years.0); high = omega (arith, signed_arith, years.1); is_civil = is_civil; count = omega arith }
     by (negsuc year) is_civil count years = absurd (omega (arith, signed_arith, years.0))
 
 -- if the last day of a year comes before 31 December 2059, the year is before 2059
 before_2059 : (number year : ℕ) → suc number ≤ last_day → year ≤ 2059 → day_count (pos year) 12 31 ≡ number + 4_368_300 → year < 2059
-before_2059 number year low high count = by (cases_order year 2059)
-  where
-    by : (year ≡ 2059) ⊎ ((year < 2059) ⊎ (2059 < year)) → year < 2059
-    by (inl same) = absurd (omega (arith, end_of_2059, subst (λ y. day_count (pos y) 12 31 ≡ number + 4_368_300) same count))
-    by (inr (inl lt)) = lt
-    by (inr (inr gt)) = absurd (omega arith)
+before_2059 = search (rules, cases_order, end_of_2059, pos)
 
 -- a claim is proved if it is proved in two cases: `a` is below `b`, or `b` is at most `a`
 by_lt : {P : Type 0} (a b : ℕ) → (a < b → P) → (b ≤ a → P) → P
@@ -98,20 +82,10 @@ by_lt {P = P} a b below above = by (cases_order a b)
 -- the next day is in the same month, in the next month or in the next year
 module _ (number year month day : ℕ) (low : suc number ≤ last_day) (h : IsDayOf number year month day) where
   next_day : day < days_in_month (pos year) month → IsDayOf (suc number) year month (day + 1)
-  next_day lt =
-      let step = day_count-day (pos year) month day (day + 1) h.is_civil.2.0 (omega arith) in
-      record { low = h.low; high = h.high; is_civil = (h.is_civil.0, h.is_civil.1, (omega arith, omega arith)); count = omega (arith, h.count) }
+  next_day = search (rules, day_count-day, pos)
 
   next_month : days_in_month (pos year) month ≤ day → month < 12 → IsDayOf (suc number) year (month + 1) 1
-  next_month last lt =
-      let step = day_count-day (pos year) month day 1 h.is_civil.2.0 (omega arith) in
-      let month_step = day_count-next_month (pos year) month h.is_civil.1.0 in
-      record {
-        low = h.low;
-        high = h.high;
-        is_civil = (h.is_civil.0, (omega arith, omega arith), (omega arith, omega (arith, days_in_month_bounds (pos year) (month + 1))));
-        count = omega (arith, h.count, h.is_civil.2.1);
-      }
+  next_month = search (rules, day_count-day, pos, day_count-next_month, days_in_month_bounds)
 
   next_year : days_in_month (pos year) month ≤ day → 12 ≤ month → IsDayOf (suc number) (year + 1) 1 1
   next_year last end =
@@ -134,17 +108,7 @@ module _ (number year month day : ℕ) (low : suc number ≤ last_day) (h : IsDa
 
 -- each day number up to the last is the number of a day of the calendar
 pub day_at : (number : ℕ) → number ≤ last_day → (year : ℕ) × (month : ℕ) × (day : ℕ) × IsDayOf number year month day
-day_at zero low = (
-  1960,
-  1,
-  1,
-  record {
-    low = omega arith;
-    high = omega arith;
-    is_civil = (omega (arith, signed_arith), (omega arith, omega arith), (omega arith, omega arith));
-    count = start_of_1960;
-  },
-)
+day_at zero low = search (rules, signed_arith, start_of_1960)
 day_at (suc number) low = let before = day_at number (omega arith) in by before.0 before.1 before.2 before.3
   where
     by : (year month day : ℕ) → IsDayOf number year month day → (y : ℕ) × (m : ℕ) × (d : ℕ) × IsDayOf (suc number) y m d

@@ -1,6 +1,6 @@
 -- The code tests dates and computes their day numbers with tables of the months. The results equal
 -- the tests and the day numbers in the definitions.
-use Rattle.std.proofs.Common.{◌≡◌, ℕ, zero, suc, ◌+◌, ◌-◌, ◌*◌, ◌/◌, ◌<◌, ◌≤◌, nat_lt, Bool, true, false, cond, ◌&&◌, List}
+use Rattle.std.proofs.Common.{◌≡◌, ℕ, suc, ◌+◌, ◌-◌, ◌*◌, ◌/◌, ◌<◌, ◌≤◌, nat_lt, Bool, true, cond, ◌&&◌, List, rules}
 use Rattle.std.proofs.Common.{[], ◌∷◌, length, slice_index_or, take, refl, sym, pos, ◌∙◌, arith}
 use Rattle.std.specs.Prelude.{◌==◌, ◌||◌, slice_index}
 use Rattle.std.specs.List.{list_all}
@@ -22,17 +22,7 @@ six_digits (a ∷ b ∷ []) size = absurd (omega arith)
 six_digits (a ∷ b ∷ c ∷ []) size = absurd (omega arith)
 six_digits (a ∷ b ∷ c ∷ d ∷ []) size = absurd (omega arith)
 six_digits (a ∷ b ∷ c ∷ d ∷ e ∷ []) size = absurd (omega arith)
-six_digits (a ∷ b ∷ c ∷ d ∷ e ∷ f ∷ []) size =
-    regrouped (is_ascii_digit a) (is_ascii_digit b) (is_ascii_digit c) (is_ascii_digit d) (is_ascii_digit e) (is_ascii_digit f)
-  where
-    regrouped : (p q r s t u : Bool) → (((p && (q && (r && (s && true)))) && t) && u) ≡ (p && (q && (r && (s && (t && (u && true))))))
-    regrouped true true true true true true = refl
-    regrouped true true true true true false = refl
-    regrouped true true true true false u = refl
-    regrouped true true true false t u = refl
-    regrouped true true false s t u = refl
-    regrouped true false r s t u = refl
-    regrouped false q r s t u = refl
+six_digits (a ∷ b ∷ c ∷ d ∷ e ∷ f ∷ []) size = search rules
 six_digits (a ∷ b ∷ c ∷ d ∷ e ∷ f ∷ g ∷ field) size = absurd (omega arith)
 
 -- whether a byte is the code of `0` or of `1`
@@ -49,17 +39,7 @@ seven_flags (a ∷ b ∷ c ∷ []) size = absurd (omega arith)
 seven_flags (a ∷ b ∷ c ∷ d ∷ []) size = absurd (omega arith)
 seven_flags (a ∷ b ∷ c ∷ d ∷ e ∷ []) size = absurd (omega arith)
 seven_flags (a ∷ b ∷ c ∷ d ∷ e ∷ f ∷ []) size = absurd (omega arith)
-seven_flags (a ∷ b ∷ c ∷ d ∷ e ∷ f ∷ g ∷ []) size = regrouped (is_flag a) (is_flag b) (is_flag c) (is_flag d) (is_flag e) (is_flag f) (is_flag g)
-  where
-    regrouped : (p q r s t u v : Bool) → ((((p && (q && (r && (s && true)))) && t) && u) && v) ≡ (p && (q && (r && (s && (t && (u && (v && true)))))))
-    regrouped true true true true true true true = refl
-    regrouped true true true true true true false = refl
-    regrouped true true true true true false v = refl
-    regrouped true true true true false u v = refl
-    regrouped true true true false t u v = refl
-    regrouped true true false s t u v = refl
-    regrouped true false r s t u v = refl
-    regrouped false q r s t u v = refl
+seven_flags (a ∷ b ∷ c ∷ d ∷ e ∷ f ∷ g ∷ []) size = grind arith
 seven_flags (a ∷ b ∷ c ∷ d ∷ e ∷ f ∷ g ∷ h ∷ field) size = absurd (omega arith)
 
 -- how many days of a year come before this month, if the year isn't a leap year. Months are from 1
@@ -73,19 +53,7 @@ leap_before leap month = cond (nat_lt 2 month && leap) 1 0
 
 -- `days_before` says how many days of a year come before a month. In a leap year there is one more day before each month from March on
 before_month : (y n : ℕ) → n < 12 → days_of_months (pos y) n ≡ days_before (suc n) + leap_before (is_leap_year (pos y)) (suc n)
-before_month y zero low = days_of_months_table (pos y) 0 low
-before_month y (suc zero) low = days_of_months_table (pos y) 1 low
-before_month y (suc (suc zero)) low = days_of_months_table (pos y) 2 low
-before_month y (suc (suc (suc zero))) low = days_of_months_table (pos y) 3 low
-before_month y (suc (suc (suc (suc zero)))) low = days_of_months_table (pos y) 4 low
-before_month y (suc (suc (suc (suc (suc zero))))) low = days_of_months_table (pos y) 5 low
-before_month y (suc (suc (suc (suc (suc (suc zero)))))) low = days_of_months_table (pos y) 6 low
-before_month y (suc (suc (suc (suc (suc (suc (suc zero))))))) low = days_of_months_table (pos y) 7 low
-before_month y (suc (suc (suc (suc (suc (suc (suc (suc zero)))))))) low = days_of_months_table (pos y) 8 low
-before_month y (suc (suc (suc (suc (suc (suc (suc (suc (suc zero))))))))) low = days_of_months_table (pos y) 9 low
-before_month y (suc (suc (suc (suc (suc (suc (suc (suc (suc (suc zero)))))))))) low = days_of_months_table (pos y) 10 low
-before_month y (suc (suc (suc (suc (suc (suc (suc (suc (suc (suc (suc zero))))))))))) low = days_of_months_table (pos y) 11 low
-before_month y (suc (suc (suc (suc (suc (suc (suc (suc (suc (suc (suc (suc n)))))))))))) low = absurd (omega arith)
+before_month = search (rules, days_of_months_table, pos)
 
 -- in the calendar library, 1 January 2060 has the day count 4,404,825
 start_of_2060 : day_count (pos 2060) 1 1 ≡ 4_404_825
@@ -95,12 +63,7 @@ start_of_2060 = refl
 -- a day in the years 1960 to 2059. The number of years from 1960 to its year is `years`
 module _ (years y month day : ℕ) (since : years + 1960 ≡ y) (high : y ≤ 2059) (good : is_calendar_day y month day ≡ true) where
   its_parts : IsCivilDate (pos y) month day
-  its_parts =
-      let date = (is_calendar_day-IsDate y month day (omega arith)).0 good in (
-        date.0,
-        (omega (arith, signed_arith, date.1), omega (arith, signed_arith, date.1)),
-        (omega (arith, signed_arith, date.2), omega (arith, signed_arith, date.2)),
-      )
+  its_parts = search (rules, is_calendar_day-IsDate, signed_arith)
 
   -- the day number plus 1 is the sum of three numbers. They are the number of days from 1960 to the
   -- beginning of the year, the number of days in the year before the month, and the day of the
@@ -119,7 +82,4 @@ module _ (years y month day : ℕ) (since : years + 1960 ≡ y) (high : y ≤ 20
 
   -- the day number is at most the last day number
   pub number_bound : day_number y month day ≤ last_day
-  number_bound =
-      let number = day_number-day_count y month day (omega arith) (omega arith) its_parts.1.0 its_parts.2.0 in
-      let next = day_count-lt_year (pos y) month day (pos 2060) 1 1 its_parts (omega arith) (omega (arith, signed_arith)) in
-      omega (arith, start_of_2060)
+  number_bound = search (rules, day_number-day_count, its_parts, day_count-lt_year, pos, signed_arith, start_of_2060)

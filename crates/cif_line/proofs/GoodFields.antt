@@ -1,9 +1,10 @@
 -- If a record is good, each of its checked fields is good. There is one lemma for each checked field of each kind of record.
-use Rattle.std.proofs.Common.{◌≡◌, ℕ, List, true, false, cond, [], ◌∷◌, ◌++◌, Bool, Option, Some, None, refl, sym, subst, ◌∙◌, inl, inr, arith}
+use Rattle.std.proofs.Common.{◌≡◌, ℕ, List, true, false, cond, [], ◌∷◌, ◌++◌, Bool, None, refl, subst, arith}
+use Rattle.std.proofs.Common.{rules}
 use Rattle.std.specs.List.{AllByRecursion}
-use Rattle.docker_model.specs.records.Record.{Kind, header, tiploc_insert, tiploc_amend, tiploc_delete, association}
-use Rattle.docker_model.specs.records.Record.{basic_schedule, extra_details, origin_location, intermediate_location}
-use Rattle.docker_model.specs.records.Record.{terminating_location, change_en_route, trailer, HasKind, kind_of, columns, column}
+use Rattle.docker_model.specs.records.Record.{Kind, header, tiploc_amend, association}
+use Rattle.docker_model.specs.records.Record.{basic_schedule, origin_location, intermediate_location}
+use Rattle.docker_model.specs.records.Record.{terminating_location, HasKind, kind_of, columns, column}
 use Rattle.docker_model.specs.records.Date.{is_date, is_date_day_first, is_end_date, is_days}
 use Rattle.docker_model.specs.records.Clock.{is_clock, is_public_time}
 use Rattle.docker_model.specs.records.Field.{CheckedField, checked, checked_fields, HasGoodFields, is_tiploc, is_new_tiploc}
@@ -167,40 +168,14 @@ tiploc_new_code line good amends = good.new_code amends
 
 -- a TIPLOC record that isn't an amendment has no new code
 pub no_new_code : (line : List ℕ) → ¬ HasKind tiploc_amend line → new_code_of (kind_of line) line ≡ None
-no_new_code line never = by (kind_of line) never
-  where
-    by : (kind : Option Kind) → ¬ (kind ≡ Some tiploc_amend) → new_code_of kind line ≡ None
-    by None other = refl
-    by (Some header) other = refl
-    by (Some tiploc_insert) other = refl
-    by (Some tiploc_amend) other = absurd (other refl)
-    by (Some tiploc_delete) other = refl
-    by (Some association) other = refl
-    by (Some basic_schedule) other = refl
-    by (Some extra_details) other = refl
-    by (Some origin_location) other = refl
-    by (Some intermediate_location) other = refl
-    by (Some terminating_location) other = refl
-    by (Some change_en_route) other = refl
-    by (Some trailer) other = refl
+no_new_code = search rules
 
 -- the lemmas on the checked fields of a good TIPLOC record
 pub ruleset tiploc_fields = (tiploc_code, tiploc_new_code, no_new_code)
 
 -- if the checked fields of a TIPLOC record are good, its code is good. In an amendment the new code is good too
 pub is_good_tiploc : (line : List ℕ) → IsTiplocRecord line → HasGoodFields line → IsGoodTiploc line
-is_good_tiploc line (inl inserts) good = record {
-  code = (good_fields tiploc_insert line inserts good).0;
-  new_code = λ amends. let both : Some tiploc_insert ≡ Some tiploc_amend = sym inserts ∙ amends in cc;
-}
-is_good_tiploc line (inr (inl amends)) good = record {
-  code = (good_fields tiploc_amend line amends good).0;
-  new_code = λ again. (good_fields tiploc_amend line amends good).1.0;
-}
-is_good_tiploc line (inr (inr deletes)) good = record {
-  code = (good_fields tiploc_delete line deletes good).0;
-  new_code = λ amends. let both : Some tiploc_delete ≡ Some tiploc_amend = sym deletes ∙ amends in cc;
-}
+is_good_tiploc = search (rules, good_fields)
 
 -- the lemma on which the view of a TIPLOC record depends: if its checked fields are good, `IsGoodTiploc` holds
 pub ruleset tiploc_views = (is_good_tiploc)

@@ -1,5 +1,5 @@
 -- The tests of a record's checked fields, joined by AND into a single test.
-use Rattle.std.proofs.Common.{◌≡◌, ℕ, List, Bool, true, false, cond, [], ◌∷◌, Some, None, refl, sym, ◌∙◌, ◌&&◌}
+use Rattle.std.proofs.Common.{◌≡◌, ℕ, List, Bool, true, false, cond, [], ◌∷◌, Some, None, refl, sym, ◌∙◌, ◌&&◌, arith, rules}
 use Rattle.std.specs.Prelude.{not, option_map, find, Option, ◌↔◌}
 use Rattle.docker_model.specs.records.Record.{columns, origin_location, intermediate_location}
 use Rattle.docker_model.specs.records.Clock.{is_present_time, is_scheduled_time, is_public_time}
@@ -38,22 +38,7 @@ none_if_joined line before (field ∷ fields) pass =
 pub joined_if_none : (line : List ℕ) (before : Bool) (fields : List CheckedField) → first_bad_of line fields ≡ None → before ≡ true
     → joined line before fields ≡ true
 joined_if_none line before [] none there = there
-joined_if_none line before (field ∷ fields) none there =
-    by (is_good_in line field) refl (joined_if_none line (before && is_good_in line field) fields)
-  where
-    by : (good : Bool) → is_good_in line field ≡ good
-        → (first_bad_of line fields ≡ None → (before && is_good_in line field) ≡ true → joined line (before && is_good_in line field) fields ≡ true)
-        → joined line (before && is_good_in line field) fields ≡ true
-    by true is more =
-        let rest : first_bad_of line fields ≡ None =
-        (λ i. option_map (λ (f : CheckedField). f.first)
-        (cond (not (sym is i)) (Some field) (find (λ f. not (is_good_in line f)) fields))) ∙ none in
-        more rest (and_true before (is_good_in line field) there is)
-    by false is more =
-        let bad : Some field.first ≡ None =
-        (λ i. option_map (λ (f : CheckedField). f.first)
-        (cond (not (sym is i)) (Some field) (find (λ f. not (is_good_in line f)) fields))) ∙ none in
-        cc
+joined_if_none line before (field ∷ fields) none there = grind (arith, and_true, (joined_if_none line (before && is_good_in line field) fields))
 
 -- the joined test of a list of fields passes if and only if no field is bad
 passes_if_none : (line : List ℕ) (fields : List CheckedField) (test : Bool) → test ≡ joined line true fields
@@ -84,8 +69,7 @@ call_tests line t s test joins tiploc times =
 pub end_tests : (line : List ℕ) (tiploc time public test : Bool) → ((tiploc && time) && public) ≡ test → tiploc ≡ is_tiploc (columns 3 9 line)
     → time ≡ is_present_time (columns 11 15 line) → public ≡ is_public_time (columns 16 19 line)
     → test ≡ true ↔ (bad_field_of origin_location line ≡ None)
-end_tests line t d p test joins tiploc time public =
-    passes_if_none line (checked_fields origin_location line) test (sym joins ∙ (λ i. (tiploc i && time i) && public i))
+end_tests = search (rules, passes_if_none)
 
 -- if an intermediate location has a bad field, and all its checked fields except the last are good,
 -- the leftmost bad field is at column 30
@@ -109,12 +93,4 @@ call_last_bad line bad tiploc arrival departure pass public_arrival = by (is_pub
 pub times_good : (line : List ℕ) (tiploc times : Bool) → (tiploc && times) ≡ true → times ≡ times_joined line
     → (is_scheduled_time (columns 11 15 line) ≡ true) × (is_scheduled_time (columns 16 20 line) ≡ true)
     × (is_scheduled_time (columns 21 25 line) ≡ true)
-times_good line tiploc times pass is =
-    each (is_scheduled_time (columns 11 15 line)) (is_scheduled_time (columns 16 20 line)) (is_scheduled_time (columns 21 25 line))
-    (is_public_time (columns 26 29 line)) (is_public_time (columns 30 33 line)) (sym is ∙ (both tiploc times pass).1)
-  where
-    each : (a d p m n : Bool) → ((((a && d) && p) && m) && n) ≡ true → (a ≡ true) × (d ≡ true) × (p ≡ true)
-    each true true true m n joins = (refl, refl, refl)
-    each true true false m n joins = cc
-    each true false p m n joins = cc
-    each false d p m n joins = cc
+times_good = search (rules, both)

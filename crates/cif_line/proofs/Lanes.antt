@@ -1,6 +1,6 @@
 -- A block of bytes is tested at once, with one lane for each byte. The lemmas show that the result
 -- is the same as if each byte were tested by itself.
-use Rattle.std.proofs.Common.{◌≡◌, ℕ, ◌+◌, ◌*◌, ◌%◌, ◌^◌, ◌≤◌, nat_eq, Bool, true, false, cond, not, ◌&&◌, List}
+use Rattle.std.proofs.Common.{◌≡◌, ℕ, ◌+◌, ◌*◌, ◌%◌, ◌^◌, ◌≤◌, nat_eq, Bool, true, false, not, ◌&&◌, List, rules}
 use Rattle.std.proofs.Common.{[], ◌∷◌, map, length, take, drop, replicate, Fits, w8, refl, sym, ap, ◌∙◌, arith}
 use Rattle.std.proofs.lemmas.Bool.{agree_below, agree_below_at}
 use Rattle.std.proofs.lemmas.Bool.Decides.{nat_tests}
@@ -21,12 +21,7 @@ twice m = grind (arith, nat_tests)
 -- a mask of lanes is 0 if and only if no lane is set
 mask_zero : (p : ℕ → Bool) (xs : List ℕ) → nat_eq (mask_l (map p xs)) 0 ≡ list_all (λ x. not (p x)) xs
 mask_zero p [] = refl
-mask_zero p (x ∷ xs) = by (p x) (mask_zero p xs)
-  where
-    by : (b : Bool) → nat_eq (mask_l (map p xs)) 0 ≡ list_all (λ y. not (p y)) xs
-        → nat_eq (cond b 1 0 + 2 * mask_l (map p xs)) 0 ≡ (not b && list_all (λ y. not (p y)) xs)
-    by true rest = one_set (mask_l (map p xs))
-    by false rest = twice (mask_l (map p xs)) ∙ rest
+mask_zero p (x ∷ xs) = grind (arith, nat_eq, not, one_set, twice, (mask_zero p xs))
 
 -- two tests that agree on each number below 256 agree on each list of bytes
 agree_all : (f g : ℕ → Bool) → agree_below f g 256 ≡ true → (xs : List ℕ) → Each1 (Fits w8) xs → list_all f xs ≡ list_all g xs
@@ -53,12 +48,7 @@ no_lane_set q bytes n f g a b long few fits agree =
 -- five tests joined by AND have the same result whether they are grouped from the left or from the
 -- right
 five : (a b c d e : Bool) → ((((a && b) && c) && d) && e) ≡ (a && (b && (c && (d && (e && true)))))
-five true true true true true = refl
-five true true true true false = refl
-five true true true false e = refl
-five true true false d e = refl
-five true false c d e = refl
-five false b c d e = refl
+five = search rules
 
 -- whether the sixteen bytes that begin at an index pass the test
 abbrev pub block_passes : (ℕ → Bool) → List ℕ → ℕ → Bool

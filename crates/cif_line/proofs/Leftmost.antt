@@ -1,9 +1,9 @@
 -- The leftmost bad field of a header, a TIPLOC record, an association or a basic schedule. A field
 -- is the leftmost bad field if it is bad and all checked fields to its left are good.
-use Rattle.std.proofs.Common.{◌≡◌, ℕ, List, true, false, cond, [], ◌∷◌, ◌++◌, Bool, Some, None, ap, ◌∙◌, inl, inr}
+use Rattle.std.proofs.Common.{◌≡◌, ℕ, List, true, false, cond, [], ◌∷◌, ◌++◌, Bool, Some, None, ap, ◌∙◌, rules}
 use Rattle.std.specs.Prelude.{not, option_map, find, Option}
 use Rattle.std.specs.List.{AllByRecursion}
-use Rattle.docker_model.specs.records.Record.{Kind, HasKind, header, tiploc_insert, tiploc_amend, tiploc_delete, association, basic_schedule, columns}
+use Rattle.docker_model.specs.records.Record.{Kind, HasKind, header, tiploc_amend, association, basic_schedule, columns}
 use Rattle.docker_model.specs.records.Date.{is_date, is_date_day_first, is_end_date, is_days}
 use Rattle.docker_model.specs.records.Clock.{is_clock}
 use Rattle.docker_model.specs.records.Field.{CheckedField, checked, checked_fields, fields_of, leftmost_bad_field, is_tiploc}
@@ -26,8 +26,7 @@ pub behind_good : (line : List ℕ) (before : List CheckedField) (field : Checke
     → AllByRecursion (IsGoodIn line) before → field.is_good (columns field.first field.last line) ≡ false
     → first_bad line (before ++ field ∷ after) ≡ Some field.first
 unfolding first_bad
-behind_good line [] field after good bad =
-    λ i. option_map (λ (f : CheckedField). f.first) (cond (not (bad i)) (Some field) (find (λ f. not (f.is_good (columns f.first f.last line))) after))
+behind_good line [] field after good bad = cc
 behind_good line (one ∷ before) field after good bad =
     (λ i. option_map (λ (f : CheckedField). f.first)
     (cond (not (good.0 i)) (Some one) (find (λ f. not (f.is_good (columns f.first f.last line))) (before ++ field ∷ after))))
@@ -46,8 +45,7 @@ header_bad_minute line is day bad = by_kind header line is ∙ behind_good line 
 -- field is at column 47
 pub header_bad_indicator : (line : List ℕ) → HasKind header line → is_date_day_first (columns 23 28 line) ≡ true → is_clock (columns 29 32 line) ≡ true
     → is_update_indicator (columns 47 47 line) ≡ false → leftmost_bad_field line ≡ Some 47
-header_bad_indicator line is day minute bad = by_kind header line is
-    ∙ behind_good line (checked 23 28 is_date_day_first ∷ checked 29 32 is_clock ∷ []) (checked 47 47 is_update_indicator) [] (day, (minute, tt)) bad
+header_bad_indicator = search (rules, by_kind, behind_good)
 
 -- the lemmas on the leftmost bad field of a header
 pub ruleset header_faults = (header_bad_day, header_bad_minute, header_bad_indicator)
@@ -70,18 +68,14 @@ of_basic line deletion is deletes = by_kind basic_schedule line is ∙ ap (λ b.
 pub basic_bad_end : (line : List ℕ) → HasKind basic_schedule line → is_transaction (columns 3 3 line) ≡ true → is_date (columns 10 15 line) ≡ true
     → is_deletion line ≡ false → is_end_date (columns 16 21 line) ≡ false → leftmost_bad_field line ≡ Some 16
 unfolding basic_checked
-basic_bad_end line is transaction day kept bad = of_basic line false is kept
-    ∙ behind_good line (checked 3 3 is_transaction ∷ checked 10 15 is_date ∷ []) (checked 16 21 is_end_date)
-    (checked 22 28 is_days ∷ checked 80 80 is_stp_indicator ∷ []) (transaction, (day, tt)) bad
+basic_bad_end = search (rules, of_basic, behind_good)
 
 -- suppose that a basic schedule isn't a deletion. If its days-run field is bad, and the fields to
 -- the left are good, the leftmost bad field is at column 22
 pub basic_bad_days : (line : List ℕ) → HasKind basic_schedule line → is_transaction (columns 3 3 line) ≡ true → is_date (columns 10 15 line) ≡ true
     → is_deletion line ≡ false → is_end_date (columns 16 21 line) ≡ true → is_days (columns 22 28 line) ≡ false → leftmost_bad_field line ≡ Some 22
 unfolding basic_checked
-basic_bad_days line is transaction day kept end bad = of_basic line false is kept
-    ∙ behind_good line (checked 3 3 is_transaction ∷ checked 10 15 is_date ∷ checked 16 21 is_end_date ∷ []) (checked 22 28 is_days)
-    (checked 80 80 is_stp_indicator ∷ []) (transaction, (day, (end, tt))) bad
+basic_bad_days = search (rules, of_basic, behind_good)
 
 -- suppose that a basic schedule isn't a deletion. If its STP indicator is bad, and the fields to
 -- the left are good, the leftmost bad field is at column 80
@@ -89,17 +83,14 @@ pub basic_bad_stp_kept : (line : List ℕ) → HasKind basic_schedule line → i
     → is_deletion line ≡ false → is_end_date (columns 16 21 line) ≡ true → is_days (columns 22 28 line) ≡ true
     → is_stp_indicator (columns 80 80 line) ≡ false → leftmost_bad_field line ≡ Some 80
 unfolding basic_checked
-basic_bad_stp_kept line is transaction day kept end days bad = of_basic line false is kept
-    ∙ behind_good line (checked 3 3 is_transaction ∷ checked 10 15 is_date ∷ checked 16 21 is_end_date ∷ checked 22 28 is_days ∷ [])
-    (checked 80 80 is_stp_indicator) [] (transaction, (day, (end, (days, tt)))) bad
+basic_bad_stp_kept = search (rules, of_basic, behind_good)
 
 -- suppose that a basic schedule is a deletion. If its STP indicator is bad, and its transaction and
 -- its runs-from date are good, the leftmost bad field is at column 80
 pub basic_bad_stp_deleted : (line : List ℕ) → HasKind basic_schedule line → is_transaction (columns 3 3 line) ≡ true → is_date (columns 10 15 line) ≡ true
     → is_deletion line ≡ true → is_stp_indicator (columns 80 80 line) ≡ false → leftmost_bad_field line ≡ Some 80
 unfolding basic_checked
-basic_bad_stp_deleted line is transaction day deleted bad = of_basic line true is deleted
-    ∙ behind_good line (checked 3 3 is_transaction ∷ checked 10 15 is_date ∷ []) (checked 80 80 is_stp_indicator) [] (transaction, (day, tt)) bad
+basic_bad_stp_deleted = search (rules, of_basic, behind_good)
 
 -- the lemmas on the leftmost bad field of a basic schedule
 pub ruleset basic_faults = (basic_bad_end, basic_bad_days, basic_bad_stp_kept, basic_bad_stp_deleted)
@@ -122,18 +113,14 @@ of_assoc line deletion is deletes = by_kind association line is ∙ ap (λ b. fi
 pub assoc_bad_end : (line : List ℕ) → HasKind association line → is_transaction (columns 3 3 line) ≡ true → is_date (columns 16 21 line) ≡ true
     → is_deletion line ≡ false → is_end_date (columns 22 27 line) ≡ false → leftmost_bad_field line ≡ Some 22
 unfolding assoc_checked
-assoc_bad_end line is transaction day kept bad = of_assoc line false is kept
-    ∙ behind_good line (checked 3 3 is_transaction ∷ checked 16 21 is_date ∷ []) (checked 22 27 is_end_date)
-    (checked 28 34 is_days ∷ checked 38 44 is_tiploc ∷ checked 80 80 is_stp_indicator ∷ []) (transaction, (day, tt)) bad
+assoc_bad_end = search (rules, of_assoc, behind_good)
 
 -- suppose that an association isn't a deletion. If its days-run field is bad, and the fields to the
 -- left are good, the leftmost bad field is at column 28
 pub assoc_bad_days : (line : List ℕ) → HasKind association line → is_transaction (columns 3 3 line) ≡ true → is_date (columns 16 21 line) ≡ true
     → is_deletion line ≡ false → is_end_date (columns 22 27 line) ≡ true → is_days (columns 28 34 line) ≡ false → leftmost_bad_field line ≡ Some 28
 unfolding assoc_checked
-assoc_bad_days line is transaction day kept end bad = of_assoc line false is kept
-    ∙ behind_good line (checked 3 3 is_transaction ∷ checked 16 21 is_date ∷ checked 22 27 is_end_date ∷ []) (checked 28 34 is_days)
-    (checked 38 44 is_tiploc ∷ checked 80 80 is_stp_indicator ∷ []) (transaction, (day, (end, tt))) bad
+assoc_bad_days = search (rules, of_assoc, behind_good)
 
 -- suppose that an association isn't a deletion. If its TIPLOC is bad, and the fields to the left
 -- are good, the leftmost bad field is at column 38
@@ -141,18 +128,14 @@ pub assoc_bad_place_kept : (line : List ℕ) → HasKind association line → is
     → is_deletion line ≡ false → is_end_date (columns 22 27 line) ≡ true → is_days (columns 28 34 line) ≡ true → is_tiploc (columns 38 44 line) ≡ false
     → leftmost_bad_field line ≡ Some 38
 unfolding assoc_checked
-assoc_bad_place_kept line is transaction day kept end days bad = of_assoc line false is kept
-    ∙ behind_good line (checked 3 3 is_transaction ∷ checked 16 21 is_date ∷ checked 22 27 is_end_date ∷ checked 28 34 is_days ∷ [])
-    (checked 38 44 is_tiploc) (checked 80 80 is_stp_indicator ∷ []) (transaction, (day, (end, (days, tt)))) bad
+assoc_bad_place_kept = search (rules, of_assoc, behind_good)
 
 -- suppose that an association is a deletion. If its TIPLOC is bad, and its transaction and its
 -- first date are good, the leftmost bad field is at column 38
 pub assoc_bad_place_deleted : (line : List ℕ) → HasKind association line → is_transaction (columns 3 3 line) ≡ true → is_date (columns 16 21 line) ≡ true
     → is_deletion line ≡ true → is_tiploc (columns 38 44 line) ≡ false → leftmost_bad_field line ≡ Some 38
 unfolding assoc_checked
-assoc_bad_place_deleted line is transaction day deleted bad = of_assoc line true is deleted
-    ∙ behind_good line (checked 3 3 is_transaction ∷ checked 16 21 is_date ∷ []) (checked 38 44 is_tiploc) (checked 80 80 is_stp_indicator ∷ [])
-    (transaction, (day, tt)) bad
+assoc_bad_place_deleted = search (rules, of_assoc, behind_good)
 
 -- suppose that an association isn't a deletion. If its STP indicator is bad, and the fields to the
 -- left are good, the leftmost bad field is at column 80
@@ -160,35 +143,26 @@ pub assoc_bad_stp_kept : (line : List ℕ) → HasKind association line → is_t
     → is_deletion line ≡ false → is_end_date (columns 22 27 line) ≡ true → is_days (columns 28 34 line) ≡ true → is_tiploc (columns 38 44 line) ≡ true
     → is_stp_indicator (columns 80 80 line) ≡ false → leftmost_bad_field line ≡ Some 80
 unfolding assoc_checked
-assoc_bad_stp_kept line is transaction day kept end days place bad = of_assoc line false is kept
-    ∙ behind_good line
-    (checked 3 3 is_transaction ∷ checked 16 21 is_date ∷ checked 22 27 is_end_date ∷ checked 28 34 is_days ∷ checked 38 44 is_tiploc ∷ [])
-    (checked 80 80 is_stp_indicator) [] (transaction, (day, (end, (days, (place, tt))))) bad
+assoc_bad_stp_kept = search (rules, of_assoc, behind_good)
 
 -- suppose that an association is a deletion. If its STP indicator is bad, and the checked fields to
 -- the left are good, the leftmost bad field is at column 80
 pub assoc_bad_stp_deleted : (line : List ℕ) → HasKind association line → is_transaction (columns 3 3 line) ≡ true → is_date (columns 16 21 line) ≡ true
     → is_deletion line ≡ true → is_tiploc (columns 38 44 line) ≡ true → is_stp_indicator (columns 80 80 line) ≡ false → leftmost_bad_field line ≡ Some 80
 unfolding assoc_checked
-assoc_bad_stp_deleted line is transaction day deleted place bad = of_assoc line true is deleted
-    ∙ behind_good line (checked 3 3 is_transaction ∷ checked 16 21 is_date ∷ checked 38 44 is_tiploc ∷ []) (checked 80 80 is_stp_indicator) []
-    (transaction, (day, (place, tt))) bad
+assoc_bad_stp_deleted = search (rules, of_assoc, behind_good)
 
 -- the lemmas on the leftmost bad field of an association
 pub ruleset assoc_faults = (assoc_bad_end, assoc_bad_days, assoc_bad_place_kept, assoc_bad_place_deleted, assoc_bad_stp_kept, assoc_bad_stp_deleted)
 
 -- if the code of a TIPLOC record is bad, the leftmost bad field is at column 3
 pub tiploc_bad_code : (line : List ℕ) → IsTiplocRecord line → is_tiploc (columns 3 9 line) ≡ false → leftmost_bad_field line ≡ Some 3
-tiploc_bad_code line (inl inserts) bad = by_kind tiploc_insert line inserts ∙ behind_good line [] (checked 3 9 is_tiploc) [] tt bad
-tiploc_bad_code line (inr (inl amends)) bad = by_kind tiploc_amend line amends
-    ∙ behind_good line [] (checked 3 9 is_tiploc) (checked 73 79 is_new_tiploc ∷ []) tt bad
-tiploc_bad_code line (inr (inr deletes)) bad = by_kind tiploc_delete line deletes ∙ behind_good line [] (checked 3 9 is_tiploc) [] tt bad
+tiploc_bad_code = search (rules, by_kind, behind_good)
 
 -- if an amendment's code is good and its new code is bad, the leftmost bad field is at column 73
 pub tiploc_bad_new_code : (line : List ℕ) → HasKind tiploc_amend line → is_tiploc (columns 3 9 line) ≡ true → is_new_tiploc (columns 73 79 line) ≡ false
     → leftmost_bad_field line ≡ Some 73
-tiploc_bad_new_code line amends code bad = by_kind tiploc_amend line amends
-    ∙ behind_good line (checked 3 9 is_tiploc ∷ []) (checked 73 79 is_new_tiploc) [] (code, tt) bad
+tiploc_bad_new_code = search (rules, by_kind, behind_good)
 
 -- an amendment whose code and new code are good has no bad field
 pub tiploc_amended : (line : List ℕ) → HasKind tiploc_amend line → is_tiploc (columns 3 9 line) ≡ true → is_new_tiploc (columns 73 79 line) ≡ true
@@ -198,9 +172,7 @@ tiploc_amended line amends code new = fields_good tiploc_amend line amends (code
 -- an insert or a deletion whose code is good has no bad field
 pub tiploc_not_amended : (line : List ℕ) → IsTiplocRecord line → ¬ HasKind tiploc_amend line → is_tiploc (columns 3 9 line) ≡ true
     → leftmost_bad_field line ≡ None
-tiploc_not_amended line (inl inserts) never code = fields_good tiploc_insert line inserts (code, tt)
-tiploc_not_amended line (inr (inl amends)) never code = absurd (never amends)
-tiploc_not_amended line (inr (inr deletes)) never code = fields_good tiploc_delete line deletes (code, tt)
+tiploc_not_amended = search (rules, fields_good)
 
 -- the lemmas on the leftmost bad field of a TIPLOC record
 pub ruleset tiploc_faults = (tiploc_bad_code, tiploc_bad_new_code, tiploc_amended, tiploc_not_amended)

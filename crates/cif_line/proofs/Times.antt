@@ -1,11 +1,10 @@
 -- Lemmas on times of day and on the fields from which times are read.
-use Rattle.std.proofs.Common.{◌≡◌, ℕ, ◌+◌, ◌*◌, List, [], ◌∷◌, true, false, cond, Bool, ◌&&◌, Some}
-use Rattle.std.proofs.Common.{None, Option, ap, refl, sym, ◌∙◌, subst, take, length, ◌<◌, arith}
-use Rattle.std.specs.Prelude.{codes, ◌==◌, ◌||◌, nat_lt, slice_index, IfSome}
-use Rattle.std.specs.List.{list_all}
+use Rattle.std.proofs.Common.{◌≡◌, ℕ, List, [], ◌∷◌, true, false, cond, Bool, Some, rules}
+use Rattle.std.proofs.lemmas.Grind.{common_steps}
+use Rattle.std.proofs.Common.{None, Option, refl, length, ◌<◌, arith}
+use Rattle.std.specs.Prelude.{codes, ◌==◌, ◌||◌, slice_index, IfSome}
 use Rattle.std.specs.Str.{bytes_eq}
 use Rattle.std.proofs.lemmas.Bool.{ltb-true, lt-ltb}
-use Rattle.std.specs.Char.{is_ascii_digit}
 use Rattle.docker_model.specs.records.Date.{two_digits}
 use Rattle.docker_model.specs.records.Clock.{is_blank, is_clock, is_present_time, half_minutes, is_scheduled_time, scheduled_time}
 use Rattle.cif_laws.proofs.lists.BoolsAndOptions.{both}
@@ -35,16 +34,11 @@ five_spaces (a ∷ b ∷ c ∷ d ∷ e ∷ f ∷ field) size = absurd (omega ari
 
 -- the hour of a time HHMM is below 24
 pub hour_bound : (field : List ℕ) → is_clock field ≡ true → two_digits field 0 < 24
-hour_bound field clock =
-    ltb-true (two_digits field 0) 24
-    (both (list_all is_ascii_digit (take 4 field)) (nat_lt (two_digits field 0) 24)
-    (both (list_all is_ascii_digit (take 4 field) && nat_lt (two_digits field 0) 24) (nat_lt (two_digits field 2) 60) clock).0).1
+hour_bound = search (rules, ltb-true, both)
 
 -- the minute of a time HHMM is below 60
 pub minute_bound : (field : List ℕ) → is_clock field ≡ true → two_digits field 2 < 60
-minute_bound field clock =
-    ltb-true (two_digits field 2) 60
-    (both (list_all is_ascii_digit (take 4 field) && nat_lt (two_digits field 0) 24) (nat_lt (two_digits field 2) 60) clock).1
+minute_bound = search (rules, ltb-true, both)
 
 -- a scheduled time that isn't blank begins with a time HHMM
 pub clock_of_present : (field : List ℕ) → is_present_time field ≡ true → is_clock field ≡ true
@@ -58,41 +52,19 @@ pub ruleset scheduled_times = (present_not_blank)
 
 -- if at least one of two tests passes, and the second fails, the first passes
 blank_if : (blank present : Bool) → (blank || present) ≡ true → present ≡ false → blank ≡ true
-blank_if true present one absent = refl
-blank_if false present one absent = cc
+blank_if = search rules
 
 -- a time in half minutes since midnight is below 2880, the number of half minutes in a day
 half_minutes_bound : (field : List ℕ) → is_present_time field ≡ true → half_minutes field < 2880
-half_minutes_bound field is = by (slice_index field 4 == 72) (hour_bound field clock) (minute_bound field clock)
-  where
-    clock : is_clock field ≡ true
-    clock = clock_of_present field is
-
-    by : (half : Bool) → two_digits field 0 < 24 → two_digits field 2 < 60 → 2 * (60 * two_digits field 0 + two_digits field 2) + cond half 1 0 < 2880
-    by true hour minute = omega arith
-    by false hour minute = omega arith
+half_minutes_bound = grind (common_steps, arith, hour_bound, minute_bound, clock_of_present)
 
 -- the reader of a good field stores the time's half minutes, or 65535 if the field is blank. The
 -- stored number stands for the field's scheduled time
 pub told_read : (field : List ℕ) (told : ℕ) → is_scheduled_time field ≡ true → told ≡ half_minutes_or_none field
     → number_meant told ≡ scheduled_time field
-told_read field told good is = by (is_present_time field) refl
-  where
-    by : (present : Bool) → is_present_time field ≡ present → number_meant told ≡ scheduled_time field
-    by true there =
-        let same : told ≡ half_minutes field = is ∙ (λ i. cond (there i) (half_minutes field) 65535) in
-        let low : nat_lt told 2880 ≡ true = ap (λ n. nat_lt n 2880) same ∙ lt-ltb (half_minutes field) 2880 (half_minutes_bound field there) in
-        (λ i. cond (low i) (Some (same i)) None) ∙ (λ i. cond (sym (present_not_blank field there) i) None (Some (half_minutes field)))
-    by false absent =
-        let same : told ≡ 65535 = is ∙ (λ i. cond (absent i) (half_minutes field) 65535) in
-        let blank : is_blank field ≡ true = blank_if (is_blank field) (is_present_time field) good absent in
-        (λ i. cond (nat_lt (same i) 2880) (Some told) None) ∙ (λ i. cond (sym blank i) None (Some (half_minutes field)))
+told_read = grind (common_steps, arith, lt-ltb, half_minutes_bound, present_not_blank, blank_if)
 
 -- a time that is read from a field has the half minutes that the definition computes from the field
 pub present_read : (field shown : List ℕ) (read : TimeField) (time : Option ℕ) → ReadsTime field read → field ≡ shown
     → time ≡ cond read.is_time (Some read.half_minutes) None → IfSome time (λ t. t ≡ half_minutes shown)
-present_read field shown read time reads same is = subst (λ o. IfSome o (λ t. t ≡ half_minutes shown)) (sym is) (by read.is_time refl)
-  where
-    by : (present : Bool) → read.is_time ≡ present → IfSome (cond present (Some read.half_minutes) None) (λ t. t ≡ half_minutes shown)
-    by true there = reads.value (sym reads.time ∙ there) ∙ ap half_minutes same
-    by false absent = tt
+present_read = search rules

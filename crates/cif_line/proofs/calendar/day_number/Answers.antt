@@ -18,9 +18,7 @@ sum_is c =
 
 -- the day number is at most the last day's number
 bound_is : (c : goal.After-result-2-1) → day_number (full_year c.args.year) c.args.month c.args.day ≤ last_day
-bound_is c =
-    number_bound c.years_from_1960-years.result (full_year c.args.year) c.args.month c.args.day c.years_from_1960-years.ensures.value (omega arith)
-    c.requires.good
+bound_is c = number_bound _ _ _ _ c.years_from_1960-years.ensures.value (omega arith) c.requires.good
 
 pub overflow_add-result-3 : goal.overflow_add-result-3
 overflow_add-result-3 c = omega (arith, sum_is c, bound_is c)

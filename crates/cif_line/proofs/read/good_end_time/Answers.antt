@@ -1,13 +1,10 @@
 use Rattle.std.proofs.Common.{rules}
-use Rattle.docker_model.specs.records.Record.{columns}
 use Rattle.cif_line.proofs.JoinedTests.{end_tests}
 use Rattle.cif_line.proofs.Times.{present_read}
 use Rattle.cif_line.proofs.read.good_end_time.Goals as goal
 
 pub returns-then-is_tiploc-time-clause-time : goal.returns-then-is_tiploc-time-clause-time
-returns-then-is_tiploc-time-clause-time c =
-    present_read c.field.result.now (columns 11 15 c.args.line.now) c.read-time.result c.time.result c.read-time.ensures c.field.ensures.bytes
-    c.time.ensures
+returns-then-is_tiploc-time-clause-time c = present_read _ _ _ _ c.read-time.ensures c.field.ensures.bytes c.time.ensures
 
 pub returns-else-is_tiploc-time-clause-origin : goal.returns-else-is_tiploc-time-clause-origin
 returns-else-is_tiploc-time-clause-origin c =
