@@ -1,5 +1,6 @@
 -- Lemmas on what a binary search in the rows of a table finds.
 use Rattle.std.proofs.Common.{◌≡◌, ℕ, zero, suc, ◌<◌, ◌≤◌, List, [], ◌∷◌, length, get_or, refl, ap, sym, ◌∙◌, subst, Some, None, inl, inr, ◌⊎◌, arith}
+use Rattle.std.proofs.lemmas.Grind.{common_steps}
 use Rattle.std.proofs.lemmas.Bool.{cases_lt}
 use Rattle.std.specs.Prelude.{Option}
 use Rattle.std.specs.List.{AllByRecursion}
@@ -24,9 +25,7 @@ by_key key row = key_cmp (key_meant row.0) key
 module _ {E : Type 0} where
   above_at : (low : Key × E) (rows : List (Key × E)) (j : ℕ) (d : Key × E) → AllByRecursion (IsBelow row_cmp low) rows → j < length rows
       → row_cmp low (get_or rows j d) ≡ Less
-  above_at low [] j d above within = absurd (let none : j < length {A = ℕ} [] = within in omega arith)
-  above_at low (row ∷ rows) zero d above within = above.0
-  above_at low (row ∷ rows) (suc j) d above within = above_at low rows j d above.1 (omega arith)
+  above_at = grind (common_steps, arith)
 
   -- in ascending rows, each row is below any later row
   below_at : (rows : List (Key × E)) (i j : ℕ) (d : Key × E) → AreAscending rows → i < j → j < length rows → row_cmp (get_or rows i d) (get_or rows j d) ≡ Less

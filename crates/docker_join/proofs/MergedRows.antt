@@ -1,5 +1,5 @@
 -- The output of a walk over the rows of two tables at once, from their first rows to their last, is the join of the tables.
-use Rattle.std.proofs.Common.{◌≡◌, List, [], ◌∷◌, refl, ap, sym, ◌∙◌, subst, Some, None}
+use Rattle.std.proofs.Common.{◌≡◌, List, [], ◌∷◌, refl, ap, sym, ◌∙◌, subst, Some, None, arith, rules}
 use Rattle.std.specs.Prelude.{Option}
 use Rattle.std.specs.List.{AllByRecursion}
 use Rattle.std.specs.declared.cmp.Ordering.{Ordering}
@@ -68,12 +68,7 @@ module _ {E : Type 0} (picked : E → E → E) where
   from_above : (low x : Key × E) (rest : List (Key × E) → List (Key × E)) → row_cmp low x ≡ Less → ((ys : List (Key × E)) → Above low ys → Above low (rest ys))
       → (ys : List (Key × E)) → Above low ys → Above low (walk_from picked x rest ys)
   from_above low x rest below behind [] above = (below, behind [] tt)
-  from_above low x rest below behind (y ∷ ys) above = by (row_cmp x y) (from_above low x rest below behind ys above.1)
-    where
-      by : (o : Ordering) → Above low (walk_from picked x rest ys) → Above low (row_out picked o x y (rest (y ∷ ys)) (rest ys) (walk_from picked x rest ys))
-      by Less later = (below, behind (y ∷ ys) above)
-      by Equal later = (below, behind ys above.1)
-      by Greater later = (above.0, later)
+  from_above low x rest below behind (y ∷ ys) above = grind (arith, (from_above low x rest below behind ys above.1))
 
   walk_above : (low : Key × E) (xs ys : List (Key × E)) → Above low xs → Above low ys → Above low (walk picked xs ys)
   walk_above low [] ys above_x above_y = above_y
@@ -135,22 +130,7 @@ module _ {E : Type 0} (picked : E → E → E) where
   -- joined value at each key
   both_out : (x y : Key × E) (xs ys tail : List (Key × E)) (key : model.Key) → row_cmp x y ≡ Equal → value_at tail key ≡ Both xs ys key
       → value_at ((x.0, picked x.1 y.1) ∷ tail) key ≡ Both (x ∷ xs) (y ∷ ys) key
-  both_out x y xs ys tail key level later = by (key_cmp (key_meant x.0) key) refl
-    where
-      there : key_cmp (key_meant x.0) key ≡ key_cmp (key_meant y.0) key
-      there = key_total.congr (key_meant x.0) (key_meant y.0) key level
-
-      behind : ¬ (key_cmp (key_meant x.0) key ≡ Equal) → value_at ((x.0, picked x.1 y.1) ∷ tail) key ≡ Both (x ∷ xs) (y ∷ ys) key
-      behind other =
-          value_behind (x.0, picked x.1 y.1) tail key other ∙ later
-          ∙ sym (λ i. picked_value picked (value_behind x xs key other i) (value_behind y ys key (λ tied. other (there ∙ tied)) i))
-
-      by : (o : Ordering) → key_cmp (key_meant x.0) key ≡ o → value_at ((x.0, picked x.1 y.1) ∷ tail) key ≡ Both (x ∷ xs) (y ∷ ys) key
-      by Less is = behind (λ tied. cc)
-      by Greater is = behind (λ tied. cc)
-      by Equal is =
-          value_here (x.0, picked x.1 y.1) tail key is
-          ∙ sym (λ i. picked_value picked (value_here x xs key is i) (value_here y ys key (sym there ∙ is) i))
+  both_out = search (rules, key_total, value_behind, value_here)
 
   -- at each key, the rows that the walk returns have the joined value of the two tables
   from_values : (x : Key × E) (xs : List (Key × E)) → AreAscending (x ∷ xs)

@@ -1,7 +1,8 @@
 -- Joining two tables by placing rows, from the greatest key to the smallest, has the same result as
 -- `walk` in `MergedRows`.
-use Rattle.std.proofs.Common.{◌≡◌, ℕ, zero, suc, ◌+◌, ◌-◌, ◌<◌, ◌≤◌, List, [], ◌∷◌, ◌++◌, length, get_or, take, drop, refl, ap, sym}
-use Rattle.std.proofs.Common.{◌∙◌, subst, append_assoc, length-append, length-drop, arith, true, false, Some, None, MatchOption}
+use Rattle.std.proofs.Common.{◌≡◌, ℕ, zero, suc, ◌+◌, ◌-◌, ◌<◌, ◌≤◌, List, [], ◌∷◌, ◌++◌, length, get_or, take, drop, refl, ap, sym, rules}
+use Rattle.std.proofs.lemmas.Grind.{common_steps}
+use Rattle.std.proofs.Common.{◌∙◌, subst, append_assoc, length-append, length-drop, arith, true, false, Some, MatchOption}
 use Rattle.std.specs.Prelude.{Option}
 use Rattle.std.proofs.lemmas.List.{append-nil, get_or-append_right, get_or-drop, get_or-take, length-take-le, take-append-drop, take_all, take_more}
 use Rattle.std.proofs.Math.Seq.{drop-append_seam, take-append_seam}
@@ -46,18 +47,13 @@ module _ {E : Type 0} (picked : E → E → E) where
 
   out_first : (o : Ordering) (a b : Key × E) (less equal greater behind : List (Key × E))
       → row_out picked o a b (less ++ behind) (equal ++ behind) (greater ++ behind) ≡ row_out picked o a b less equal greater ++ behind
-  out_first Less a b less equal greater behind = refl
-  out_first Equal a b less equal greater behind = refl
-  out_first Greater a b less equal greater behind = refl
+  out_first = search rules
 
   -- if the first rows of the second table are below all rows of the first table, the walk over both tables returns these rows first
   lower_first : (x b y : List (Key × E)) → AllBelow b x → walk picked x (b ++ y) ≡ b ++ walk picked x y
   lower_first x [] y below = refl
   lower_first [] (b ∷ others) y below = refl
-  lower_first (x ∷ xs) (b ∷ others) y below =
-      (λ i. row_out picked (above_turned x b below.0.0 i) x b
-      (walk picked xs (b ∷ others ++ y)) (walk picked xs (others ++ y)) (walk_from picked x (walk picked xs) (others ++ y)))
-      ∙ ap (λ rest. b ∷ rest) (lower_first (x ∷ xs) others y below.1)
+  lower_first (x ∷ xs) (b ∷ others) y below = grind (arith, row_out, above_turned, walk, walk_from, (lower_first (x ∷ xs) others y below.1))
 
   -- Suppose that both tables consist of two parts, and that each first part is below the other
   -- table's second part. Then the walk over the tables is the walk over the first parts, followed
@@ -67,18 +63,15 @@ module _ {E : Type 0} (picked : E → E → E) where
       → (b y : List (Key × E)) → Above a y → AllBelow rows y → AllBelow b x
       → walk_from picked a (walk picked (rows ++ x)) (b ++ y) ≡ walk_from picked a (walk picked rows) b ++ walk picked x y
   from_split a rows x behind [] [] above below below_x = ap (λ rest. a ∷ rest) (behind [] [] below tt)
-  from_split a rows x behind [] (y ∷ ys) above below below_x =
-      (λ i. row_out picked (above.0 i) a y (walk picked (rows ++ x) (y ∷ ys)) (walk picked (rows ++ x) ys) (walk_from picked a (walk picked (rows ++ x)) ys))
-      ∙ ap (λ rest. a ∷ rest) (behind [] (y ∷ ys) below tt)
+  from_split a rows x behind [] (y ∷ ys) above below below_x = search (rules, row_out, walk, walk_from)
   from_split a rows x behind (b ∷ others) y above below below_x =
       (λ i. row_out picked (row_cmp a b) a b (behind (b ∷ others) y below below_x i) (behind others y below below_x.1 i)
       (from_split a rows x behind others y above below below_x.1 i))
       ∙ out_first (row_cmp a b) a b (walk picked rows (b ∷ others)) (walk picked rows others) (walk_from picked a (walk picked rows) others) (walk picked x y)
 
   pub walk_split : (a x b y : List (Key × E)) → AllBelow a y → AllBelow b x → walk picked (a ++ x) (b ++ y) ≡ walk picked a b ++ walk picked x y
-  walk_split [] x b y below below_x = lower_first x b y below_x
-  walk_split (a ∷ rows) x b y below below_x =
-      from_split a rows x (λ others ys low high. walk_split rows x others ys low high) b y below.0 below.1 below_x
+  walk_split [] x b y below below_x = lower_first x _ y below_x
+  walk_split (a ∷ rows) x b y below below_x = from_split _ rows _ (λ others ys low high. walk_split rows _ others _ low high) b _ below.0 below.1 below_x
 
 module _ {E : Type 0} where
   -- if a list of rows ascends, so does its first part
@@ -104,10 +97,7 @@ module _ {E : Type 0} where
 
   -- if the first row of an ascending list is above a given row, all rows of the list are above it
   above_row : (rows : List (Key × E)) (row d : Key × E) → AreAscending rows → (0 < length rows → row_cmp (get_or rows 0 d) row ≡ Greater) → Above row rows
-  above_row [] row d up over = tt
-  above_row (x ∷ rows) row d up over =
-      let below : row_cmp row x ≡ Less = key_total.antisymm (key_meant row.0) (key_meant x.0) ∙ ap ordering_reverse (over (omega arith)) in
-      (below, above_lower row x rows below up.0)
+  above_row = grind (common_steps, arith, key_total, above_lower)
 
   -- if the last row of an ascending list is below a given row, all rows of the list are below it
   below_row : (rows : List (Key × E)) (last : ℕ) (row d : Key × E) → AreAscending rows
@@ -125,10 +115,7 @@ module _ {E : Type 0} where
   -- if the concatenation of two lists is cut so that the second part is as long as the second list, the two parts are the two lists
   parts : (front back : List (Key × E)) (m : ℕ) → m ≡ length back
       → (drop (length (front ++ back) - m) (front ++ back) ≡ back) × (take (length (front ++ back) - m) (front ++ back) ≡ front)
-  parts front back m size =
-      let both = length-append front back in
-      let at : length (front ++ back) - m ≡ length front = omega arith in
-      (ap (λ n. drop n (front ++ back)) at ∙ drop-append_seam front back, ap (λ n. take n (front ++ back)) at ∙ take-append_seam front back)
+  parts = grind (common_steps, arith, length-append, drop-append_seam, take-append_seam)
 
 module _ {E : Type 0} (picked : E → E → E) where
   -- if a row is below all rows of a table, the walk over the table and this row returns the row, followed by the table
@@ -139,9 +126,7 @@ module _ {E : Type 0} (picked : E → E → E) where
   -- that have greater keys
   none_out : (a r rest : List (Key × E)) (row : Key × E) → AllBelow a (row ∷ []) → Above row r → AllBelow rest (row ∷ [])
       → walk picked (a ++ r) (rest ++ row ∷ []) ≡ walk picked a rest ++ (row ∷ r)
-  none_out a r rest row below above rest_below =
-      walk_split picked a r rest (row ∷ []) below (below_higher rest r row rest_below above)
-      ∙ ap (λ out. walk picked a rest ++ out) (walk_row r row above)
+  none_out = search (rules, walk_split, below_higher, walk, walk_row)
 
   -- if the first table has the key of the second table's last row, the walk returns the join of the two rows just before the rows that are above them
   level_out : (b r rest : List (Key × E)) (own row : Key × E) → row_cmp own row ≡ Equal → AllBelow b (own ∷ []) → Above own r → AllBelow rest (row ∷ [])
@@ -174,8 +159,7 @@ module _ {E : Type 0} (picked : E → E → E) where
 
   joined_is : (rows front back rest : List (Key × E)) (m : ℕ) → rows ≡ front ++ back → m ≡ length back
       → joined_with picked m rows rest ≡ walk picked back rest ++ front
-  joined_is rows front back rest m is size =
-      ap (λ xs. joined_with picked m xs rest) is ∙ (λ i. walk picked ((parts front back m size).0 i) rest ++ (parts front back m size).1 i)
+  joined_is = search (rules, walk, parts)
 
   -- if `WalksOn` holds, so does `IsPlaced`, since the join of two tables is unique
   placed_of : (old : List (Key × E)) (left : ℕ) (row : Key × E) (new : List (Key × E)) (later : ℕ) → WalksOn picked old left row new later
@@ -184,12 +168,11 @@ module _ {E : Type 0} (picked : E → E → E) where
     ascends = on.ascends;
     joined = λ up first second rest up_rest before. record {
       joins = λ lower is.
-          let walked = walk_joins picked (left_rows later new) rest (on.ascends up) (front_ascends rest (row ∷ []) up_rest) in
+          let walked = walk_joins _ _ _ (on.ascends up) (front_ascends _ _ up_rest) in
           let same : lower ≡ walk picked (left_rows later new) rest =
-          same_rows lower (walk picked (left_rows later new) rest) is.ascends walked.ascends (λ key. is.values key ∙ sym (walked.values key)) in
-          subst (IsJoinOfRows picked first second)
-          (sym (on.joined up rest up_rest) ∙ ap (λ xs. xs ++ take (length new - later) new) (sym same))
-          (before.joins (walk picked (left_rows left old) (rest ++ row ∷ [])) (walk_joins picked (left_rows left old) (rest ++ row ∷ []) up up_rest));
+          same_rows _ _ is.ascends walked.ascends (λ key. is.values key ∙ sym (walked.values key)) in
+          subst (IsJoinOfRows picked first second) (sym (on.joined up rest up_rest) ∙ ap (λ xs. xs ++ take (length new - later) new) (sym same))
+          (before.joins (walk picked (left_rows left old) (rest ++ row ∷ [])) (walk_joins _ _ _ up up_rest));
     };
   }
 
@@ -235,24 +218,13 @@ module _ {E : Type 0} (picked : E → E → E) where
 
 -- if appending one element to each of two lists gives equal lists, the two lists are equal, and so are the two elements
 same_last : {A : Type 0} (xs ys : List A) (x y : A) → xs ++ x ∷ [] ≡ ys ++ y ∷ [] → (xs ≡ ys) × (x ≡ y)
-same_last [] [] x y same = (refl, cc)
-same_last [] (b ∷ ys) x y same = let sizes = ap length same in let both = length-append ys (y ∷ []) in absurd (omega arith)
-same_last (a ∷ xs) [] x y same = let sizes = ap length same in let both = length-append xs (x ∷ []) in absurd (omega arith)
-same_last (a ∷ xs) (b ∷ ys) x y same =
-    let tails : xs ++ x ∷ [] ≡ ys ++ y ∷ [] = cc in
-    let heads : a ≡ b = cc in
-    let rest = same_last xs ys x y tails in
-    ((λ i. heads i ∷ rest.0 i), rest.1)
+same_last = grind (common_steps, arith, length-append)
 
 above_is : (o : Ordering) → is_gt o ≡ true → o ≡ Greater
-above_is Less over = cc
-above_is Equal over = cc
-above_is Greater over = refl
+above_is = search rules
 
 below_is : (o : Ordering) → is_gt o ≡ false → is_eq o ≡ false → o ≡ Less
-below_is Less under other = refl
-below_is Equal under other = cc
-below_is Greater under other = cc
+below_is = search rules
 
 -- the lemmas on one step, in which the last `run` rows of the ring buffer are moved to its front and then one more row is placed
 module _ {E : Type 0} (picked : E → E → E) (old : List (Key × E)) (n left run later : ℕ) (size : n ≡ length old) (left_in : left ≤ n) (row : Key × E)
@@ -289,12 +261,7 @@ module _ {E : Type 0} (picked : E → E → E) (old : List (Key × E)) (n left r
   run_size = let run_in = is_run.within in let cut = length-drop later own in let from = own_size in omega arith
 
   cut : (drop (n - run) old ≡ r) × (take (n - run) old ≡ p ++ a)
-  cut =
-      let pieces : old ≡ (p ++ a) ++ r = whole ∙ sym (append_assoc p a r) in
-      let sides = parts (p ++ a) r run run_size in (
-        (λ i. drop (size i - run) (old)) ∙ ap (λ xs. drop (length xs - run) xs) pieces ∙ sides.0,
-        (λ i. take (size i - run) (old)) ∙ ap (λ xs. take (length xs - run) xs) pieces ∙ sides.1,
-      )
+  cut = grind (common_steps, arith, whole, append_assoc, parts, run_size)
 
   turned_parts : turned_rows ≡ r ++ (p ++ a)
   turned_parts = turned_is ∙ (λ i. cut.0 i ++ cut.1 i)
@@ -307,39 +274,24 @@ module _ {E : Type 0} (picked : E → E → E) (old : List (Key × E)) (n left r
 
   -- after the last `run` rows were moved to the front of the ring buffer, the last row is the row that was just before them
   last_at : (d : Key × E) → 0 < later → get_or a (later - 1) d ≡ get_or old (n - (run + 1)) d
-  last_at d some =
-      let run_in = is_run.within in
-      get_or-take later own (later - 1) d (omega arith) ∙ get_or-drop (n - left) old (later - 1) d
-      ∙ ap (λ k. get_or old k d) (let same : n - left + (later - 1) ≡ n - (run + 1) = omega arith in same)
+  last_at = search (rules, get_or-take, get_or-drop)
 
   last_turned : (d : Key × E) → 0 < later → get_or turned_rows (n - 1) d ≡ get_or old (n - (run + 1)) d
-  last_turned d some =
-      let run_in = is_run.within in
-      let sizes = length-append r p in
-      let r_size = run_size in
-      let p_size = length-take-le (n - left) old (omega arith) in
-      ap (λ xs. get_or xs (n - 1) d) (turned_parts ∙ sym (append_assoc r p a))
-      ∙ get_or-append_right (r ++ p) a (n - later) (n - 1) d (omega arith) (omega arith)
-      ∙ ap (λ k. get_or a k d) (let same : n - 1 - (n - later) ≡ later - 1 = omega arith in same)
-      ∙ last_at d some
+  last_turned = grind (common_steps, arith, length-append, run_size, length-take-le, turned_parts, append_assoc, get_or-append_right, last_at)
 
   pub one_placed : (new : List (Key × E)) → ((d : Key × E) → 0 < later → is_level_at (key_meant row.0) turned_rows n d ≡ false)
       → new ≡ row ∷ turned_rows → IsPlaced picked old left row new later
-  one_placed new other new_is =
-      placed_of picked old left row new later
-      (none_placed picked p a r row old new left later whole left_size (new_is ∙ ap (λ xs. row ∷ xs) turned_parts) a_size
-      (λ up. (below up, run_above up)))
+  one_placed new other new_is = placed_of _ old _ row _ later
+      (none_placed picked _ a _ row _ new _ later whole left_size (new_is ∙ ap (λ xs. row ∷ xs) turned_parts) a_size (λ up. (below up, run_above up)))
     where
       below : AreAscending (a ++ r) → AllBelow a (row ∷ [])
-      below up =
-          below_row a (later - 1) row row (front_ascends a r up) (λ some.
+      below up = below_row a _ row _ (front_ascends a _ up) (λ some.
           let from = a_size in
           let one : 0 < later = omega arith in
           let run_in = is_run.within in (
             omega arith,
-            below_is (row_cmp (get_or a (later - 1) row) row)
-                (ap (λ x. is_gt (row_cmp x row)) (last_at row one) ∙ is_run.below row (omega arith))
-                (ap (λ x. is_eq (row_cmp x row)) (last_at row one ∙ sym (last_turned row one)) ∙ other row one),
+            below_is (row_cmp (get_or a (later - 1) row) row) (ap (λ x. is_gt (row_cmp x row)) (last_at _ one) ∙ is_run.below row (omega arith))
+                (ap (λ x. is_eq (row_cmp x row)) (last_at row one ∙ sym (last_turned _ one)) ∙ other row one),
           ))
 
   pub level_is_placed : (new taken : List (Key × E)) (top : Key × E) → turned_rows ≡ taken ++ top ∷ [] → row_cmp top row ≡ Equal → 0 < later
@@ -353,40 +305,23 @@ module _ {E : Type 0} (picked : E → E → E) (old : List (Key × E)) (n left r
       ∙ take_more a (later - 1) top (omega arith) in
       let shape : turned_rows ≡ (r ++ (p ++ b)) ++ end ∷ [] =
       turned_parts ∙ ap (λ xs. r ++ (p ++ xs)) split ∙ ap (λ xs. r ++ xs) (sym (append_assoc p b (end ∷ []))) ∙ sym (append_assoc r (p ++ b) (end ∷ [])) in
-      let both = same_last taken (r ++ (p ++ b)) top end (sym taken_is ∙ shape) in
+      let both = same_last _ _ _ _ (sym taken_is ∙ shape) in
       let whole_split : a ++ r ≡ b ++ (top ∷ r) = ap (λ xs. xs ++ r) split ∙ append_assoc b (end ∷ []) r ∙ ap (λ x. b ++ (x ∷ r)) (sym both.1) in
-      placed_of picked old left row new (later - 1)
-      (level_placed picked p b r top row old new left (later - 1) (whole ∙ ap (λ xs. p ++ xs) whole_split) (left_size ∙ ap length whole_split)
-      (new_is ∙ ap (λ xs. (top.0, picked top.1 row.1) ∷ xs) both.0)
-      (sym (length-take-le (later - 1) a (omega arith))) level)
+      placed_of _ _ _ _ _ (later - 1) (level_placed _ _ _ _ _ _ _ _ _ (later - 1) (whole ∙ ap (λ xs. p ++ xs) whole_split) (left_size ∙ ap length whole_split)
+      (new_is ∙ ap (λ xs. (top.0, picked top.1 row.1) ∷ xs) both.0) (sym (length-take-le (later - 1) a (omega arith))) level)
 
 -- when no row of the second table remains, the remaining rows of the first table, followed by the placed rows, are the join
 pub all_placed : {E : Type 0} (picked : E → E → E) (first second rows rest turned out : List (Key × E)) (n left : ℕ) → n ≡ length rows → rest ≡ []
     → AreAscending (left_rows left rows) → IsJoinWith picked first second left rows rest → out ≡ turned
     → turned ≡ drop (n - left) rows ++ take (n - left) rows → IsJoinOfRows picked first second out
-all_placed {E = E} picked first second rows rest turned out n left size none up before is turned_is =
-    let own = left_rows left rows in
-    let alone : IsJoinOfRows picked own [] own = subst (IsJoinOfRows picked own []) (walk_none picked own) (walk_joins picked own [] up tt) in
-    let whole : out ≡ own ++ take (length rows - left) rows = is ∙ turned_is ∙ ap (λ k. drop (k - left) rows ++ take (k - left) rows) size in
-    subst (IsJoinOfRows picked first second) (sym whole)
-    (before.joins own (subst (λ (xs : List (Key × E)). IsJoinOfRows picked own xs own) (sym none) alone))
+all_placed = search (rules, walk_none, walk_joins, whole)
 
 -- at first all rows of the first table remain, and no row is placed
 pub none_yet : {E : Type 0} (picked : E → E → E) (first second rows : List (Key × E)) (left : ℕ) → rows ≡ first → left ≡ length first
     → (left_rows left rows ≡ first) × IsJoinWith picked first second left rows second
-none_yet {E = E} picked first second rows left same size =
-    let sides = parts [] rows left (size ∙ ap length (sym same)) in (
-      sides.0 ∙ same,
-      record {
-        joins = λ lower is.
-            subst (IsJoinOfRows picked first second) (sym (append-nil lower) ∙ ap (λ xs. lower ++ xs) (sym sides.1))
-            (subst (λ (xs : List (Key × E)). IsJoinOfRows picked xs second lower) (sides.0 ∙ same) is);
-      },
-    )
+none_yet = search (rules, parts, append-nil)
 
 -- if no row could be popped from the second table, the table has no rows left
 pub none_popped : {A : Type 0} (P Q : Type 0) (popped : Option A) (rows : List A) (n : ℕ) → ((x : A) → popped ≡ Some x → ⊥) → n ≡ length rows
     → MatchOption popped ((n ≡ 0) × P) (λ _. Q) → rows ≡ []
-none_popped P Q None [] n never size done = refl
-none_popped P Q None (x ∷ xs) n never size done = let none = done.0 in absurd (omega arith)
-none_popped P Q (Some x) rows n never size done = absurd (never x refl)
+none_popped = grind (common_steps, arith)

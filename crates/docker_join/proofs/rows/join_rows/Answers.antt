@@ -7,8 +7,7 @@ use Rattle.docker_join.proofs.rows.join_rows.Goals as goal
 
 pub loop-row-init : goal.loop-row-init
 loop-row-init g c =
-    let start = none_yet g.E.Pick.picked c.args.first.items c.args.second.items c.from_vec-rows.result.items c.len-left.result c.from_vec-rows.ensures.items
-    (c.len-left.ensures ∙ c.args.first.ok.0) in
+    let start = none_yet _ _ _ _ _ c.from_vec-rows.ensures.items (c.len-left.ensures ∙ c.args.first.ok.0) in
     record {
       left = omega arith;
       room = omega arith;
@@ -35,7 +34,5 @@ loop-row-preserved g c =
 pub returns : goal.returns
 returns g c =
     let at = c.loop-row in
-    all_placed g.E.Pick.picked c.args.first.items c.args.second.items at.rows.items at.second.items c.rotate_right.new.self.items
-    c.into_vec.result.items at.rows.len at.left at.rows.ok.0
-    (none_popped _ _ c.pop.result at.second.items at.second.len c.in_default.not-Some at.second.ok.0 c.pop.ensures.cases)
+    all_placed _ _ _ _ _ _ _ _ _ at.rows.ok.0 (none_popped _ _ _ _ _ c.in_default.not-Some at.second.ok.0 c.pop.ensures.cases)
     at.invariant.own at.invariant.joined c.into_vec.ensures.items c.rotate_right.ensures.items
