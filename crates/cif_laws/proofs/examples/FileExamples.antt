@@ -1,11 +1,11 @@
 -- The example file is a CIF file, and its text has no fault. Two other texts have a fault.
-use Rattle.std.proofs.Common.{◌≡◌, ℕ, List, [], ◌∷◌, ◌++◌, refl, inl, inr, lit≤, ◌<◌, arith, ap, sym, ◌∙◌}
+use Rattle.std.proofs.Common.{◌≡◌, ℕ, List, [], ◌∷◌, ◌++◌, refl, inl, inr, lit≤, ◌<◌, ap, sym, ◌∙◌, rules}
 use Rattle.std.proofs.lemmas.List.Elements.{All-from_recursion}
 use Rattle.docker_model.specs.records.Record.{HasKind, header, kind_of}
 use Rattle.docker_model.specs.file.File.{IsFile, IsUnit, BeginsFile}
 use Rattle.docker_model.specs.file.Text.{lines_of}
-use Rattle.docker_model.specs.file.FileFault.{IsFileText, IsFileFault, IsOutOfPlace, HoldsOf, FileCause, cause_rank, too_many, after_trailer}
-use Rattle.docker_model.specs.file.FileFault.{bad_length, bad_byte, bad_kind, bad_place, bad_field, third_midnight, no_end}
+use Rattle.docker_model.specs.file.FileFault.{IsFileText, IsFileFault, IsOutOfPlace, HoldsOf, FileCause, cause_rank}
+use Rattle.docker_model.specs.file.FileFault.{bad_place, no_end}
 use Rattle.cif_laws.proofs.records.Builders.{f2, f2_header, f2_basic, f2_origin, f2_terminus, f2_schedule, zz}
 use Rattle.cif_laws.proofs.schedules.WorkedSchedule.{record_by_test, f2_is_schedule}
 
@@ -65,15 +65,7 @@ basic_out_of_place : IsOutOfPlace [] f2_basic
 basic_out_of_place next same begins = let kind = sym same ∙ file_begins next begins.0 begins.1 in cc
 
 basic_is_cause : (other : FileCause) → cause_rank other < 5 → ¬ HoldsOf 10 [] f2_basic other
-basic_is_cause too_many below holds = omega arith
-basic_is_cause after_trailer below holds = let inside = holds.2 in omega arith
-basic_is_cause bad_length below holds = holds refl
-basic_is_cause (bad_byte at) below holds = cc
-basic_is_cause bad_kind below holds = cc
-basic_is_cause bad_place below holds = omega arith
-basic_is_cause (bad_field at) below holds = omega arith
-basic_is_cause third_midnight below holds = omega arith
-basic_is_cause no_end below holds = holds
+basic_is_cause = search rules
 
 -- the text with only a basic schedule has the fault `bad_place` at record 1
 pub basic_first : IsFileFault 10 (f2_basic ++ 10 ∷ []) (record { number = 1; cause = bad_place })

@@ -1,11 +1,9 @@
 -- If two changes of a file have the same key, the second belongs to a later record. Two changes of
 -- one record have different keys.
-use Rattle.std.proofs.Common.{◌≡◌, ℕ, ◌+◌, ◌<◌, ◌≤◌, List, [], ◌∷◌, map, inl, inr, ◌⊎◌, refl, arith, ap, sym, Bool, true, false, Some}
+use Rattle.std.proofs.Common.{◌≡◌, ℕ, ◌+◌, ◌<◌, ◌≤◌, List, [], ◌∷◌, map, inl, inr, ◌⊎◌, refl, arith, Bool, false, rules}
 use Rattle.std.specs.Prelude.{Option, ◌||◌}
 use Rattle.std.specs.List.{AllByRecursion, AllPairs}
-use Rattle.std.specs.Cmp.Lexicographic.{other_text}
-use Rattle.docker_model.specs.records.Record.{Kind, tiploc_insert, tiploc_amend, tiploc_delete, association, basic_schedule, kind_of, columns}
-use Rattle.docker_model.specs.records.Clock.{is_blank}
+use Rattle.docker_model.specs.records.Record.{Kind, kind_of}
 use Rattle.docker_model.specs.file.Change.{Key, tiploc_key, Act, Change, tiploc_named, new_tiploc_named}
 use Rattle.docker_model.specs.file.Change.{keeps_code, acts_by_kind, changes_of_record, changes_from, changes}
 use Rattle.cif_laws.proofs.lists.Later.{AllLater, later_append_all, later_weaker_always, pairs_from_later}
@@ -34,8 +32,7 @@ number_from n (line ∷ lines) =
 
 -- if `a || b` is false, so is `b`
 second_of : (a b : Bool) → (a || b) ≡ false → b ≡ false
-second_of true b h = cc
-second_of false b h = h
+second_of = search rules
 
 code_of : Key → List ℕ
 code_of (tiploc_key code) = code
@@ -43,8 +40,7 @@ code_of _ = []
 
 codes_differ : (line : List ℕ) → keeps_code line ≡ false → ¬ (tiploc_named line ≡ new_tiploc_named line)
 unfolding code_of
-codes_differ line h same =
-    other_text (columns 73 79 line) (columns 3 9 line) (sym (second_of (is_blank (columns 73 79 line)) _ h)) (sym (ap code_of same))
+codes_differ = search (rules, second_of, code_of)
 
 -- two changes have different keys
 abbrev KeysDiffer : Change → Change → Type 0
@@ -52,21 +48,10 @@ KeysDiffer first second = ¬ (first.key ≡ second.key)
 
 acts_differ : (n : ℕ) (kind : Option Kind) (line : List ℕ) (following : List (List ℕ))
     → AllLater KeysDiffer (changes_of_acts n (acts_by_kind kind line following))
-acts_differ n (Some tiploc_amend) line following = by (keeps_code line) refl
-  where
-    by : (b : Bool) → keeps_code line ≡ b → AllLater KeysDiffer (changes_of_acts n (acts_by_kind (Some tiploc_amend) line following))
-    by true h = rw h (tt, tt)
-    by false h = rw h ((codes_differ line h, tt), (tt, tt))
-acts_differ n (Some tiploc_insert) line following = (tt, tt)
-acts_differ n (Some tiploc_delete) line following = (tt, tt)
-acts_differ n (Some association) line following = (tt, tt)
-acts_differ n (Some basic_schedule) line following = (tt, tt)
-acts_differ n _ line following = tt
+acts_differ = search (rules, codes_differ)
 
 acts_apart : (n : ℕ) (kind : Option Kind) (line : List ℕ) (following : List (List ℕ)) → AllLater Apart (changes_of_acts n (acts_by_kind kind line following))
-acts_apart n kind line following =
-    later_weaker_always KeysDiffer Apart (λ first second differ. inr differ)
-    (changes_of_acts n (acts_by_kind kind line following)) (acts_differ n kind line following)
+acts_apart = search (rules, later_weaker_always, acts_differ)
 
 -- for any two changes of these records, the second change belongs to a later record than the first,
 -- or the two changes have different keys
@@ -78,11 +63,6 @@ changes_apart n (line ∷ lines) =
     (all_weaker (λ (c : Change). c.number ≡ n) (λ c. AllByRecursion (Apart c) (changes_from (n + 1) lines))
     (λ c same. all_weaker (λ (d : Change). n + 1 ≤ d.number) (Apart c) (λ d more. inl (omega arith)) (changes_from (n + 1) lines) (number_from (n + 1) lines))
     (changes_of_record n line lines) (number_in n (acts_by_kind (kind_of line) line lines)))
-
--- two changes of one record have different keys
-pub record_keys_differ : (number : ℕ) (line : List ℕ) (following : List (List ℕ)) → AllPairs KeysDiffer (changes_of_record number line following)
-record_keys_differ number line following =
-    pairs_from_later KeysDiffer (changes_of_record number line following) (acts_differ number (kind_of line) line following)
 
 -- two changes of a file that belong to the same record have different keys
 pub file_keys_differ : (file : List (List ℕ)) → AllPairs (λ (first second : Change). first.number ≡ second.number → ¬ (first.key ≡ second.key)) (changes file)

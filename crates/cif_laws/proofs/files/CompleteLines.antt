@@ -1,6 +1,6 @@
 -- A text whose bytes are still being read has complete lines, each ended by a line feed, and an
 -- incomplete line after them.
-use Rattle.std.proofs.Common.{ℕ, ◌<◌, List, length, Bool, arith, ◌≡◌, ◌+◌, [], ◌∷◌, ◌++◌, refl, ap, sym}
+use Rattle.std.proofs.Common.{ℕ, ◌<◌, List, length, Bool, arith, ◌≡◌, ◌+◌, [], ◌∷◌, ◌++◌, refl, ap, sym, rules}
 use Rattle.std.proofs.Common.{◌∙◌, true, false, map, append-nil, ◌≤◌, subst, cond, length-append}
 use Rattle.std.specs.Prelude.{◌==◌, nat_le, if◌then◌else◌}
 use Rattle.std.specs.List.{slice_split, onto_first}
@@ -51,19 +51,14 @@ going_on bytes (piece ∷ pieces) = (bytes ++ piece) ∷ pieces
 
 at_feed : (pieces more : Lines) → 0 < length pieces → [] ∷ (but_last pieces ++ going_on (last_of pieces) more) ≡ but_last ([] ∷ pieces) ++ going_on
     (last_of ([] ∷ pieces)) more
-at_feed [] more some = absurd (omega arith)
-at_feed (piece ∷ pieces) more some = refl
+at_feed = search rules
 
 at_byte : (b : ℕ) (pieces more : Lines) → 0 < length pieces
     → onto_first b (but_last pieces ++ going_on (last_of pieces) more) ≡ but_last (onto_first b pieces) ++ going_on (last_of (onto_first b pieces)) more
-at_byte b [] more some = absurd (omega arith)
-at_byte b (piece ∷ []) [] some = refl
-at_byte b (piece ∷ []) (first ∷ more) some = refl
-at_byte b (piece ∷ next ∷ pieces) more some = refl
+at_byte = search rules
 
 go_on_empty : (pieces : Lines) → 0 < length pieces → pieces ≡ going_on [] pieces
-go_on_empty [] some = absurd (omega arith)
-go_on_empty (piece ∷ pieces) some = refl
+go_on_empty = search rules
 
 -- suppose that a text and the bytes `more` are each split into pieces. When `more` is appended to
 -- the text, the first piece of `more` extends the last piece of the text. The other pieces of
@@ -71,31 +66,20 @@ go_on_empty (piece ∷ pieces) some = refl
 pub split_append : (p : ℕ → Bool) (text more : List ℕ) → slice_split p (text ++ more) ≡ but_last (slice_split p text) ++ going_on (last_of (slice_split p text))
     (slice_split p more)
 split_append p [] more = go_on_empty (slice_split p more) (some_pieces p more)
-split_append p (b ∷ text) more = by (p b) refl (split_append p text more)
-  where
-    by : (t : Bool) → p b ≡ t → slice_split p (text ++ more) ≡ but_last (slice_split p text) ++ going_on (last_of (slice_split p text)) (slice_split p more)
-        → slice_split p ((b ∷ text) ++ more) ≡ but_last (slice_split p (b ∷ text)) ++ going_on (last_of (slice_split p (b ∷ text))) (slice_split p more)
-    by true h rest =
-        slice_split-cons_yes p b (text ++ more) h ∙ ap (λ pieces. [] ∷ pieces) rest ∙ at_feed (slice_split p text) (slice_split p more) (some_pieces p text)
-        ∙ (λ i. but_last (sym (slice_split-cons_yes p b text h) i) ++ going_on (last_of (sym (slice_split-cons_yes p b text h) i)) (slice_split p more))
-    by false h rest =
-        slice_split-cons_no p b (text ++ more) h ∙ ap (onto_first b) rest ∙ at_byte b (slice_split p text) (slice_split p more) (some_pieces p text)
-        ∙ (λ i. but_last (sym (slice_split-cons_no p b text h) i) ++ going_on (last_of (sym (slice_split-cons_no p b text h) i)) (slice_split p more))
+split_append p (b ∷ text) more = grind (arith, slice_split-cons_yes, at_feed, some_pieces, slice_split-cons_no, at_byte, (split_append p text more))
 
 -- ---- the lines of a text are its complete lines and its incomplete line
 
 -- the lines of a text are its complete lines, followed by the incomplete line if it isn't empty
 pub lines_of_told : (text : List ℕ) → lines_of text ≡ complete_lines text ++ line_left (open_line text)
-lines_of_told text =
-    ap (map strip_carriage_return) (without_last (pieces_of text)) ∙ map-append strip_carriage_return (but_last (pieces_of text)) (last_piece (open_line text))
+lines_of_told = search (rules, without_last, map-append)
 
 -- if the incomplete line is empty, the lines of a text are its complete lines
 pub lines_of_ended : (text : List ℕ) → open_line text ≡ [] → lines_of text ≡ complete_lines text
 lines_of_ended text none = lines_of_told text ∙ (λ i. complete_lines text ++ line_left (none i)) ∙ append-nil (complete_lines text)
 
 line_left_some : (piece : List ℕ) → 0 < length piece → line_left piece ≡ strip_carriage_return piece ∷ []
-line_left_some [] some = absurd (omega arith)
-line_left_some (b ∷ bytes) some = refl
+line_left_some = search rules
 
 -- an incomplete line that isn't empty is the last line of the text
 pub lines_of_open : (text : List ℕ) → 0 < length (open_line text) → lines_of text ≡ complete_lines text ++ strip_carriage_return (open_line text) ∷ []
@@ -103,11 +87,7 @@ lines_of_open text some = lines_of_told text ∙ ap (λ lines. complete_lines te
 
 -- the number of complete lines equals the number of line feeds
 pub length_complete_lines : (text : List ℕ) → length (complete_lines text) ≡ feeds text
-length_complete_lines text =
-    let size = length-slice_split (λ b. b == 10) text in
-    let front = length_but_last (pieces_of text) (some_pieces (λ b. b == 10) text) in
-    let mapped = length-map (but_last (pieces_of text)) strip_carriage_return in
-    omega arith
+length_complete_lines = search (rules, length-slice_split, length_but_last, some_pieces, length-map)
 
 -- `sure_lines` is the number of complete lines, plus one if the incomplete line has more than 81
 -- bytes
@@ -118,50 +98,32 @@ sure_lines_is text = ap (λ n. n + (if nat_le 82 (length (open_line text)) then 
 
 -- appending bytes without a line feed leaves the complete lines unchanged
 pub complete_lines_plain : (text piece : List ℕ) → HasNoFeed piece → complete_lines (text ++ piece) ≡ complete_lines text
-complete_lines_plain text piece plain =
-    ap (λ pieces. map strip_carriage_return (but_last pieces))
-    (split_append (λ b. b == 10) text piece ∙ (λ i. but_last (pieces_of text) ++ going_on (open_line text) (slice_split_none (λ b. b == 10) piece plain i)))
-    ∙ ap (map strip_carriage_return) (but_last_append (but_last (pieces_of text)) (open_line text ++ piece) [] ∙ append-nil (but_last (pieces_of text)))
+complete_lines_plain = search (rules, split_append, slice_split_none, but_last_append, append-nil)
 
 -- appending bytes without a line feed to a text appends these bytes to the text's incomplete line
 pub open_line_plain : (text piece : List ℕ) → HasNoFeed piece → open_line (text ++ piece) ≡ open_line text ++ piece
-open_line_plain text piece plain =
-    ap last_of (split_append (λ b. b == 10) text piece
-    ∙ (λ i. but_last (pieces_of text) ++ going_on (open_line text) (slice_split_none (λ b. b == 10) piece plain i)))
-    ∙ last_of_append (but_last (pieces_of text)) (open_line text ++ piece) []
+open_line_plain = search (rules, split_append, slice_split_none, last_of_append)
 
 pieces_cut : (text front rest : List ℕ) → HasNoFeed front → pieces_of (text ++ (front ++ 10 ∷ rest)) ≡ but_last (pieces_of text) ++
     (open_line text ++ front) ∷ pieces_of rest
-pieces_cut text front rest plain =
-    split_append (λ b. b == 10) text (front ++ 10 ∷ rest)
-    ∙ (λ i. but_last (pieces_of text) ++ going_on (open_line text) (slice_split_at (λ b. b == 10) front 10 rest plain refl i))
+pieces_cut = search (rules, split_append, slice_split_at)
 
 but_first : (piece : List ℕ) (pieces : Lines) → 0 < length pieces → but_last (piece ∷ pieces) ≡ piece ∷ but_last pieces
-but_first piece [] some = absurd (omega arith)
-but_first piece (next ∷ pieces) some = refl
+but_first = search rules
 
 last_rest : (piece : List ℕ) (pieces : Lines) → 0 < length pieces → last_of (piece ∷ pieces) ≡ last_of pieces
-last_rest piece [] some = absurd (omega arith)
-last_rest piece (next ∷ pieces) some = refl
+last_rest = search rules
 
 -- if the appended bytes contain a line feed, the bytes before the first line feed complete the
 -- incomplete line. Then come the complete lines of the bytes after this line feed
 pub complete_lines_cut : (text front rest : List ℕ) → HasNoFeed front
     → complete_lines (text ++ (front ++ 10 ∷ rest)) ≡ complete_lines text ++ strip_carriage_return (open_line text ++ front) ∷ complete_lines rest
-complete_lines_cut text front rest plain =
-    ap (λ pieces. map strip_carriage_return (but_last pieces)) (pieces_cut text front rest plain)
-    ∙ ap (map strip_carriage_return)
-    (but_last_append (but_last (pieces_of text)) (open_line text ++ front) (pieces_of rest)
-    ∙ ap (λ pieces. but_last (pieces_of text) ++ pieces) (but_first (open_line text ++ front) (pieces_of rest) (some_pieces (λ b. b == 10) rest)))
-    ∙ map-append strip_carriage_return (but_last (pieces_of text)) ((open_line text ++ front) ∷ but_last (pieces_of rest))
+complete_lines_cut = search (rules, pieces_cut, but_last_append, but_first, some_pieces, map-append)
 
 -- after bytes with a line feed are appended, the incomplete line of the text is the incomplete line
 -- of the bytes after the first line feed
 pub open_line_cut : (text front rest : List ℕ) → HasNoFeed front → open_line (text ++ (front ++ 10 ∷ rest)) ≡ open_line rest
-open_line_cut text front rest plain =
-    ap last_of (pieces_cut text front rest plain)
-    ∙ last_of_append (but_last (pieces_of text)) (open_line text ++ front) (pieces_of rest)
-    ∙ last_rest (open_line text ++ front) (pieces_of rest) (some_pieces (λ b. b == 10) rest)
+open_line_cut = search (rules, pieces_cut, last_of_append, last_rest, some_pieces)
 
 -- like `complete_lines_cut`, for bytes whose only line feed is the last byte
 pub complete_lines_ended : (text front : List ℕ) → HasNoFeed front → complete_lines (text ++ (front ++ 10 ∷ [])) ≡ complete_lines text ++ strip_carriage_return

@@ -1,24 +1,25 @@
 -- The cause of the fault at a record, computed from the `Place` that a reader has reached just
 -- before this record. A text that isn't the text of a file has a fault.
-use Rattle.std.proofs.Common.{◌≡◌, refl, true, [], ◌∷◌, Some, None, ℕ, ◌+◌, List, ◌++◌, sym, ◌∙◌, Bool, false, cond, ◌⊎◌, inl, inr}
+use Rattle.std.proofs.Common.{◌≡◌, refl, true, [], ◌∷◌, Some, None, ℕ, ◌+◌, List, ◌++◌, sym, ◌∙◌, Bool, false, cond, ◌⊎◌, inl, inr, rules}
+use Rattle.std.proofs.lemmas.Grind.{common_steps}
 use Rattle.std.proofs.Common.{Contains, ap, subst, ◌<◌, ◌≤◌, length, arith, eqb-true, append_assoc, append-nil, length-append}
-use Rattle.std.specs.Prelude.{Any, Option, is_some, ◌&&◌, ◌||◌, nat_le, is_none, ◌==◌}
+use Rattle.std.specs.Prelude.{Any, Option, is_some, ◌&&◌, ◌||◌, nat_le, is_none}
 use Rattle.std.specs.List.{flat_map, AllByRecursion}
 use Rattle.std.proofs.lemmas.Bool.{leb-false, leb-true, eqb-false}
 use Rattle.std.proofs.lemmas.List.Elements.{Contains-append_right, All-from_recursion}
-use Rattle.docker_model.specs.records.Record.{Lines, trailer, HasKind, kind_of, Kind, basic_schedule, intermediate_location}
-use Rattle.docker_model.specs.records.Record.{change_en_route, origin_location, extra_details, IsRecord, leftmost_bad_byte}
+use Rattle.docker_model.specs.records.Record.{Lines, trailer, HasKind, kind_of, Kind, basic_schedule}
+use Rattle.docker_model.specs.records.Record.{IsRecord, leftmost_bad_byte}
 use Rattle.docker_model.specs.records.Field.{HasGoodFields, leftmost_bad_field, is_deletion}
 use Rattle.docker_model.specs.file.Journey.{midnights}
 use Rattle.docker_model.specs.file.File.{IsFile, follows_basic, IsWithinJourney, AreExtraDetails, first_record, BeginsFile}
 use Rattle.docker_model.specs.file.Text.{lines_of}
-use Rattle.docker_model.specs.file.FileFault.{EndsInSchedule, HasThirdFall, FileCause, too_many, after_trailer, bad_length, bad_byte}
+use Rattle.docker_model.specs.file.FileFault.{EndsInSchedule, HasThirdFall, FileCause, after_trailer}
 use Rattle.docker_model.specs.file.FileFault.{bad_kind, bad_place, bad_field, third_midnight, no_end, cause_rank, IsOutOfPlace}
 use Rattle.docker_model.specs.file.FileFault.{HoldsOf, IsCause, IsRecordFault, IsUnended, FileFault, IsFileFault, IsFileText}
 use Rattle.cif_laws.specs.RecordTest.{has_good_fields, is_record}
-use Rattle.cif_laws.specs.ScheduleStage.{may_end, Stage, stage_after, after_basic, after_details, in_journey, after_journey, is_sound_next}
-use Rattle.cif_laws.specs.FileStage.{Place, after_end, next_place, place_from, before_header, between_units, in_schedule}
-use Rattle.cif_laws.specs.FileStage.{in_stage_or, place_by_kind, unit_by_kind, is_sound_at, IsPlaceOf, place_at}
+use Rattle.cif_laws.specs.ScheduleStage.{Stage, stage_after, is_sound_next}
+use Rattle.cif_laws.specs.FileStage.{Place, after_end, next_place, place_from, before_header, in_schedule}
+use Rattle.cif_laws.specs.FileStage.{place_by_kind, unit_by_kind, is_sound_at, IsPlaceOf, place_at}
 use Rattle.cif_laws.specs.RecordCause.{is_after_end, with_column, cause_of, place_cause, length_cause, field_cause, end_cause, byte_cause, kind_cause}
 use Rattle.cif_laws.proofs.lists.Membership.{Contains-cons, nil-Contains, cons-Contains-first}
 use Rattle.cif_laws.proofs.lists.AllOf.{all_weaker, all_append}
@@ -32,8 +33,7 @@ use Rattle.cif_laws.proofs.files.FileStages.{begins_iff_place, file_iff_place, p
 -- ---- records that include a trailer lead the reader to `after_end`
 
 end_by_test : (place : Place) → is_after_end place ≡ true → place ≡ after_end
-end_by_test after_end h = refl
-end_by_test _ h = cc
+end_by_test = search rules
 
 end_stays : (rest : Lines) (final : Place) → place_from after_end rest ≡ Some final → final ≡ after_end
 end_stays [] final found = cc
@@ -42,17 +42,7 @@ end_stays (line ∷ rest) final found =
     let none : None ≡ Some step.0 = (next_by_test after_end line step.0 step.1).place_is in cc
 
 trailer_place : (place next : Place) (line : List ℕ) → place_by_kind place (Some trailer) line ≡ Some next → next ≡ after_end
-trailer_place before_header next line found = cc
-trailer_place between_units next line found = cc
-trailer_place (in_schedule stage lines) next line found = by (may_end stage lines) refl
-  where
-    reached : cond (may_end stage lines) (Some after_end) None ≡ Some next
-    reached = (λ i. in_stage_or (lines ++ line ∷ []) (sym (stage_stops stage (Some trailer) refl) i) (cond (may_end stage lines) (Some after_end) None)) ∙ found
-
-    by : (b : Bool) → may_end stage lines ≡ b → next ≡ after_end
-    by true h = let same : Some after_end ≡ Some next = (λ i. cond (sym h i) (Some after_end) None) ∙ reached in cc
-    by false h = let none : None ≡ Some next = (λ i. cond (sym h i) (Some after_end) None) ∙ reached in cc
-trailer_place after_end next line found = cc
+trailer_place = search (rules, stage_stops)
 
 -- records that include a trailer can't lead the reader to any `Place` other than `after_end`
 trailer_leads : (records : Lines) (place final : Place) (line : List ℕ) → place_from place records ≡ Some final → Contains records line → HasKind trailer line
@@ -73,35 +63,19 @@ trailer_leads (first ∷ rest) place final line found among kind =
 
 -- one of the records of a file is a trailer
 trailer_among : (records : Lines) → IsFile records → Any (HasKind trailer) records
-trailer_among records is =
-    subst (λ r. Any (HasKind trailer) r) (sym is.whole)
-    (let among = Contains-append_right (is.first ∷ flat_map (λ unit. unit) is.units) (is.last ∷ []) is.last (cons-Contains-first is.last []) in
+trailer_among records is = subst (λ r. Any (HasKind trailer) r) (sym is.whole)
+    (let among = Contains-append_right (is.first ∷ flat_map (λ unit. unit) is.units) (is.last ∷ []) is.last (cons-Contains-first _ []) in
     (among.0, is.last, among.1, among.2, is.trailer_kind))
 
 -- ---- which kinds of record are allowed at a `Place`
 
 same_unit_by_kind : (kind : Option Kind) (first second : List ℕ) → is_some (unit_by_kind kind first) ≡ is_some (unit_by_kind kind second)
-same_unit_by_kind None first second = refl
-same_unit_by_kind (Some basic_schedule) first second = refl
-same_unit_by_kind (Some _) first second = refl
+same_unit_by_kind = search rules
 
 -- whether a record is allowed at a `Place` depends only on the record's kind
 pub same_place_by_kind : (place : Place) (kind : Option Kind) (first second : List ℕ) → is_some (place_by_kind place kind first) ≡ is_some
     (place_by_kind place kind second)
-same_place_by_kind before_header kind first second = refl
-same_place_by_kind between_units kind first second = same_unit_by_kind kind first second
-same_place_by_kind (in_schedule stage lines) kind first second = by (stage_after stage kind) (same_unit_by_kind kind first second)
-  where
-    by : (after : Option Stage) → is_some (unit_by_kind kind first) ≡ is_some (unit_by_kind kind second)
-        → is_some (in_stage_or (lines ++ first ∷ []) after (cond (may_end stage lines) (unit_by_kind kind first) None))
-        ≡ is_some (in_stage_or (lines ++ second ∷ []) after (cond (may_end stage lines) (unit_by_kind kind second) None))
-    by (Some next) same = refl
-    by None same = ended (may_end stage lines)
-      where
-        ended : (b : Bool) → is_some (cond b (unit_by_kind kind first) None) ≡ is_some (cond b (unit_by_kind kind second) None)
-        ended true = same
-        ended false = refl
-same_place_by_kind after_end kind first second = refl
+same_place_by_kind = search (rules, same_unit_by_kind)
 
 -- ---- which record makes a schedule pass midnight a third time
 
@@ -109,21 +83,13 @@ no_basic : (line : List ℕ) → Follows line → ¬ HasKind basic_schedule line
 no_basic line follows basic = let bad : false ≡ true = sym (ap follows_basic basic) ∙ follows in cc
 
 within_follows : (line : List ℕ) → IsWithinJourney line → Follows line
-within_follows line (inl call) = follows_by intermediate_location line call refl
-within_follows line (inr change) = follows_by change_en_route line change refl
+within_follows = search (rules, follows_by)
 
 shape_follows : (stage : Stage) (extra journey : Lines) → HasShape stage extra journey → AllByRecursion Follows journey
-shape_follows after_basic extra journey shape = subst (AllByRecursion Follows) (sym shape.1) tt
-shape_follows after_details extra journey shape = subst (AllByRecursion Follows) (sym shape.1) tt
-shape_follows in_journey extra journey shape =
-    let open_journey = shape.1 in
-    subst (AllByRecursion Follows) (sym open_journey.2)
-    (follows_by origin_location open_journey.0 open_journey.3 refl, all_weaker IsWithinJourney Follows within_follows open_journey.1 open_journey.4)
-shape_follows after_journey extra journey shape = journey_follows journey shape.1
+shape_follows = search (rules, follows_by, all_weaker, within_follows, journey_follows)
 
 details_follow : (extra : Lines) → AreExtraDetails extra → AllByRecursion Follows extra
-details_follow extra (inl none) = subst (AllByRecursion Follows) (sym none) tt
-details_follow extra (inr one) = subst (AllByRecursion Follows) (sym one.1) (follows_by extra_details one.0 one.2 refl, tt)
+details_follow = search (rules, follows_by)
 
 -- if records end with an incomplete schedule, its lines are the last schedule among these records
 pub ends_in_schedule : (stage : Stage) (lines records : Lines) → IsWithin stage lines records → EndsInSchedule records lines
@@ -134,18 +100,15 @@ ends_in_schedule stage lines records within = record {
   whole = within.whole;
   schedule = within.front.whole;
   kind = within.front.kind;
-  last = All-from_recursion (λ line. ¬ HasKind basic_schedule line) (within.front.extra ++ within.front.journey)
-      (all_weaker Follows (λ line. ¬ HasKind basic_schedule line) no_basic (within.front.extra ++ within.front.journey)
-      (all_append Follows within.front.extra within.front.journey
-      (details_follow within.front.extra (details_of stage within.front.extra within.front.journey within.front.shape))
-      (shape_follows stage within.front.extra within.front.journey within.front.shape)));
+  last = All-from_recursion (λ line. ¬ HasKind basic_schedule line) (within.front.extra ++ within.front.journey) (all_weaker _ _ no_basic _ (all_append _ _ _
+      (details_follow _ (details_of _ _ _ within.front.shape)) (shape_follows _ _ _ within.front.shape)));
 }
 
 -- if a record has good fields but fails the test `is_sound_next`, its schedule passes midnight for
 -- the third time at this record
 third_fall : (stage : Stage) (lines records : Lines) (line : List ℕ) → IsWithin stage lines records → HasGoodFields line → is_sound_next lines line ≡ false
     → HasThirdFall records line
-third_fall stage lines records line within fields test = (lines, ends_in_schedule stage lines records within, few within.front.sound, third)
+third_fall stage lines records line within fields test = (lines, ends_in_schedule stage _ records within, few within.front.sound, third)
   where
     front : IsFront stage lines
     front = within.front
@@ -162,13 +125,12 @@ third_fall stage lines records line within fields test = (lines, ends_in_schedul
     parts = neither (is_deletion (first_record lines)) _ test
 
     third : 2 < midnights (lines ++ line ∷ [])
-    third = leb-false (midnights (lines ++ line ∷ [])) 2 (and_false (has_good_fields line) _ (test_by_none (leftmost_bad_field line) fields) parts.1)
+    third = leb-false (midnights (lines ++ line ∷ [])) 2 (and_false (has_good_fields line) _ (test_by_none _ fields) parts.1)
 
     few : IsSound front.basic front.journey → midnights lines ≤ 2
     few (inl deletion) = let bad : true ≡ false = sym (subst (λ l. is_deletion (first_record l) ≡ true) (sym front.whole) deletion) ∙ parts.0 in cc
-    few (inr good) =
-        subst (λ n. n ≤ 2) (sym (ap midnights front.whole ∙ midnights_of_journey front.basic front.extra front.journey front.kind
-        (details_of stage front.extra front.journey front.shape))) good.falls
+    few (inr good) = subst (λ n. n ≤ 2) (sym (ap midnights front.whole ∙ midnights_of_journey front.basic _ front.journey front.kind
+        (details_of _ front.extra _ front.shape))) good.falls
 
 -- ---- `cause_of` is the cause of the fault at a record
 
@@ -182,15 +144,7 @@ module _ (limit : ℕ) (earlier : Lines) (place : Place) (line : List ℕ) (foun
       → (3 < rank → leftmost_bad_byte line ≡ None) → (4 < rank → ¬ (kind_of line ≡ None)) → (5 < rank → ¬ IsOutOfPlace earlier line)
       → (6 < rank → leftmost_bad_field line ≡ None)
       → (other : FileCause) → cause_rank other < rank → ¬ HoldsOf limit earlier line other
-  none_below rank most r0 r1 r2 r3 r4 r5 r6 too_many below holds = r0 below holds
-  none_below rank most r0 r1 r2 r3 r4 r5 r6 after_trailer below holds = r1 below holds
-  none_below rank most r0 r1 r2 r3 r4 r5 r6 bad_length below holds = holds (r2 below)
-  none_below rank most r0 r1 r2 r3 r4 r5 r6 (bad_byte column) below holds = let none = sym (r3 below) ∙ holds in cc
-  none_below rank most r0 r1 r2 r3 r4 r5 r6 bad_kind below holds = r4 below holds
-  none_below rank most r0 r1 r2 r3 r4 r5 r6 bad_place below holds = r5 below holds
-  none_below rank most r0 r1 r2 r3 r4 r5 r6 (bad_field column) below holds = let none = sym (r6 below) ∙ holds in cc
-  none_below rank most r0 r1 r2 r3 r4 r5 r6 third_midnight below holds = absurd (omega arith)
-  none_below rank most r0 r1 r2 r3 r4 r5 r6 no_end below holds = holds
+  none_below = search rules
 
   -- if the kind of a record isn't allowed at the `Place`, the record is out of place
   pub out_of_place : place_by_kind place (kind_of line) line ≡ None → IsOutOfPlace earlier line
@@ -208,11 +162,10 @@ module _ (limit : ℕ) (earlier : Lines) (place : Place) (line : List ℕ) (foun
       by None h = known h
       by (Some kind) h =
           let some : is_some (place_by_kind place (Some kind) (witness kind)) ≡ true =
-          same_place_by_kind place (Some kind) (witness kind) line ∙ (λ i. is_some (place_by_kind place (sym h i) line)) ∙ ap is_some told in
-          let there = some_by_test (place_by_kind place (Some kind) (witness kind)) some in
-          out (witness kind) (witness_kind kind ∙ sym h)
-          (at_begins there.0 (earlier ++ witness kind ∷ [])
-          (next_at place earlier (witness kind) there.0 at (witness_next place earlier kind there.0 at there.1)))
+          same_place_by_kind _ (Some kind) _ line ∙ (λ i. is_some (place_by_kind place (sym h i) line)) ∙ ap is_some told in
+          let there = some_by_test _ some in
+          out (witness kind) (witness_kind kind ∙ sym h) (at_begins _ (earlier ++ witness kind ∷ [])
+          (next_at _ earlier _ there.0 at (witness_next _ earlier _ there.0 at there.1)))
 
   -- suppose that a record has good fields, and that its kind is allowed at the reader's `Place`. If
   -- the record still leads to no next `Place`, its schedule passes midnight for the third time at
@@ -251,15 +204,13 @@ module _ (limit : ℕ) (earlier : Lines) (place : Place) (line : List ℕ) (foun
   field_is r0 r1 r2 r3 r4 next told nowhere = by (leftmost_bad_field line) refl
     where
       by : (bad : Option ℕ) → leftmost_bad_field line ≡ bad → IsCause limit earlier line (with_column bad_field bad third_midnight)
-      by (Some column) h =
-          record {
-            holds = h;
-            first = none_below 6 (omega arith) (λ _. r0) (λ _. r1) (λ _. r2) (λ _. r3) (λ _. r4) (λ _. in_place next r4 told)
-                (λ below. absurd (omega arith));
-          }
+      by (Some column) h = record {
+        holds = h;
+        first = none_below _ (omega arith) (λ _. r0) (λ _. r1) (λ _. r2) (λ _. r3) (λ _. r4) (λ _. in_place _ r4 told) (λ below. absurd (omega arith));
+      }
       by None h = record {
-        holds = third next (r2, printable_by_none line r3) told h nowhere;
-        first = none_below 7 (omega arith) (λ _. r0) (λ _. r1) (λ _. r2) (λ _. r3) (λ _. r4) (λ _. in_place next r4 told) (λ _. h);
+        holds = third _ (r2, printable_by_none _ r3) told h nowhere;
+        first = none_below _ (omega arith) (λ _. r0) (λ _. r1) (λ _. r2) (λ _. r3) (λ _. r4) (λ _. in_place _ r4 told) (λ _. h);
       }
 
   place_is : ¬ (limit ≤ length earlier) → ¬ Any (HasKind trailer) earlier → length line ≡ 80 → leftmost_bad_byte line ≡ None → ¬ (kind_of line ≡ None)
@@ -281,60 +232,34 @@ module _ (limit : ℕ) (earlier : Lines) (place : Place) (line : List ℕ) (foun
       by : (kind : Option Kind) → kind_of line ≡ kind → IsCause limit earlier line (cond (is_none kind) bad_kind (place_cause place line))
       by None h = record {
         holds = h;
-        first =
-            none_below 4 (omega arith) (λ _. r0) (λ _. r1) (λ _. r2) (λ _. r3) (λ below. absurd (omega arith)) (λ below. absurd (omega arith))
+        first = none_below _ (omega arith) (λ _. r0) (λ _. r1) (λ _. r2) (λ _. r3) (λ below. absurd (omega arith)) (λ below. absurd (omega arith))
             (λ below. absurd (omega arith));
       }
       by (Some kind) h = place_is r0 r1 r2 r3 (λ none. let bad : None ≡ Some kind = sym none ∙ h in cc) nowhere
 
   byte_is : ¬ (limit ≤ length earlier) → ¬ Any (HasKind trailer) earlier → length line ≡ 80 → next_place place line ≡ None
       → IsCause limit earlier line (byte_cause place line)
-  byte_is r0 r1 r2 nowhere = by (leftmost_bad_byte line) refl
-    where
-      by : (bad : Option ℕ) → leftmost_bad_byte line ≡ bad → IsCause limit earlier line (with_column bad_byte bad (kind_cause place line))
-      by (Some column) h = record {
-        holds = h;
-        first =
-            none_below 3 (omega arith) (λ _. r0) (λ _. r1) (λ _. r2) (λ below. absurd (omega arith)) (λ below. absurd (omega arith))
-            (λ below. absurd (omega arith)) (λ below. absurd (omega arith));
-      }
-      by None h = kind_is r0 r1 r2 h nowhere
+  byte_is = grind (common_steps, arith, none_below, kind_is)
 
   length_is : ¬ (limit ≤ length earlier) → ¬ Any (HasKind trailer) earlier → next_place place line ≡ None → IsCause limit earlier line (length_cause place line)
-  length_is r0 r1 nowhere = by (length line == 80) refl
-    where
-      by : (b : Bool) → (length line == 80) ≡ b → IsCause limit earlier line (cond b (byte_cause place line) bad_length)
-      by true h = byte_is r0 r1 (eqb-true (length line) 80 h) nowhere
-      by false h = record {
-        holds = eqb-false (length line) 80 h;
-        first =
-            none_below 2 (omega arith) (λ _. r0) (λ _. r1) (λ below. absurd (omega arith)) (λ below. absurd (omega arith)) (λ below. absurd (omega arith))
-            (λ below. absurd (omega arith)) (λ below. absurd (omega arith));
-      }
+  length_is = grind (common_steps, arith, byte_is, eqb-true, eqb-false, none_below)
 
   end_is : ¬ (limit ≤ length earlier) → next_place place line ≡ None → IsCause limit earlier line (end_cause place line)
   end_is r0 nowhere = by (is_after_end place) refl
     where
       by : (b : Bool) → is_after_end place ≡ b → IsCause limit earlier line (cond b after_trailer (length_cause place line))
       by true h = record {
-        holds = trailer_among earlier ((file_iff_place earlier).1 (found ∙ ap Some (end_by_test place h)));
-        first =
-            none_below 1 (omega arith) (λ _. r0) (λ below. absurd (omega arith)) (λ below. absurd (omega arith)) (λ below. absurd (omega arith))
+        holds = trailer_among _ ((file_iff_place _).1 (found ∙ ap Some (end_by_test _ h)));
+        first = none_below _ (omega arith) (λ _. r0) (λ below. absurd (omega arith)) (λ below. absurd (omega arith)) (λ below. absurd (omega arith))
             (λ below. absurd (omega arith)) (λ below. absurd (omega arith)) (λ below. absurd (omega arith));
       }
       by false h = length_is r0 (λ any.
-          let reached = trailer_leads earlier before_header place any.1 found (any.0, any.2, any.3) any.4 in
+          let reached = trailer_leads _ _ _ _ found (any.0, any.2, any.3) any.4 in
           let bad : true ≡ false = sym (ap is_after_end reached) ∙ h in cc) nowhere
 
   -- the cause computed from the reader's `Place` is the cause of the fault at the record
   pub cause_is : (limit ≤ length earlier) ⊎ (next_place place line ≡ None) → IsCause limit earlier line (cause_of limit (length earlier) place line)
-  cause_is here = by (nat_le limit (length earlier)) refl here
-    where
-      by : (b : Bool) → nat_le limit (length earlier) ≡ b → (limit ≤ length earlier) ⊎ (next_place place line ≡ None)
-          → IsCause limit earlier line (cond b too_many (end_cause place line))
-      by true h _ = record { holds = leb-true limit (length earlier) h; first = λ other below. absurd (omega arith) }
-      by false h (inl over) = let under = leb-false limit (length earlier) h in absurd (omega arith)
-      by false h (inr nowhere) = let under = leb-false limit (length earlier) h in end_is (λ over. omega arith) nowhere
+  cause_is = grind (common_steps, arith, leb-true, leb-false, end_is)
 
   -- the record at fault is the first record that leads the reader to no next `Place` or is beyond
   -- the limit

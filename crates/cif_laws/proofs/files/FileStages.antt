@@ -1,7 +1,7 @@
 -- The `Place` of a reader in a file determines which records may follow. It also determines whether
 -- the records up to the `Place` are a file. Each record leads the reader from one `Place` to the
 -- next.
-use Rattle.std.proofs.Common.{◌≡◌, ℕ, List, ◌∷◌, ◌++◌, [], true, Some, refl, Bool, false, cond, None, ◌∙◌, ap, sym}
+use Rattle.std.proofs.Common.{◌≡◌, ℕ, List, ◌∷◌, ◌++◌, [], true, Some, refl, Bool, false, cond, None, ◌∙◌, ap, sym, rules}
 use Rattle.std.proofs.Common.{append-nil, inl, inr, subst, append_assoc, ◌<◌, length, arith, length-append, ◌⊎◌}
 use Rattle.std.specs.Prelude.{◌&&◌, Option, is_some, option_and_then, ◌↔◌, ⊤}
 use Rattle.std.specs.List.{AllByRecursion, flat_map}
@@ -9,7 +9,7 @@ use Rattle.std.proofs.lemmas.Grind.{flat_map-append}
 use Rattle.std.proofs.lemmas.List.Elements.{All-from_recursion, recursion_from_All}
 use Rattle.docker_model.specs.records.Record.{header, IsRecord, HasKind, Lines, kind_of, Kind, tiploc_insert, tiploc_amend}
 use Rattle.docker_model.specs.records.Record.{tiploc_delete, association, basic_schedule, trailer, terminating_location}
-use Rattle.docker_model.specs.records.Record.{origin_location, extra_details, intermediate_location, change_en_route}
+use Rattle.docker_model.specs.records.Record.{origin_location}
 use Rattle.docker_model.specs.records.Field.{HasGoodFields, leftmost_bad_field}
 use Rattle.docker_model.specs.file.File.{IsUnit, IsFile, BeginsFile, follows_basic, IsSingleKind}
 use Rattle.cif_laws.specs.RecordTest.{is_record, has_good_fields}
@@ -77,8 +77,7 @@ next_by_test place line next found = by (is_record line && is_sound_at place lin
 -- if a record is sound, and its kind leads to a next `Place`, the record leads the reader to that
 -- `Place`
 pub test_by_next : (place : Place) (line : List ℕ) (next : Place) → IsNext place line next → next_place place line ≡ Some next
-test_by_next place line next told =
-    (λ i. cond (and_true (is_record line) _ ((record_iff_test line).0 told.is) told.sound i) (place_by_kind place (kind_of line) line) None) ∙ told.place_is
+test_by_next = search (rules, and_true, record_iff_test)
 
 -- ---- after one more record, the records have the structure of the next `Place`
 
@@ -112,10 +111,7 @@ unit_more records tiploc_delete line next between is kind fields found =
 unit_more records association line next between is kind fields found =
     let same : between_units ≡ next = cc in subst (λ p. IsAt p (records ++ line ∷ [])) same
     (between_more records (line ∷ []) between (inl (line, refl, is, inr (inr (inr kind)), fields)))
-unit_more records basic_schedule line next between is kind fields found =
-    let same : in_schedule after_basic (line ∷ []) ≡ next = cc in
-    subst (λ p. IsAt p (records ++ line ∷ [])) same
-    (record { before = records; whole = refl; between = between; front = front_of_basic line (record { is = is; kind = kind; fields = fields }) })
+unit_more records basic_schedule line next between is kind fields found = search (rules, front_of_basic)
 unit_more records trailer line next between is kind fields found =
     let same : after_end ≡ next = cc in
     subst (λ p. IsAt p (records ++ line ∷ [])) same (record {
@@ -214,8 +210,7 @@ next_at after_end records line next at found = let told = (next_by_test after_en
 
 at_from : (rest : Lines) (place : Place) (records : Lines) (final : Place) → IsAt place records → place_from place rest ≡ Some final
     → IsAt final (records ++ rest)
-at_from [] place records final at found =
-    let same : place ≡ final = cc in subst (λ p. IsAt p (records ++ [])) same (subst (IsAt place) (sym (append-nil records)) at)
+at_from [] place records final at found = search (rules, append-nil)
 at_from (line ∷ rest) place records final at found =
     let step = then_some (λ next. place_from next rest) (next_place place line) final found in
     subst (IsAt final) (append_assoc records (line ∷ []) rest)
@@ -259,13 +254,11 @@ file_begins : (records : Lines) → IsFile records → BeginsFile records
 file_begins records is = ([], subst IsFile (sym (append-nil records)) is)
 
 between_begins : (records : Lines) → IsBetween records → BeginsFile records
-between_begins records at =
-    begins_front records (witness trailer ∷ []) (file_begins (records ++ witness trailer ∷ []) (leads between_units records trailer after_end at refl))
+between_begins records at = begins_front _ (witness trailer ∷ []) (file_begins _ (leads between_units _ trailer _ at refl))
 
 journey_begins : (lines records : Lines) → IsWithin in_journey lines records → BeginsFile records
-journey_begins lines records at =
-    begins_front records (witness terminating_location ∷ [])
-    (between_begins (records ++ witness terminating_location ∷ []) (leads (in_schedule in_journey lines) records terminating_location between_units at refl))
+journey_begins lines records at = begins_front _ (witness terminating_location ∷ [])
+    (between_begins _ (leads (in_schedule in_journey lines) _ terminating_location _ at refl))
 
 -- records with the structure of a `Place` begin some file
 pub at_begins : (place : Place) (records : Lines) → IsAt place records → BeginsFile records
@@ -325,8 +318,7 @@ schedule_from (line ∷ rest) stage done final more found =
 
 next_between : (line : List ℕ) (next : Place) → IsRecord line → HasGoodFields line → unit_by_kind (kind_of line) line ≡ Some next
     → next_place between_units line ≡ Some next
-next_between line next is fields found =
-    test_by_next between_units line next (record { is = is; sound = test_by_none (leftmost_bad_field line) fields; place_is = found })
+next_between = search (rules, test_by_next, test_by_none)
 
 unit_from : (unit : Lines) (stage : Stage) (more : Lines) → stage_of unit ≡ Some stage → place_from between_units (unit ++ more) ≡ place_from
     (place_in stage unit) more
@@ -344,29 +336,13 @@ unit_from (basic ∷ rest) stage more found = by (is_first_line basic) refl foun
 
 -- a record that can't follow a basic schedule leads to no next stage
 pub stage_stops : (stage : Stage) (kind : Option Kind) → follows_basic kind ≡ false → stage_after stage kind ≡ None
-stage_stops stage None h = by stage
-  where
-    by : (s : Stage) → stage_after s None ≡ None
-    by after_basic = refl
-    by after_details = refl
-    by in_journey = refl
-    by after_journey = refl
-stage_stops after_basic (Some extra_details) h = cc
-stage_stops after_basic (Some origin_location) h = cc
-stage_stops after_details (Some origin_location) h = cc
-stage_stops in_journey (Some intermediate_location) h = cc
-stage_stops in_journey (Some change_en_route) h = cc
-stage_stops in_journey (Some terminating_location) h = cc
-stage_stops _ _ h = refl
+stage_stops = search rules
 
 -- suppose that the schedule may end at this stage. Then a record that can't follow a basic schedule
 -- leads the reader to the same next `Place` as if the reader were between two units
 pub next_behind : (stage : Stage) (lines : Lines) (line : List ℕ) → may_end stage lines ≡ true → follows_basic (kind_of line) ≡ false
     → next_place (in_schedule stage lines) line ≡ next_place between_units line
-next_behind stage lines line may anew =
-    let none = stage_stops stage (kind_of line) anew in
-    (λ i. cond (is_record line && cond (is_some (none i)) (is_sound_next lines line) (has_good_fields line))
-    (in_stage_or (lines ++ line ∷ []) (none i) (cond (may i) (unit_by_kind (kind_of line) line) None)) None)
+next_behind = search (rules, stage_stops)
 
 behind : (stage : Stage) (lines rest : Lines) → may_end stage lines ≡ true → StopsHere rest → 0 < length rest
     → place_from (place_in stage lines) rest ≡ place_from between_units rest
@@ -383,23 +359,18 @@ behind stage lines (line ∷ rest) may anew some = by stage may
     by after_journey h = refl
 
 single_place : (line : List ℕ) → IsSingleKind line → unit_by_kind (kind_of line) line ≡ Some between_units
-single_place line (inl kind) = ap (λ k. unit_by_kind k line) kind
-single_place line (inr (inl kind)) = ap (λ k. unit_by_kind k line) kind
-single_place line (inr (inr (inl kind))) = ap (λ k. unit_by_kind k line) kind
-single_place line (inr (inr (inr kind))) = ap (λ k. unit_by_kind k line) kind
+single_place = search rules
 
 unit_passes : (unit rest : Lines) → IsUnit unit → StopsHere rest → 0 < length rest → place_from between_units (unit ++ rest) ≡ place_from between_units rest
-unit_passes unit rest (inl single) anew some =
-    ap (λ u. place_from between_units (u ++ rest)) single.1
-    ∙ (λ i. option_and_then (λ next. place_from next rest) (next_between single.0 between_units single.2 single.4 (single_place single.0 single.3) i))
+unit_passes unit rest (inl single) anew some = ap (λ u. place_from between_units (u ++ rest)) single.1
+    ∙ (λ i. option_and_then (λ next. place_from next rest) (next_between single.0 _ single.2 single.4 (single_place single.0 single.3) i))
 unit_passes unit rest (inr schedule) anew some =
-    let whole = stage_of_schedule unit schedule in
-    unit_from unit whole.0 rest whole.1.found ∙ behind whole.0 unit rest whole.1.may anew some
+    let whole = stage_of_schedule _ schedule in
+    unit_from unit _ rest whole.1.found ∙ behind _ unit _ whole.1.may anew some
 
 units_pass : (units : List Lines) (last : List ℕ) → AllByRecursion IsUnit units → IsRecord last → HasKind trailer last
     → place_from between_units (flat_map (λ unit. unit) units ++ last ∷ []) ≡ Some after_end
-units_pass [] last each is end =
-    λ i. option_and_then (λ next. Some next) (next_between last after_end is (fields_good trailer last end tt) (ap (λ k. unit_by_kind k last) end) i)
+units_pass [] last each is end = search (rules, next_between, fields_good)
 units_pass (unit ∷ units) last each is end =
     let size = length-append (flat_map (λ u. u) units) (last ∷ []) in
     ap (place_from between_units) (append_assoc unit (flat_map (λ u. u) units) (last ∷ []))
@@ -408,14 +379,13 @@ units_pass (unit ∷ units) last each is end =
 
 -- the records of a whole file lead the reader to `after_end`
 pub place_of_file : (file : Lines) → IsFile file → IsPlaceOf file after_end
-place_of_file file is =
-    ap place_at is.whole
-    ∙ (λ i. option_and_then (λ next. place_from next (flat_map (λ u. u) is.units ++ is.last ∷ [])) (test_by_next before_header is.first between_units (record {
+place_of_file file is = ap place_at is.whole
+    ∙ (λ i. option_and_then (λ next. place_from next (flat_map (λ u. u) is.units ++ is.last ∷ [])) (test_by_next before_header _ between_units (record {
       is = is.header_record;
-      sound = test_by_none (leftmost_bad_field is.first) is.header_fields;
+      sound = test_by_none _ is.header_fields;
       place_is = λ j. cond (is_header_kind (is.header_kind j)) (Some between_units) None;
     }) i))
-    ∙ units_pass is.units is.last (recursion_from_All IsUnit is.units is.each) is.trailer_record is.trailer_kind
+    ∙ units_pass is.units _ (recursion_from_All IsUnit is.units is.each) is.trailer_record is.trailer_kind
 
 -- ---- the laws of `Place`
 
@@ -430,8 +400,8 @@ place_from_front (line ∷ front) rest place final found =
 -- records begin a file if and only if they lead the reader to a `Place`
 pub begins_iff_place : (records : Lines) → BeginsFile records ↔ ((place : Place) × IsPlaceOf records place)
 begins_iff_place records = (
-  λ begins. place_from_front records begins.0 before_header after_end (place_of_file (records ++ begins.0) begins.1),
-  λ at. at_begins at.0 records (at_of_place records at.0 at.1),
+  λ begins. place_from_front records _ before_header _ (place_of_file (records ++ begins.0) begins.1),
+  λ at. at_begins _ records (at_of_place _ at.0 at.1),
 )
 
 -- records are a file if and only if they lead the reader to `after_end`
@@ -475,29 +445,13 @@ IsTracked _ = ⊤
 
 tracked_unit : (kind : Option Kind) (line : List ℕ) (next : Place) → kind_of line ≡ kind → IsRecord line → has_good_fields line ≡ true
     → unit_by_kind kind line ≡ Some next → IsTracked next
-tracked_unit (Some basic_schedule) line next kind is good found =
-    let same : in_schedule after_basic (line ∷ []) ≡ next = cc in
-    let first = (first_line_iff_test line).0 (record { is = is; kind = kind; fields = none_by_test (leftmost_bad_field line) good }) in
-    subst IsTracked same ((λ i. cond (first i) (Some after_basic) None), λ bad. cc)
-tracked_unit (Some tiploc_insert) line next kind is good found = let same : between_units ≡ next = cc in subst IsTracked same tt
-tracked_unit (Some tiploc_amend) line next kind is good found = let same : between_units ≡ next = cc in subst IsTracked same tt
-tracked_unit (Some tiploc_delete) line next kind is good found = let same : between_units ≡ next = cc in subst IsTracked same tt
-tracked_unit (Some association) line next kind is good found = let same : between_units ≡ next = cc in subst IsTracked same tt
-tracked_unit (Some trailer) line next kind is good found = let same : after_end ≡ next = cc in subst IsTracked same tt
-tracked_unit _ line next kind is good found = cc
+tracked_unit = search (rules, first_line_iff_test, none_by_test)
 
 tracked_in : (stage : Stage) (lines : Lines) → stage_of lines ≡ Some stage → IsTracked (place_in stage lines)
-tracked_in after_basic lines found = (found, λ bad. cc)
-tracked_in after_details lines found = (found, λ bad. cc)
-tracked_in in_journey lines found = (found, λ bad. cc)
-tracked_in after_journey lines found = tt
+tracked_in = search rules
 
 next_tracked : (place : Place) (line : List ℕ) (next : Place) → IsTracked place → IsNext place line next → IsTracked next
-next_tracked before_header line next tracked told = by (is_header_kind (kind_of line)) told.place_is
-  where
-    by : (b : Bool) → cond b (Some between_units) None ≡ Some next → IsTracked next
-    by true found = let same : between_units ≡ next = cc in subst IsTracked same tt
-    by false found = cc
+next_tracked before_header line next tracked told = search rules
 next_tracked between_units line next tracked told = tracked_unit (kind_of line) line next refl told.is told.sound told.place_is
 next_tracked (in_schedule stage lines) line next tracked told = by (stage_after stage (kind_of line)) refl told.sound told.place_is
   where

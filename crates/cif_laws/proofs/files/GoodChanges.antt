@@ -1,21 +1,20 @@
 -- The changes of a file within the limit have well-formed keys and bodies, and the records of a
 -- schedule's body are a schedule.
-use Rattle.std.proofs.Common.{◌≡◌, ℕ, ◌+◌, ◌-◌, ◌^◌, ◌<◌, ◌⊎◌, inl, inr, List, [], ◌∷◌, ◌++◌, length, take, All, subst}
+use Rattle.std.proofs.Common.{◌≡◌, ℕ, ◌+◌, ◌-◌, ◌^◌, ◌<◌, ◌⊎◌, inl, inr, List, [], ◌∷◌, ◌++◌, length, take, All, subst, rules}
 use Rattle.std.proofs.Common.{refl, ap, sym, ◌∙◌, Bool, true, false, cond, Some, arith, append_assoc, length-append}
 use Rattle.std.specs.Prelude.{Option, ⊤, ◌||◌, ◌==◌}
 use Rattle.std.specs.List.{AllByRecursion, flat_map, prefix_len}
 use Rattle.std.proofs.Math.Seq.{take-append_seam}
 use Rattle.std.proofs.lemmas.List.Elements.{All-from_recursion, recursion_from_All}
-use Rattle.docker_model.specs.records.Record.{Kind, tiploc_insert, tiploc_amend, tiploc_delete, association, basic_schedule}
-use Rattle.docker_model.specs.records.Record.{extra_details, origin_location, intermediate_location, terminating_location}
-use Rattle.docker_model.specs.records.Record.{change_en_route, trailer, IsRecord, HasKind, kind_of, columns, column}
-use Rattle.docker_model.specs.records.Date.{is_date, date_number, is_end_date, is_days}
+use Rattle.docker_model.specs.records.Record.{Kind, tiploc_insert, tiploc_amend, association, basic_schedule}
+use Rattle.docker_model.specs.records.Record.{trailer, IsRecord, HasKind, kind_of, columns, column}
+use Rattle.docker_model.specs.records.Date.{is_date, is_end_date, is_days}
 use Rattle.docker_model.specs.records.Clock.{is_blank}
 use Rattle.docker_model.specs.records.Field.{HasGoodFields, is_deletion, is_stp_letter, is_stp_indicator, is_tiploc}
 use Rattle.docker_model.specs.records.Field.{is_transaction, checked, checked_fields, as_new, IsTiploc}
-use Rattle.docker_model.specs.file.File.{IsSchedule, IsJourney, IsSoundJourney, IsWithinJourney, AreExtraDetails}
+use Rattle.docker_model.specs.file.File.{IsSchedule, IsJourney, IsSoundJourney, IsWithinJourney}
 use Rattle.docker_model.specs.file.File.{MayLackJourney, IsSingleKind, IsUnit, follows_basic}
-use Rattle.docker_model.specs.file.Change.{Key, association_key, schedule_key, Act, Change, association_named, schedule_named}
+use Rattle.docker_model.specs.file.Change.{Key, Act, Change, association_named, schedule_named}
 use Rattle.docker_model.specs.file.Change.{keeps_code, schedule_rest, acts_by_kind, changes_of_record, changes_from}
 use Rattle.docker_model.specs.state.Op.{op_of}
 use Rattle.docker_model.specs.state.State.{IsGoodKey, IsOpOf}
@@ -85,22 +84,11 @@ schedule_key_good line is kind good =
 -- ---- setting the transaction of a record to N preserves its key and its good fields
 
 same_association : (line : List ℕ) → association_named (as_new line) ≡ association_named line
-same_association line = λ i. association_key (record {
-  base = new_columns line 4 9 (omega arith) i;
-  associated = new_columns line 10 15 (omega arith) i;
-  start = date_number (new_columns line 16 21 (omega arith) i);
-  location = new_columns line 38 44 (omega arith) i;
-  suffix = new_column line 45 (omega arith) i;
-  indicator = new_column line 80 (omega arith) i;
-})
+same_association = search (rules, new_columns, new_column)
 
 -- setting the transaction to N preserves the key of a basic schedule
 pub same_schedule : (line : List ℕ) → schedule_named (as_new line) ≡ schedule_named line
-same_schedule line = λ i. schedule_key (record {
-  uid = new_columns line 4 9 (omega arith) i;
-  runs_from = date_number (new_columns line 10 15 (omega arith) i);
-  indicator = new_column line 80 (omega arith) i;
-})
+same_schedule = search (rules, new_columns, new_column)
 
 no_deletion : (line : List ℕ) → IsRecord line → is_deletion (as_new line) ≡ false
 no_deletion line is = λ i. is_new line is i == 68
@@ -163,8 +151,7 @@ new_basic_fields line is kind good kept = fields_good basic_schedule (as_new lin
 -- ---- the changes of a single record are well formed
 
 kept_or : (a b : Bool) → (a || b) ≡ false → a ≡ false
-kept_or true b h = h
-kept_or false b h = refl
+kept_or = search rules
 
 single_acts : (line : List ℕ) (following : List (List ℕ)) → IsRecord line → IsSingleKind line → HasGoodFields line
     → AllByRecursion IsGoodAct (acts_by_kind (kind_of line) line following)
@@ -188,9 +175,7 @@ single_acts line following is (inr (inl kind)) good =
         tt,
       ),
     )
-single_acts line following is (inr (inr (inl kind))) good =
-    let fields = good_fields tiploc_delete line kind good in
-    subst (λ k. AllByRecursion IsGoodAct (acts_by_kind k line following)) (sym kind) ((tiploc_at line is fields.0, tt), tt)
+single_acts line following is (inr (inr (inl kind))) good = search (rules, good_fields, tiploc_at)
 single_acts line following is (inr (inr (inr kind))) good =
     subst (λ k. AllByRecursion IsGoodAct (acts_by_kind k line following)) (sym kind) (by (is_deletion line) refl)
   where
@@ -272,29 +257,19 @@ follows_by kind line is follows = ap follows_basic is ∙ follows
 
 -- each record of a journey can follow a basic schedule
 pub journey_follows : (lines : List (List ℕ)) → IsJourney lines → AllByRecursion Follows lines
-journey_follows lines journey =
-    subst (AllByRecursion Follows) (sym journey.whole) (
-      follows_by origin_location journey.first journey.origin refl,
-      all_append Follows journey.between (journey.last ∷ [])
-          (all_weaker IsWithinJourney Follows within journey.between (recursion_from_All IsWithinJourney journey.between journey.calls))
-          (follows_by terminating_location journey.last journey.terminus refl, tt),
-    )
+journey_follows lines journey = subst (AllByRecursion Follows) (sym journey.whole) (
+  follows_by _ journey.first journey.origin refl,
+  all_append _ journey.between _ (all_weaker IsWithinJourney _ within journey.between (recursion_from_All IsWithinJourney journey.between journey.calls))
+      (follows_by _ journey.last journey.terminus refl, tt),
+)
   where
     within : (line : List ℕ) → IsWithinJourney line → Follows line
-    within line (inl call) = follows_by intermediate_location line call refl
-    within line (inr change) = follows_by change_en_route line change refl
+    within line (inl call) = follows_by _ line call refl
+    within line (inr change) = follows_by _ line change refl
 
 -- each record of a schedule after the first can follow a basic schedule
 pub schedule_follows : (lines : List (List ℕ)) (schedule : IsSchedule lines) → AllByRecursion Follows (schedule.extra ++ schedule.journey)
-schedule_follows lines schedule = all_append Follows schedule.extra schedule.journey (details schedule.details) (journey schedule.journey_or_none)
-  where
-    details : AreExtraDetails schedule.extra → AllByRecursion Follows schedule.extra
-    details (inl none) = subst (AllByRecursion Follows) (sym none) tt
-    details (inr one) = subst (AllByRecursion Follows) (sym one.1) (follows_by extra_details one.0 one.2 refl, tt)
-
-    journey : IsJourney schedule.journey ⊎ ((schedule.journey ≡ []) × MayLackJourney schedule.basic) → AllByRecursion Follows schedule.journey
-    journey (inl is) = journey_follows schedule.journey is
-    journey (inr none) = subst (AllByRecursion Follows) (sym none.0) tt
+schedule_follows = search (rules, all_append, follows_by, journey_follows)
 
 schedule_acts : (lines : List (List ℕ)) (schedule : IsSchedule lines) (rest : List (List ℕ)) → StopsHere rest
     → length (schedule.extra ++ schedule.journey) + 1 < 2 ^ 32 - 1
@@ -312,13 +287,13 @@ schedule_acts lines schedule rest stops few =
     by : (b : Bool) → is_deletion schedule.basic ≡ b
         → AllByRecursion IsGoodAct (acts_by_kind (Some basic_schedule) schedule.basic ((schedule.extra ++ schedule.journey) ++ rest))
     by true h = rw h ((key_is, tt), tt)
-    by false h = rw (h, rest_is (schedule.extra ++ schedule.journey) rest (schedule_follows lines schedule) stops) (
+    by false h = rw (h, rest_is _ rest (schedule_follows _ schedule) stops) (
       (
         key_is,
         record {
-          schedule = new_is_schedule lines schedule h;
+          schedule = new_is_schedule _ schedule h;
           few = omega arith;
-          new = is_new schedule.basic first_is;
+          new = is_new _ first_is;
           key_is = same_schedule schedule.basic;
         },
       ),
@@ -333,17 +308,11 @@ IsGoodChange change = IsGoodAct (change.key, change.act)
 
 record_changes : (n : ℕ) (line : List ℕ) (following : List (List ℕ)) → AllByRecursion IsGoodAct (acts_by_kind (kind_of line) line following)
     → AllByRecursion IsGoodChange (changes_of_record n line following)
-record_changes n line following all =
-    all_map (λ (act : Key × Act). record { number = n; key = act.0; act = act.1 }) IsGoodChange (acts_by_kind (kind_of line) line following) all
+record_changes = search (rules, all_map)
 
 no_acts : (kind : Option Kind) (line : List ℕ) (following : List (List ℕ)) → follows_basic kind ≡ true
     → AllByRecursion IsGoodAct (acts_by_kind kind line following)
-no_acts (Some extra_details) line following h = tt
-no_acts (Some origin_location) line following h = tt
-no_acts (Some intermediate_location) line following h = tt
-no_acts (Some terminating_location) line following h = tt
-no_acts (Some change_en_route) line following h = tt
-no_acts _ line following h = cc
+no_acts = search rules
 
 -- each change of these records is well formed
 abbrev pub AllChangesGood : List (List ℕ) → Type 0
@@ -356,10 +325,7 @@ behind_schedule (line ∷ lines) rest all good = λ n.
     (record_changes n line (lines ++ rest) (no_acts (kind_of line) line (lines ++ rest) all.0)) (behind_schedule lines rest all.1 good (n + 1))
 
 unit_changes : (unit rest : List (List ℕ)) → IsUnit unit → StopsHere rest → length unit < 2 ^ 32 - 1 → AllChangesGood rest → AllChangesGood (unit ++ rest)
-unit_changes unit rest (inl single) stops few good =
-    subst (λ u. AllChangesGood (u ++ rest)) (sym single.1) (λ n.
-    all_append IsGoodChange (changes_of_record n single.0 rest) (changes_from (n + 1) rest)
-    (record_changes n single.0 rest (single_acts single.0 rest single.2 single.3 single.4)) (good (n + 1)))
+unit_changes unit rest (inl single) stops few good = search (rules, all_append, record_changes, single_acts)
 unit_changes unit rest (inr schedule) stops few good =
     let size = ap length schedule.whole in
     subst (λ u. AllChangesGood (u ++ rest)) (sym schedule.whole) (λ n.
@@ -372,29 +338,19 @@ stops_by : (kind : Kind) (line : List ℕ) → HasKind kind line → follows_bas
 stops_by kind line is stops = ap follows_basic is ∙ stops
 
 unit_stops : (unit rest : List (List ℕ)) → IsUnit unit → StopsHere (unit ++ rest)
-unit_stops unit rest (inl single) = subst (λ u. StopsHere (u ++ rest)) (sym single.1) (by single.3)
-  where
-    by : IsSingleKind single.0 → follows_basic (kind_of single.0) ≡ false
-    by (inl kind) = stops_by tiploc_insert single.0 kind refl
-    by (inr (inl kind)) = stops_by tiploc_amend single.0 kind refl
-    by (inr (inr (inl kind))) = stops_by tiploc_delete single.0 kind refl
-    by (inr (inr (inr kind))) = stops_by association single.0 kind refl
-unit_stops unit rest (inr schedule) = subst (λ u. StopsHere (u ++ rest)) (sym schedule.whole) (stops_by basic_schedule schedule.basic schedule.kind refl)
+unit_stops = search (rules, stops_by)
 
 -- in a list of units followed by a trailer, the first record can't follow a basic schedule
 pub units_stop : (units : List (List (List ℕ))) (last : List ℕ) → AllByRecursion IsUnit units → HasKind trailer last
     → StopsHere (flat_map (λ unit. unit) units ++ last ∷ [])
 units_stop [] last all end = stops_by trailer last end refl
-units_stop (unit ∷ units) last all end =
-    subst StopsHere (sym (append_assoc unit (flat_map (λ u. u) units) (last ∷ []))) (unit_stops unit (flat_map (λ u. u) units ++ last ∷ []) all.0)
+units_stop (unit ∷ units) last all end = search (rules, append_assoc, unit_stops)
 
 -- the changes of units within the limit are well formed
 pub units_changes : (units : List (List (List ℕ))) (last : List ℕ) → AllByRecursion IsUnit units → HasKind trailer last
     → length (flat_map (λ unit. unit) units) < 2 ^ 32 - 1
     → AllChangesGood (flat_map (λ unit. unit) units ++ last ∷ [])
-units_changes [] last all end few =
-    λ n. all_append IsGoodChange (changes_of_record n last []) []
-    (record_changes n last [] (subst (λ k. AllByRecursion IsGoodAct (acts_by_kind k last [])) (sym end) tt)) tt
+units_changes [] last all end few = search (rules, all_append, record_changes)
 units_changes (unit ∷ units) last all end few =
     let size = length-append unit (flat_map (λ u. u) units) in
     subst AllChangesGood (sym (append_assoc unit (flat_map (λ u. u) units) (last ∷ [])))

@@ -1,6 +1,6 @@
 -- A text has at most one fault, and the text of a file has none.
-use Rattle.std.proofs.Common.{ℕ, List, [], ◌∷◌, ◌≡◌, ◌+◌, ◌++◌, ◌⊎◌, inl, inr, refl, ap, sym, subst}
-use Rattle.std.proofs.Common.{append_assoc, ◌≤◌, length, arith, length-append, ◌∙◌, ◌<◌, append-nil}
+use Rattle.std.proofs.Common.{ℕ, List, [], ◌∷◌, ◌≡◌, ◌+◌, ◌++◌, ◌⊎◌, inl, inr, refl, ap, sym, subst, rules}
+use Rattle.std.proofs.Common.{append_assoc, ◌≤◌, length, arith, length-append, ◌∙◌, append-nil}
 use Rattle.std.specs.Prelude.{◌==◌, if◌then◌else◌, unwrap_or}
 use Rattle.std.proofs.lemmas.Bool.{cases_order}
 use Rattle.docker_model.specs.records.Record.{Lines, leftmost_bad_byte}
@@ -32,12 +32,7 @@ same_place [] [] line other rest more e = inl (refl, ap (head_or line) e)
 same_place [] (second ∷ seconds) line other rest more e = inr (inl (seconds, λ i. sym (ap (head_or line) e) i ∷ seconds))
 same_place (first ∷ firsts) [] line other rest more e = inr (inr (firsts, λ i. ap (head_or line) e i ∷ firsts))
 same_place (first ∷ firsts) (second ∷ seconds) line other rest more e =
-    by (ap (head_or line) e) (same_place firsts seconds line other rest more (ap tail_of e))
-  where
-    by : first ≡ second → Placed firsts line seconds other → Placed (first ∷ firsts) line (second ∷ seconds) other
-    by heads (inl told) = inl ((λ i. heads i ∷ told.0 i), told.1)
-    by heads (inr (inl told)) = inr (inl (told.0, λ i. sym heads i ∷ told.1 i))
-    by heads (inr (inr told)) = inr (inr (told.0, λ i. heads i ∷ told.1 i))
+    grind (arith, head_or, tail_of, (same_place firsts seconds line other rest more (ap tail_of e)))
 
 -- if records begin a file, each prefix of these records begins a file
 pub begins_front : (front rest : Lines) → BeginsFile (front ++ rest) → BeginsFile front
@@ -67,15 +62,7 @@ cause_at rank at =
 
 cause_again : (cause : FileCause) → cause_at (cause_rank cause) (column_of cause) ≡ cause
 unfolding column_of cause_at
-cause_again too_many = refl
-cause_again after_trailer = refl
-cause_again bad_length = refl
-cause_again (bad_byte at) = refl
-cause_again bad_kind = refl
-cause_again bad_place = refl
-cause_again (bad_field at) = refl
-cause_again third_midnight = refl
-cause_again no_end = refl
+cause_again = search rules
 
 -- two causes with the same rank and the same column are equal
 pub same_cause : (first second : FileCause) → cause_rank first ≡ cause_rank second → column_of first ≡ column_of second → first ≡ second
@@ -88,28 +75,12 @@ column_told rank line = if rank == 3 then unwrap_or (leftmost_bad_byte line) 0 e
 column_is : (limit : ℕ) (earlier : Lines) (line : List ℕ) (cause : FileCause) → HoldsOf limit earlier line cause
     → column_told (cause_rank cause) line ≡ column_of cause
 unfolding column_of column_told
-column_is limit earlier line too_many holds = refl
-column_is limit earlier line after_trailer holds = refl
-column_is limit earlier line bad_length holds = refl
-column_is limit earlier line (bad_byte at) holds = ap (λ o. unwrap_or o 0) holds
-column_is limit earlier line bad_kind holds = refl
-column_is limit earlier line bad_place holds = refl
-column_is limit earlier line (bad_field at) holds = ap (λ o. unwrap_or o 0) holds
-column_is limit earlier line third_midnight holds = refl
-column_is limit earlier line no_end holds = refl
+column_is = search rules
 
 -- the fault at a record has at most one cause
 pub one_cause : (limit : ℕ) (earlier : Lines) (line : List ℕ) (first second : FileCause) → IsCause limit earlier line first → IsCause limit earlier line second
     → first ≡ second
-one_cause limit earlier line first second is_first is_second = by (cases_order (cause_rank first) (cause_rank second))
-  where
-    by : (cause_rank first ≡ cause_rank second) ⊎ ((cause_rank first < cause_rank second) ⊎ (cause_rank second < cause_rank first)) → first ≡ second
-    by (inl same) =
-        same_cause first second same
-        (sym (column_is limit earlier line first is_first.holds) ∙ ap (λ rank. column_told rank line) same
-        ∙ column_is limit earlier line second is_second.holds)
-    by (inr (inl below)) = absurd (is_second.first first below is_first.holds)
-    by (inr (inr above)) = absurd (is_first.first second above is_second.holds)
+one_cause = search (rules, cases_order, same_cause, column_is, column_told)
 
 -- in a list of records, the first record at fault has only one fault
 record_fault_unique : (limit : ℕ) (records : Lines) (first second : FileFault) → IsRecordFault limit records first → IsRecordFault limit records second
@@ -140,10 +111,7 @@ pub one_fault : (limit : ℕ) (text : List ℕ) (first second : FileFault) → I
 one_fault limit text first second (inl one) (inl two) = record_fault_unique limit (lines_of text) first second one two
 one_fault limit text first second (inl one) (inr two) = absurd (not_both_faults limit (lines_of text) first second one two)
 one_fault limit text first second (inr one) (inl two) = absurd (not_both_faults limit (lines_of text) second first two one)
-one_fault limit text first second (inr one) (inr two) =
-    let numbers : first.number ≡ second.number = one.number ∙ sym two.number in
-    let causes : first.cause ≡ second.cause = one.cause ∙ sym two.cause in
-    λ i. record { number = numbers i; cause = causes i }
+one_fault limit text first second (inr one) (inr two) = search rules
 
 -- the text of a file within the limit has no fault
 pub no_fault_of_file : (limit : ℕ) (text : List ℕ) (file : Lines) (fault : FileFault) → IsFileText limit text file → ¬ IsFileFault limit text fault

@@ -1,6 +1,7 @@
 -- If the first bytes of a text determine no fault, their number is bounded. Each complete line has
 -- at most 82 bytes with its line feed, and the incomplete line has at most 81.
-use Rattle.std.proofs.Common.{◌≡◌, ℕ, List, length, [], ◌∷◌, Some, ◌+◌, ◌<◌, arith, refl, ap, Bool, true, false, ◌*◌, ◌≤◌, map, ◌⊎◌, inl, inr}
+use Rattle.std.proofs.Common.{◌≡◌, ℕ, List, length, [], ◌∷◌, Some, ◌+◌, ◌<◌, arith, refl, Bool, ◌*◌, ◌≤◌, map, ◌⊎◌, inl, inr}
+use Rattle.std.proofs.Common.{rules}
 use Rattle.std.specs.Prelude.{◌==◌}
 use Rattle.std.specs.List.{AllByRecursion, onto_first, slice_split}
 use Rattle.std.specs.Str.Lines.{strip_carriage_return}
@@ -32,23 +33,14 @@ bytes_in (piece ∷ pieces) = length piece + 1 + bytes_in pieces
 
 bytes_more : (b : ℕ) (pieces : Lines) → 0 < length pieces → bytes_in (onto_first b pieces) ≡ bytes_in pieces + 1
 unfolding bytes_in
-bytes_more b [] some = absurd (omega arith)
-bytes_more b (piece ∷ pieces) some = omega arith
+bytes_more = search rules
 
 -- for the pieces of a split text, `bytes_in` is the length of the text plus one, since no separator
 -- follows the last piece
 bytes_of_split : (p : ℕ → Bool) (text : List ℕ) → bytes_in (slice_split p text) ≡ length text + 1
 unfolding bytes_in
 bytes_of_split p [] = refl
-bytes_of_split p (b ∷ text) = by (p b) refl (bytes_of_split p text)
-  where
-    by : (t : Bool) → p b ≡ t → bytes_in (slice_split p text) ≡ length text + 1 → bytes_in (slice_split p (b ∷ text)) ≡ length (b ∷ text) + 1
-    by true h rest = let split = ap bytes_in (slice_split-cons_yes p b text h) in omega arith
-    by false h rest =
-        let size = length-slice_split p text in
-        let split = ap bytes_in (slice_split-cons_no p b text h) in
-        let more = bytes_more b (slice_split p text) (omega arith) in
-        omega arith
+bytes_of_split p (b ∷ text) = grind (arith, bytes_in, slice_split-cons_yes, length-slice_split, slice_split-cons_no, bytes_more, (bytes_of_split p text))
 
 -- `bytes_in` of pieces is `bytes_in` of all pieces but the last, plus the length of the last piece,
 -- plus one

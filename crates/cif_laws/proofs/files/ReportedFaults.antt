@@ -1,8 +1,9 @@
 -- A fault that the first bytes of a text determine is the fault of the whole text. If the first
 -- bytes determine no fault, their complete lines begin some file.
-use Rattle.std.proofs.Common.{ℕ, ◌+◌, ◌-◌, ◌≤◌, List, take, length, Bool, true, false, cond, arith, ◌≡◌, refl, Some, None}
+use Rattle.std.proofs.Common.{ℕ, ◌+◌, ◌≤◌, List, take, length, Bool, true, false, cond, arith, ◌≡◌, refl, None, rules}
+use Rattle.std.proofs.lemmas.Grind.{common_steps}
 use Rattle.std.proofs.Common.{[], ◌∷◌, ◌++◌, ◌<◌, sym, ◌∙◌, append_assoc, ◌⊎◌, inl, inr, map, subst, length-append, ap}
-use Rattle.std.specs.Prelude.{◌==◌, slice_index, ◌≢◌, Option, nat_le}
+use Rattle.std.specs.Prelude.{◌==◌, ◌≢◌, nat_le}
 use Rattle.std.specs.List.{slice_split}
 use Rattle.std.specs.Str.Lines.{strip_carriage_return}
 use Rattle.std.proofs.lemmas.Bool.{cases_lt, leb-true, lt-leb, le-leb, ne_eqb}
@@ -14,7 +15,7 @@ use Rattle.docker_model.specs.file.FileFault.{FileCause, too_many, after_trailer
 use Rattle.docker_model.specs.file.FileFault.{third_midnight, no_end, cause_rank, HoldsOf, IsCause, FileFault, IsRecordFault, IsFileFault}
 use Rattle.docker_model.specs.file.FaultSoFar.{IsFaultSoFar, sure_lines, last_of}
 use Rattle.cif_laws.specs.FileStage.{Place, next_place, IsPlaceOf}
-use Rattle.cif_laws.specs.RecordCause.{is_after_end, byte_cause, cause_of, cause_of_long}
+use Rattle.cif_laws.specs.RecordCause.{cause_of, cause_of_long}
 use Rattle.cif_laws.specs.CompleteLines.{open_line, line_left, HasNoFeed}
 use Rattle.cif_laws.proofs.files.OneFileFault.{begins_front, one_fault}
 use Rattle.cif_laws.proofs.files.FileStages.{next_by_test, begins_iff_place, begins_next_iff}
@@ -25,11 +26,7 @@ use Rattle.cif_laws.proofs.files.CompleteLines.{GoesOn, goes_on, lines_of_told, 
 
 -- removing a carriage return makes a piece at most one byte shorter
 pub strip_long : (piece : List ℕ) → length piece ≤ length (strip_carriage_return piece) + 1
-strip_long piece = by (slice_index piece (length piece - 1) == 13)
-  where
-    by : (b : Bool) → length piece ≤ length (cond b (take (length piece - 1) piece) piece) + 1
-    by true = let size = length-take-le (length piece - 1) piece (omega arith) in omega arith
-    by false = omega arith
+strip_long = search (rules, length-take-le)
 
 -- a piece of more than 81 bytes doesn't have 80 bytes after a carriage return is removed from its
 -- end
@@ -38,11 +35,7 @@ not_80 piece long is = let most = strip_long piece in absurd (omega arith)
 
 -- a line that doesn't have 80 bytes leads the reader to no next `Place`
 pub no_next_place : (place : Place) (line : List ℕ) → length line ≢ 80 → next_place place line ≡ None
-no_next_place place line apart = by (next_place place line) refl
-  where
-    by : (next : Option Place) → next_place place line ≡ next → next_place place line ≡ None
-    by None h = h
-    by (Some next) h = absurd (apart (next_by_test place line next h).is.0)
+no_next_place = search (rules, next_by_test)
 
 no_begin : (earlier : Lines) (line : List ℕ) → length line ≢ 80 → ¬ BeginsFile (earlier ++ line ∷ [])
 no_begin earlier line apart begins =
@@ -70,15 +63,7 @@ within_front (first ∷ front) more (second ∷ earlier) line later e below =
 behind_front : (front : Lines) (last : List ℕ) (earlier : Lines) (line : List ℕ) (later : Lines) → front ++ last ∷ [] ≡ earlier ++ line ∷ later
     → length earlier ≡ length front
     → (earlier ≡ front) × (line ≡ last)
-behind_front [] last [] line later e same = let e' : last ∷ [] ≡ line ∷ later = e in (refl, cc)
-behind_front [] last (second ∷ earlier) line later e same = absurd (omega arith)
-behind_front (first ∷ front) last [] line later e same = absurd (omega arith)
-behind_front (first ∷ front) last (second ∷ earlier) line later e same =
-    let e' : first ∷ (front ++ last ∷ []) ≡ second ∷ (earlier ++ line ∷ later) = e in
-    let heads : first ≡ second = cc in
-    let tails : front ++ last ∷ [] ≡ earlier ++ line ∷ later = cc in
-    let rest = behind_front front last earlier line later tails (omega arith) in
-    (λ i. sym heads i ∷ rest.0 i, rest.1)
+behind_front = grind (common_steps, arith)
 
 -- ---- a fault that the first bytes of a text determine stays when more bytes are appended
 
@@ -116,17 +101,7 @@ cause_stays limit earlier line other cause one two is = by cause is
 -- if one of the records of a prefix is at fault, the prefix and the whole list have the same fault
 fault_in_front : (limit : ℕ) (front records more : Lines) (fault : FileFault) → records ≡ front ++ more → IsRecordFault limit front fault
     → IsRecordFault limit records fault
-fault_in_front limit front records more fault whole is = record {
-  earlier = is.earlier;
-  line = is.line;
-  later = is.later ++ more;
-  whole = whole ∙ (λ i. is.whole i ++ more) ∙ append_assoc is.earlier (is.line ∷ is.later) more;
-  number = is.number;
-  earlier_within = is.earlier_within;
-  earlier_begin = is.earlier_begin;
-  here = is.here;
-  cause = is.cause;
-}
+fault_in_front = search (rules, append_assoc)
 
 -- if the first piece isn't empty, `without_empty_last` keeps it as the first piece
 first_left : (piece : List ℕ) (pieces : Lines) → 0 < length piece → (others : Lines) × (without_empty_last (piece ∷ pieces) ≡ piece ∷ others)
@@ -209,8 +184,7 @@ one_fault_so_far limit text first second one two = one_fault limit text first se
 
 -- if the incomplete line has at most 81 bytes, `sure_lines` is the number of complete lines
 pub sure_lines_short : (text : List ℕ) → length (open_line text) ≤ 81 → sure_lines text ≡ length (complete_lines text)
-sure_lines_short text short =
-    sure_lines_is text ∙ ap (λ b. length (complete_lines text) + cond b 1 0) (lt-leb 82 (length (open_line text)) (omega arith)) ∙ omega arith
+sure_lines_short = search (rules, sure_lines_is, lt-leb)
 
 -- if the incomplete line has more than 81 bytes, `sure_lines` is the number of complete lines plus
 -- one
@@ -220,9 +194,7 @@ sure_lines_long text long = sure_lines_is text ∙ ap (λ b. length (complete_li
 -- if the incomplete line has at most 81 bytes, the first `sure_lines` lines of the text are its
 -- complete lines
 pub take_told : (text : List ℕ) → length (open_line text) ≤ 81 → take (sure_lines text) (lines_of text) ≡ complete_lines text
-take_told text short =
-    ap (λ lines. take (sure_lines text) lines) (lines_of_told text) ∙ take_at (complete_lines text) (line_left (open_line text)) (sure_lines text)
-    (sym (sure_lines_short text short))
+take_told = search (rules, lines_of_told, take_at, sure_lines_short)
 
 -- the bytes determine no fault: their complete lines begin some file and are within the limit, and
 -- the incomplete line has at most 81 bytes
@@ -317,21 +289,18 @@ passes_no_fault limit text fault passes told = by told.is.here
 -- if a line doesn't have 80 bytes, the cause of the fault at the line doesn't depend on the line's
 -- bytes
 pub cause_of_length : (limit count : ℕ) (place : Place) (line : List ℕ) → length line ≢ 80 → cause_of limit count place line ≡ cause_of_long limit count place
-cause_of_length limit count place line apart =
-    λ i. cond (nat_le limit count) too_many
-    (cond (is_after_end place) after_trailer (cond (ne_eqb (length line) 80 apart i) (byte_cause place line) bad_length))
+cause_of_length = search (rules, ne_eqb)
 
 -- suppose that the complete lines of a text are within the limit and lead the reader to a `Place`.
 -- If the incomplete line has at most 81 bytes, the text so far determines no fault
 pub no_fault_told : (limit : ℕ) (text : List ℕ) (place : Place) → IsPlaceOf (complete_lines text) place → length (complete_lines text) ≤ limit
     → length (open_line text) ≤ 81
     → (fault : FileFault) → ¬ IsFaultSoFar limit text fault
-no_fault_told limit text place found within short fault =
-    passes_no_fault limit text fault (passes_so_far limit text (record {
-      begin = (begins_iff_place (complete_lines text)).1 (place, found);
-      within = within;
-      short = short;
-    }))
+no_fault_told limit text place found within short fault = passes_no_fault limit _ fault (passes_so_far _ text (record {
+  begin = (begins_iff_place _).1 (place, found);
+  within = within;
+  short = short;
+}))
 
 -- a complete line that leads the reader to no next `Place` is at fault, whatever bytes follow the
 -- line
@@ -385,8 +354,7 @@ pub fault_at_end : (limit : ℕ) (text : List ℕ) (place : Place) → IsPlaceOf
       cause = cause_of limit (length (complete_lines text)) place
           (strip_carriage_return (open_line text));
     })
-fault_at_end limit text place found within some here =
-    inl (record_fault limit (complete_lines text) place (strip_carriage_return (open_line text)) found (lines_of text) [] (lines_of_open text some) within here)
+fault_at_end = search (rules, record_fault, lines_of_open)
 
 -- if the incomplete line isn't empty, the text has one more line than it has complete lines
 pub length_at_end : (text : List ℕ) → 0 < length (open_line text) → length (lines_of text) ≡ length (complete_lines text) + 1

@@ -1,14 +1,15 @@
 -- Records are the lines of a text if and only if the text consists of these records, each with its
 -- line end.
-use Rattle.std.proofs.Common.{◌≡◌, ℕ, suc, ◌-◌, ◌<◌, ◌≤◌, ◌⊎◌, List, [], ◌∷◌, ◌++◌, length, map, take, refl, ap, sym, ◌∙◌, subst}
-use Rattle.std.proofs.Common.{inl, inr, Bool, true, false, cond, arith, All, eqb-true, append_assoc, append-nil, length-append}
-use Rattle.std.specs.Prelude.{◌↔◌, ◌==◌, slice_index, ◌≢◌, nat_le, ◌&&◌}
+use Rattle.std.proofs.Common.{◌≡◌, ℕ, suc, ◌-◌, ◌<◌, ◌≤◌, ◌⊎◌, List, [], ◌∷◌, ◌++◌, length, map, take, refl, ap, sym, ◌∙◌, subst, rules}
+use Rattle.std.proofs.lemmas.Grind.{common_steps}
+use Rattle.std.proofs.Common.{inl, inr, true, false, arith, All, eqb-true, append_assoc, append-nil, length-append}
+use Rattle.std.specs.Prelude.{◌↔◌, ◌==◌, slice_index, ◌≢◌}
 use Rattle.std.specs.List.{slice_split, join_with_byte, AllByRecursion, AllPass}
 use Rattle.std.specs.Str.Lines.{strip_carriage_return}
 use Rattle.std.proofs.lemmas.List.Splits.{join_with_byte-slice_split, slice_split_at, slice_split_none, length-slice_split}
 use Rattle.std.proofs.lemmas.Bool.{leb-true}
 use Rattle.std.proofs.lemmas.Bool.Decides.{eqb_tells}
-use Rattle.std.proofs.lemmas.List.Elements.{All-from_recursion, recursion_from_All}
+use Rattle.std.proofs.lemmas.List.Elements.{recursion_from_All}
 use Rattle.std.proofs.Math.Seq.{take-append_seam, get_or-append_seam}
 use Rattle.docker_model.specs.records.Record.{is_printable, IsRecord}
 use Rattle.docker_model.specs.file.Text.{without_empty_last, lines_of}
@@ -24,29 +25,23 @@ last_is (x ∷ y ∷ bytes) h =
     let one : suc (length bytes) - 1 ≡ length bytes = omega arith in
     let inner : slice_index (y ∷ bytes) (suc (length bytes) - 1) ≡ 13 =
     subst (λ k. slice_index (y ∷ bytes) k ≡ 13) (sym one) (subst (λ k. slice_index (x ∷ y ∷ bytes) k ≡ 13) less h) in
-    let rest : (y ∷ bytes) ≡ take (length bytes) (y ∷ bytes) ++ 13 ∷ [] = subst (λ k. (y ∷ bytes) ≡ take k (y ∷ bytes) ++ 13 ∷ []) one
-    (last_is (y ∷ bytes) inner) in
+    let rest : (y ∷ bytes) ≡ take (length bytes) (y ∷ bytes) ++ 13 ∷ [] = subst (λ k. (y ∷ bytes) ≡ take k (y ∷ bytes) ++ 13 ∷ []) one (last_is _ inner) in
     subst (λ k. (x ∷ y ∷ bytes) ≡ take k (x ∷ y ∷ bytes) ++ 13 ∷ []) (sym less) (ap (λ zs. x ∷ zs) rest)
 
 -- a piece of a split text is a line by itself, or a line followed by a carriage return
 piece_is : (piece : List ℕ) → (piece ≡ strip_carriage_return piece) ⊎ (piece ≡ strip_carriage_return piece ++ 13 ∷ [])
-piece_is piece = by (slice_index piece (length piece - 1) == 13) refl
-  where
-    by : (b : Bool) → (slice_index piece (length piece - 1) == 13) ≡ b → (piece ≡ strip_carriage_return piece)
-        ⊎ (piece ≡ strip_carriage_return piece ++ 13 ∷ [])
-    by true h = inr (last_is piece (eqb-true _ _ h) ∙ (λ i. cond (sym h i) (take (length piece - 1) piece) piece ++ 13 ∷ []))
-    by false h = inl (λ i. cond (sym h i) (take (length piece - 1) piece) piece)
+piece_is = search (rules, last_is, eqb-true)
 
 -- suppose that a text consists of `lines`. If a piece and a line feed are put in front of the text,
 -- the new text consists of the piece's line, followed by `lines`
 one_more : (piece : List ℕ) (lines : List (List ℕ)) (rest : List ℕ) → IsTextOf lines rest → IsTextOf (strip_carriage_return piece ∷ lines) (piece ++ 10 ∷ rest)
-one_more piece [] rest told = by (piece_is piece)
+one_more piece [] rest told = by (piece_is _)
   where
     by : (piece ≡ strip_carriage_return piece) ⊎ (piece ≡ strip_carriage_return piece ++ 13 ∷ []) → IsTextOf (strip_carriage_return piece ∷ [])
         (piece ++ 10 ∷ rest)
     by (inl e) = (10 ∷ [], inl (inl refl), λ i. e i ++ 10 ∷ told i)
     by (inr e) = (13 ∷ 10 ∷ [], inl (inr refl), (λ i. e i ++ 10 ∷ told i) ∙ append_assoc (strip_carriage_return piece) (13 ∷ []) (10 ∷ []))
-one_more piece (line ∷ lines) rest told = by (piece_is piece)
+one_more piece (line ∷ lines) rest told = by (piece_is _)
   where
     by : (piece ≡ strip_carriage_return piece) ⊎ (piece ≡ strip_carriage_return piece ++ 13 ∷ []) → IsTextOf (strip_carriage_return piece ∷ line ∷ lines)
         (piece ++ 10 ∷ rest)
@@ -71,8 +66,7 @@ pieces_text ((b ∷ bytes) ∷ []) = by (piece_is (b ∷ bytes))
         → IsTextOf (strip_carriage_return (b ∷ bytes) ∷ []) (b ∷ bytes)
     by (inl e) = ([], inr (inr refl), e ∙ sym (append-nil (strip_carriage_return (b ∷ bytes))))
     by (inr e) = (13 ∷ [], inr (inl refl), e)
-pieces_text (piece ∷ next ∷ pieces) =
-    one_more piece (map strip_carriage_return (without_empty_last (next ∷ pieces))) (join_with_byte 10 (next ∷ pieces)) (pieces_text (next ∷ pieces))
+pieces_text (piece ∷ next ∷ pieces) = grind (arith, one_more, (pieces_text (next ∷ pieces)))
 
 -- each text consists of its lines
 pub text_of_lines : (text : List ℕ) → IsTextOf (lines_of text) text
@@ -88,102 +82,59 @@ pub record IsPlain (line : List ℕ) : Type 0 where
   pub strips : strip_carriage_return (line ++ 13 ∷ []) ≡ line
 
 keeps_last : (piece : List ℕ) → 0 < length piece → without_empty_last (piece ∷ []) ≡ piece ∷ []
-keeps_last [] some = absurd (omega arith)
-keeps_last (b ∷ bytes) some = refl
+keeps_last = search rules
 
 keeps_first : (piece : List ℕ) (pieces : List (List ℕ)) → 0 < length pieces → without_empty_last (piece ∷ pieces) ≡ piece ∷ without_empty_last pieces
-keeps_first piece [] some = absurd (omega arith)
-keeps_first piece (next ∷ pieces) some = refl
+keeps_first = search rules
 
 -- if a text begins with a piece and a line feed, its first line is this piece, without a carriage
 -- return at its end
 lines_after : (piece rest : List ℕ) → All (λ b. (b == 10) ≡ false) piece → lines_of (piece ++ 10 ∷ rest) ≡ strip_carriage_return piece ∷ lines_of rest
-lines_after piece rest plain =
-    let split = slice_split_at (λ b. b == 10) piece 10 rest plain refl in
-    let size = length-slice_split (λ b. b == 10) rest in
-    (λ i. map strip_carriage_return (without_empty_last (split i)))
-    ∙ ap (map strip_carriage_return) (keeps_first piece (slice_split (λ b. b == 10) rest) (omega arith))
+lines_after = search (rules, slice_split_at, length-slice_split, keeps_first)
 
 lines_last : (piece : List ℕ) → All (λ b. (b == 10) ≡ false) piece → 0 < length piece → lines_of piece ≡ strip_carriage_return piece ∷ []
-lines_last piece plain some =
-    (λ i. map strip_carriage_return (without_empty_last (slice_split_none (λ b. b == 10) piece plain i)))
-    ∙ ap (map strip_carriage_return) (keeps_last piece some)
+lines_last = search (rules, slice_split_none, keeps_last)
 
 -- if a text begins with a plain line and a line end, its first line is this plain line
 lines_one : (line rest end : List ℕ) → IsPlain line → IsLineEnd end → lines_of ((line ++ end) ++ rest) ≡ line ∷ lines_of rest
-lines_one line rest end plain (inl e) =
-    (λ i. lines_of ((line ++ e i) ++ rest)) ∙ ap lines_of (append_assoc line (10 ∷ []) rest)
-    ∙ lines_after line rest plain.no_feed ∙ (λ i. plain.stays i ∷ lines_of rest)
+lines_one line rest end plain (inl e) = search (rules, append_assoc, lines_after)
 lines_one line rest end plain (inr e) =
     (λ i. lines_of ((line ++ e i) ++ rest)) ∙ ap lines_of (append_assoc line (13 ∷ 10 ∷ []) rest ∙ sym (append_assoc line (13 ∷ []) (10 ∷ rest)))
     ∙ lines_after (line ++ 13 ∷ []) rest plain.no_feed_behind ∙ (λ i. plain.strips i ∷ lines_of rest)
 
 lines_end : (line end : List ℕ) → IsPlain line → IsLastLineEnd end → lines_of (line ++ end) ≡ line ∷ []
 lines_end line end plain (inl e) = ap lines_of (sym (append-nil (line ++ end))) ∙ lines_one line [] end plain e
-lines_end line end plain (inr (inl e)) =
-    let size = length-append line (13 ∷ []) in
-    (λ i. lines_of (line ++ e i)) ∙ lines_last (line ++ 13 ∷ []) plain.no_feed_behind (omega arith) ∙ (λ i. plain.strips i ∷ [])
-lines_end line end plain (inr (inr e)) =
-    (λ i. lines_of (line ++ e i)) ∙ ap lines_of (append-nil line) ∙ lines_last line plain.no_feed plain.some ∙ (λ i. plain.stays i ∷ [])
+lines_end line end plain (inr (inl e)) = search (rules, length-append, lines_last)
+lines_end line end plain (inr (inr e)) = search (rules, append-nil, lines_last)
 
 -- the lines of a text that consists of plain lines are these plain lines
 pub lines_of_text : (lines : List (List ℕ)) (text : List ℕ) → AllByRecursion IsPlain lines → IsTextOf lines text → lines_of text ≡ lines
 lines_of_text [] text plain told = ap lines_of told
 lines_of_text (line ∷ []) text plain told = ap lines_of told.2 ∙ lines_end line told.0 plain.0 told.1
-lines_of_text (line ∷ next ∷ lines) text plain told =
-    ap lines_of told.3 ∙ lines_one line told.1 told.0 plain.0 told.2 ∙ ap (λ rest. line ∷ rest) (lines_of_text (next ∷ lines) told.1 plain.1 told.4)
+lines_of_text (line ∷ next ∷ lines) text plain told = grind (arith, lines_one, (lines_of_text (next ∷ lines) told.1 plain.1 told.4))
 
 -- the test `==` fails for different numbers
 not_equal : (a b : ℕ) → a ≢ b → (a == b) ≡ false
-not_equal a b apart = by (eqb_tells a b)
-  where
-    by : ((a == b) ≡ true) × (a ≡ b) ⊎ ((a == b) ≡ false) × (a ≢ b) → (a == b) ≡ false
-    by (inl same) = absurd (apart same.1)
-    by (inr other) = other.0
+not_equal = search (rules, eqb_tells)
 
 printable_is : (b : ℕ) → is_printable b ≡ true → 32 ≤ b
-printable_is b h = leb-true 32 b (first (nat_le 32 b) (nat_le b 126) h)
-  where
-    first : (s t : Bool) → (s && t) ≡ true → s ≡ true
-    first true t h = refl
-    first false t h = h
+printable_is = search (rules, leb-true)
 
 no_feed_in : (line : List ℕ) → AllPass is_printable line → AllByRecursion (λ b. (b == 10) ≡ false) line
-no_feed_in line printable = by line (recursion_from_All (λ b. is_printable b ≡ true) line printable)
-  where
-    by : (bytes : List ℕ) → AllByRecursion (λ b. is_printable b ≡ true) bytes → AllByRecursion (λ b. (b == 10) ≡ false) bytes
-    by [] all = tt
-    by (b ∷ bytes) all = (let low = printable_is b all.0 in not_equal b 10 (omega arith), by bytes all.1)
+no_feed_in = search (rules, recursion_from_All, printable_is, not_equal)
 
 with_return : (bytes : List ℕ) → AllByRecursion (λ b. (b == 10) ≡ false) bytes → AllByRecursion (λ b. (b == 10) ≡ false) (bytes ++ 13 ∷ [])
-with_return [] all = (refl, tt)
-with_return (b ∷ bytes) all = (all.0, with_return bytes all.1)
+with_return = grind (common_steps, arith)
 
 strip_return : (line : List ℕ) → strip_carriage_return (line ++ 13 ∷ []) ≡ line
-strip_return line =
-    let size : length (line ++ 13 ∷ []) - 1 ≡ length line = (let joined = length-append line (13 ∷ []) in omega arith) in
-    (λ i. cond (slice_index (line ++ 13 ∷ []) (size i) == 13) (take (size i) (line ++ 13 ∷ [])) (line ++ 13 ∷ []))
-    ∙ (λ i. cond (get_or-append_seam line 13 [] 0 i == 13) (take (length line) (line ++ 13 ∷ [])) (line ++ 13 ∷ []))
-    ∙ take-append_seam line (13 ∷ [])
+strip_return = grind (common_steps, arith, length-append, get_or-append_seam, take-append_seam)
 
 strip_stays : (line : List ℕ) → 0 < length line → AllPass is_printable line → strip_carriage_return line ≡ line
-strip_stays line some printable =
-    let low = printable_is (slice_index line (length line - 1)) (printable (length line - 1) 0 (omega arith)) in
-    let last = not_equal (slice_index line (length line - 1)) 13 (omega arith) in
-    λ i. cond (last i) (take (length line - 1) line) line
+strip_stays = search (rules, printable_is, not_equal)
 
 -- a record is a plain line
 pub IsRecord-IsPlain : (line : List ℕ) → IsRecord line → IsPlain line
-IsRecord-IsPlain line is =
-    let size = is.0 in
-    let plain = no_feed_in line is.1 in
-    record {
-      some = omega arith;
-      no_feed = All-from_recursion (λ b. (b == 10) ≡ false) line plain;
-      no_feed_behind = All-from_recursion (λ b. (b == 10) ≡ false) (line ++ 13 ∷ []) (with_return line plain);
-      stays = strip_stays line (omega arith) is.1;
-      strips = strip_return line;
-    }
+IsRecord-IsPlain = grind (common_steps, arith, no_feed_in, with_return, strip_stays, strip_return)
 
 records_plain : (lines : List (List ℕ)) → AllByRecursion IsRecord lines → AllByRecursion IsPlain lines
 records_plain [] all = tt
@@ -191,7 +142,4 @@ records_plain (line ∷ lines) all = (IsRecord-IsPlain line all.0, records_plain
 
 -- records are the lines of a text if and only if the text consists of these records
 pub text_iff_lines : (records : List (List ℕ)) (text : List ℕ) → All IsRecord records → IsTextOf records text ↔ (lines_of text ≡ records)
-text_iff_lines records text all = (
-  lines_of_text records text (records_plain records (recursion_from_All IsRecord records all)),
-  λ same. subst (λ lines. IsTextOf lines text) same (text_of_lines text),
-)
+text_iff_lines = search (rules, lines_of_text, records_plain, recursion_from_All, text_of_lines)

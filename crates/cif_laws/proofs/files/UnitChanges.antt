@@ -1,11 +1,12 @@
 -- The changes of a file are the changes of its units, in order. A schedule ends before the first
 -- record that can't follow a basic schedule.
-use Rattle.std.proofs.Common.{◌≡◌, ℕ, ◌+◌, inl, inr, List, [], ◌∷◌, ◌++◌, length, map, subst, refl, ap, sym, ◌∙◌, true, Some, arith, append_assoc, append-nil}
+use Rattle.std.proofs.Common.{◌≡◌, ℕ, ◌+◌, List, [], ◌∷◌, ◌++◌, length, map, subst, ap, sym, ◌∙◌, true, Some, arith, append_assoc, append-nil}
+use Rattle.std.proofs.Common.{rules}
 use Rattle.std.specs.Prelude.{Option}
 use Rattle.std.specs.List.{AllByRecursion, flat_map}
 use Rattle.std.proofs.lemmas.List.Elements.{recursion_from_All}
-use Rattle.docker_model.specs.records.Record.{Kind, tiploc_insert, tiploc_amend, tiploc_delete, association, basic_schedule, extra_details}
-use Rattle.docker_model.specs.records.Record.{origin_location, intermediate_location, terminating_location, change_en_route, trailer, HasKind, kind_of}
+use Rattle.docker_model.specs.records.Record.{Kind, basic_schedule}
+use Rattle.docker_model.specs.records.Record.{trailer, HasKind, kind_of}
 use Rattle.docker_model.specs.file.File.{IsFile, IsSchedule, IsSingleKind, IsUnit, follows_basic}
 use Rattle.docker_model.specs.file.Change.{Key, Act, Change, schedule_rest, acts_by_kind, changes_of_record, changes_from, changes}
 use Rattle.cif_laws.specs.UnitChange.{changes_of_unit, changes_of_units, change_of_schedule}
@@ -22,34 +23,24 @@ change_of_act n act = record { number = n; key = act.0; act = act.1 }
 -- depend on them either
 alike_by : (n : ℕ) (kind : Kind) (line : List ℕ) (following others : List (List ℕ)) → HasKind kind line
     → acts_by_kind (Some kind) line following ≡ acts_by_kind (Some kind) line others → changes_of_record n line following ≡ changes_of_record n line others
-alike_by n kind line following others is same =
-    ap (map (change_of_act n)) (subst (λ k. acts_by_kind k line following ≡ acts_by_kind k line others) (sym is) same)
+alike_by = search rules
 
 -- the changes of a single record don't depend on the records after it
 single_alike : (n : ℕ) (line : List ℕ) (following others : List (List ℕ)) → IsSingleKind line
     → changes_of_record n line following ≡ changes_of_record n line others
-single_alike n line following others (inl is) = alike_by n tiploc_insert line following others is refl
-single_alike n line following others (inr (inl is)) = alike_by n tiploc_amend line following others is refl
-single_alike n line following others (inr (inr (inl is))) = alike_by n tiploc_delete line following others is refl
-single_alike n line following others (inr (inr (inr is))) = alike_by n association line following others is refl
+single_alike = search (rules, alike_by)
 
 -- the change of a basic schedule depends only on the basic schedule and on the other records of its
 -- schedule
 basic_alike : (n : ℕ) (basic : List ℕ) (following others : List (List ℕ)) → HasKind basic_schedule basic → schedule_rest following ≡ others
     → changes_of_record n basic following ≡ change_of_schedule n basic others ∷ []
-basic_alike n basic following others is run =
-    (λ i. map (change_of_act n) (acts_by_kind (is i) basic following)) ∙ ap (λ lines. change_of_schedule n basic lines ∷ []) run
+basic_alike = search rules
 
 -- ---- the records after a basic schedule make no changes
 
 -- a record that can follow a basic schedule makes no changes
 follower_changes_nothing : (kind : Option Kind) (line : List ℕ) (following : List (List ℕ)) → follows_basic kind ≡ true → acts_by_kind kind line following ≡ []
-follower_changes_nothing (Some extra_details) line following h = refl
-follower_changes_nothing (Some origin_location) line following h = refl
-follower_changes_nothing (Some intermediate_location) line following h = refl
-follower_changes_nothing (Some terminating_location) line following h = refl
-follower_changes_nothing (Some change_en_route) line following h = refl
-follower_changes_nothing _ line following h = cc
+follower_changes_nothing = search rules
 
 -- if all records of a prefix can follow a basic schedule, the changes of all records are the
 -- changes of the records after the prefix
@@ -73,56 +64,30 @@ others_follow basic others is =
     tail (line ∷ lines) = lines
 
 is_basic : (basic : List ℕ) (others : List (List ℕ)) → IsSchedule (basic ∷ others) → HasKind basic_schedule basic
-is_basic basic others is = subst (HasKind basic_schedule) (sym (ap head is.whole)) is.kind
-  where
-    head : List (List ℕ) → List ℕ
-    head [] = []
-    head (line ∷ lines) = line
+is_basic = search rules
 
 -- a schedule makes exactly one change, `change_of_schedule`
 pub schedule_change : (n : ℕ) (basic : List ℕ) (others : List (List ℕ)) → IsSchedule (basic ∷ others)
     → changes_of_unit n (basic ∷ others) ≡ change_of_schedule n basic others ∷ []
-schedule_change n basic others is =
-    basic_alike n basic others others (is_basic basic others is) (ap schedule_rest (sym (append-nil others))
-    ∙ rest_is others [] (others_follow basic others is) tt)
+schedule_change n basic others is = basic_alike _ basic _ others (is_basic _ others is) (ap schedule_rest (sym (append-nil others))
+    ∙ rest_is _ [] (others_follow _ others is) tt)
 
 schedule_then : (n : ℕ) (basic : List ℕ) (others rest : List (List ℕ)) → IsSchedule (basic ∷ others) → StopsHere rest
     → changes_from n (basic ∷ others ++ rest) ≡ changes_of_unit n (basic ∷ others) ++ changes_from (n + length (basic ∷ others)) rest
-schedule_then n basic others rest is stops =
-    ap (λ first. first ++ changes_from (n + 1) (others ++ rest)) (basic_alike n basic (others ++ rest) others (is_basic basic others is)
-    (rest_is others rest follow stops) ∙ sym (schedule_change n basic others is))
-    ∙ ap (λ later. changes_of_unit n (basic ∷ others) ++ later) (behind_followers (n + 1) others rest follow ∙ ap (λ k. changes_from k rest) (omega arith))
-  where
-    follow : AllByRecursion Follows others
-    follow = others_follow basic others is
+schedule_then = grind (arith, basic_alike, is_basic, rest_is, schedule_change, behind_followers, others_follow)
 
 -- the changes of a unit followed by other records are the changes of the unit, followed by the
 -- changes of those records
 pub unit_then : (n : ℕ) (unit rest : List (List ℕ)) → IsUnit unit → StopsHere rest → changes_from n (unit ++ rest) ≡ changes_of_unit n unit ++ changes_from
     (n + length unit) rest
-unit_then n unit rest (inl single) stops =
-    subst (λ u. changes_from n (u ++ rest) ≡ changes_of_unit n u ++ changes_from (n + length u) rest) (sym single.1)
-    (ap (λ first. first ++ changes_from (n + 1) rest) (single_alike n single.0 rest [] single.3))
-unit_then n unit rest (inr schedule) stops = by unit schedule schedule.whole
-  where
-    by : (u : List (List ℕ)) (is : IsSchedule u) → u ≡ is.basic ∷ is.extra ++ is.journey → changes_from n (u ++ rest) ≡ changes_of_unit n u ++ changes_from
-        (n + length u) rest
-    by [] is whole = absurd (let size = ap length whole in omega arith)
-    by (basic ∷ others) is whole = schedule_then n basic others rest is stops
+unit_then = search (rules, single_alike, schedule_then)
 
 -- the changes of units followed by a trailer are the changes of the units
 units_then : (n : ℕ) (units : List (List (List ℕ))) (last : List ℕ) → AllByRecursion IsUnit units → HasKind trailer last
     → changes_from n (flat_map (λ unit. unit) units ++ last ∷ []) ≡ changes_of_units n units
 units_then n [] last all end = λ i. map (change_of_act n) (acts_by_kind (end i) last []) ++ []
-units_then n (unit ∷ units) last all end =
-    ap (changes_from n) (append_assoc unit (flat_map (λ u. u) units) (last ∷ []))
-    ∙ unit_then n unit (flat_map (λ u. u) units ++ last ∷ []) all.0 (units_stop units last all.1 end)
-    ∙ ap (λ later. changes_of_unit n unit ++ later) (units_then (n + length unit) units last all.1 end)
+units_then n (unit ∷ units) last all end = grind (arith, append_assoc, unit_then, units_stop, (units_then (n + length unit) units last all.1 end))
 
 -- the changes of a file are the changes of its units, in order
 pub changes_by_units : (file : List (List ℕ)) (is : IsFile file) → changes file ≡ changes_of_units 2 is.units
-changes_by_units file is =
-    ap changes is.whole
-    ∙ (λ i. map (change_of_act 1) (acts_by_kind (is.header_kind i) is.first (flat_map (λ unit. unit) is.units ++ is.last ∷ [])) ++ changes_from 2
-    (flat_map (λ unit. unit) is.units ++ is.last ∷ []))
-    ∙ units_then 2 is.units is.last (recursion_from_All IsUnit is.units is.each) is.trailer_kind
+changes_by_units = search (rules, units_then, recursion_from_All)

@@ -1,10 +1,10 @@
 -- Decidable facts. A fact is decidable if there is a proof of the fact or of its negation.
-use Rattle.std.proofs.Common.{◌≡◌, ℕ, suc, ◌<◌, ◌≤◌, List, [], ◌∷◌, length, refl, ap, sym, ◌∙◌, subst, inl, inr}
-use Rattle.std.proofs.Common.{◌⊎◌, arith, Bool, true, false, nat_le, ◌==◌, ◌≢◌, if◌then◌else◌, All, Some, None}
+use Rattle.std.proofs.Common.{◌≡◌, ℕ, suc, ◌<◌, ◌≤◌, List, [], ◌∷◌, subst, inl, rules}
+use Rattle.std.proofs.Common.{◌⊎◌, Bool, true, nat_le, ◌==◌, if◌then◌else◌, All, Some, None}
 use Rattle.std.specs.Prelude.{Option}
 use Rattle.std.specs.List.{AllByRecursion}
 use Rattle.std.specs.declared.cmp.Ordering.{Ordering}
-use Rattle.std.specs.declared.cmp.Ordering.TheVariants.{Less, Equal, Greater}
+use Rattle.std.specs.declared.cmp.Ordering.TheVariants.{Less, Equal}
 use Rattle.std.specs.Cmp.{IsTotalOrder, tied_itself}
 use Rattle.std.proofs.lemmas.Bool.Decides.{leb_tells, eqb_tells}
 use Rattle.std.proofs.lemmas.List.Elements.{All-from_recursion, recursion_from_All}
@@ -18,50 +18,31 @@ Decided P = P ⊎ ¬ P
 
 -- the conjunction of two decidable facts is decidable
 pub both_decided : {P Q : Type 0} → Decided P → Decided Q → Decided (P × Q)
-both_decided (inl p) (inl q) = inl (p, q)
-both_decided (inl p) (inr none) = inr (λ h. none h.1)
-both_decided (inr none) q = inr (λ h. none h.0)
+both_decided = search rules
 
 -- the disjunction of two decidable facts is decidable
 pub either_decided : {P Q : Type 0} → Decided P → Decided Q → Decided (P ⊎ Q)
-either_decided (inl p) q = inl (inl p)
-either_decided (inr never) (inl q) = inl (inr q)
-either_decided {P} {Q} (inr never) (inr none) = inr by
-  where
-    by : P ⊎ Q → ⊥
-    by (inl p) = never p
-    by (inr q) = none q
+either_decided = search rules
 
 -- the negation of a decidable fact is decidable
 pub not_decided : {P : Type 0} → Decided P → Decided (¬ P)
-not_decided (inl p) = inr (λ none. none p)
-not_decided (inr none) = inl none
+not_decided = search rules
 
 -- a fact that is equivalent to a decidable fact is decidable
 pub decided_along : {P Q : Type 0} → (P → Q) → (Q → P) → Decided P → Decided Q
-decided_along to back (inl p) = inl (to p)
-decided_along to back (inr none) = inr (λ q. none (back q))
+decided_along = search rules
 
 -- it is decidable whether a test passes
 pub bool_decided : (b : Bool) → Decided (b ≡ true)
-bool_decided true = inl refl
-bool_decided false = inr (λ e. cc)
+bool_decided = search rules
 
 -- it is decidable whether two numbers are equal
 pub nat_decided : (a b : ℕ) → Decided (a ≡ b)
-nat_decided a b = by (eqb_tells a b)
-  where
-    by : ((a == b) ≡ true) × (a ≡ b) ⊎ ((a == b) ≡ false) × (a ≢ b) → Decided (a ≡ b)
-    by (inl told) = inl told.1
-    by (inr told) = inr told.1
+nat_decided = search (rules, eqb_tells)
 
 -- it is decidable whether a number is at most another
 pub le_decided : (a b : ℕ) → Decided (a ≤ b)
-le_decided a b = by (leb_tells a b)
-  where
-    by : ((nat_le a b ≡ true) × (a ≤ b)) ⊎ ((nat_le a b ≡ false) × (b < a)) → Decided (a ≤ b)
-    by (inl told) = inl told.1
-    by (inr told) = let above = told.1 in inr (λ low. omega arith)
+le_decided = search (rules, leb_tells, nat_le)
 
 -- it is decidable whether a number is below another
 pub lt_decided : (a b : ℕ) → Decided (a < b)
@@ -79,31 +60,20 @@ All_decided P test xs = decided_along (All-from_recursion P xs) (recursion_from_
 
 -- it is decidable whether the result of a comparison is `Less`
 pub less_decided : (o : Ordering) → Decided (o ≡ Less)
-less_decided Less = inl refl
-less_decided Equal = inr (λ e. cc)
-less_decided Greater = inr (λ e. cc)
+less_decided = search rules
 
 -- it is decidable whether the result of a comparison is `Equal`
 pub equal_decided : (o : Ordering) → Decided (o ≡ Equal)
-equal_decided Less = inr (λ e. cc)
-equal_decided Equal = inl refl
-equal_decided Greater = inr (λ e. cc)
+equal_decided = search rules
 
 -- in a total order that distinguishes different values, it is decidable whether two values are
 -- equal
 pub same_decided : {A : Type 0} {cmp : A → A → Ordering} → IsTotalOrder cmp → CmpEqualImpliesEq cmp → (a b : A) → Decided (a ≡ b)
-same_decided {A} {cmp} total exact a b =
-    decided_along (exact a b) (λ same. subst (λ x. cmp a x ≡ Equal) same (tied_itself total a)) (equal_decided (cmp a b))
+same_decided {A} {cmp} total exact a b = decided_along (exact a b) (λ same. subst (λ x. cmp a x ≡ Equal) same (tied_itself total a)) (equal_decided _)
 
 -- it is decidable whether an option is `None`
 pub none_decided : {A : Type 0} (o : Option A) → Decided (o ≡ None)
-none_decided None = inl refl
-none_decided (Some x) = inr (λ e. cc)
-
--- it is decidable whether a list is empty
-pub empty_decided : {A : Type 0} (xs : List A) → Decided (xs ≡ [])
-empty_decided [] = inl refl
-empty_decided (x ∷ xs) = inr (λ e. (let size = ap length e in omega arith))
+none_decided = search rules
 
 -- a different number for each kind of record. Two kinds are compared by their numbers
 kind_rank : Option Kind → ℕ
@@ -130,21 +100,8 @@ kind_at n =
 
 kind_again : (kind : Option Kind) → kind_at (kind_rank kind) ≡ kind
 unfolding kind_rank kind_at
-kind_again None = refl
-kind_again (Some header) = refl
-kind_again (Some tiploc_insert) = refl
-kind_again (Some tiploc_amend) = refl
-kind_again (Some tiploc_delete) = refl
-kind_again (Some association) = refl
-kind_again (Some basic_schedule) = refl
-kind_again (Some extra_details) = refl
-kind_again (Some origin_location) = refl
-kind_again (Some intermediate_location) = refl
-kind_again (Some terminating_location) = refl
-kind_again (Some change_en_route) = refl
-kind_again (Some trailer) = refl
+kind_again = search rules
 
 -- it is decidable whether two kinds of record are equal
 pub kind_decided : (first second : Option Kind) → Decided (first ≡ second)
-kind_decided first second =
-    decided_along (λ same. sym (kind_again first) ∙ ap kind_at same ∙ kind_again second) (ap kind_rank) (nat_decided (kind_rank first) (kind_rank second))
+kind_decided = search (rules, decided_along, kind_again, kind_at, kind_rank, nat_decided)

@@ -1,6 +1,6 @@
 -- Lemmas on membership in the lists that `filter` and `filter_map` return, and on the results of a
 -- search.
-use Rattle.std.proofs.Common.{◌≡◌, List, [], ◌∷◌, refl, ap, sym, ◌∙◌, subst, inl, inr, ◌⊎◌, Some, None, Bool, true, false, cond, Contains}
+use Rattle.std.proofs.Common.{◌≡◌, List, [], ◌∷◌, refl, ap, sym, ◌∙◌, subst, inl, inr, ◌⊎◌, Some, None, Bool, true, false, cond, Contains, arith}
 use Rattle.std.specs.Prelude.{Option, filter, find, ◌&&◌}
 use Rattle.std.specs.List.{list_all, filter_map, cons_option}
 use Rattle.cif_laws.proofs.lists.Membership.{Contains-cons, cons-Contains, cons-Contains-first, nil-Contains}
@@ -11,20 +11,7 @@ module _ {A : Type 0} (test : A → Bool) where
   -- a member of the filtered list is a member of the list and passes the test
   pub filter_back : (xs : List A) (z : A) → Contains (filter test xs) z → Contains xs z × (test z ≡ true)
   filter_back [] z among = absurd (nil-Contains z among)
-  filter_back (x ∷ xs) z among = by (test x) refl (filter_back xs z) among
-    where
-      behind : Contains xs z × (test z ≡ true) → Contains (x ∷ xs) z × (test z ≡ true)
-      behind found = (cons-Contains x xs z found.0, found.1)
-
-      here : test x ≡ true → (Contains (filter test xs) z → Contains xs z × (test z ≡ true)) → (x ≡ z) ⊎ Contains (filter test xs) z
-          → Contains (x ∷ xs) z × (test z ≡ true)
-      here passes rest (inl same) = (subst (Contains (x ∷ xs)) same (cons-Contains-first x xs), subst (λ v. test v ≡ true) same passes)
-      here passes rest (inr inside) = behind (rest inside)
-
-      by : (b : Bool) → test x ≡ b → (Contains (filter test xs) z → Contains xs z × (test z ≡ true)) → Contains (cond b (x ∷ filter test xs) (filter test xs)) z
-          → Contains (x ∷ xs) z × (test z ≡ true)
-      by true passes rest inside = here passes rest (Contains-cons x (filter test xs) z inside)
-      by false fails rest inside = behind (rest inside)
+  filter_back (x ∷ xs) z among = grind (arith, cons-Contains, cons-Contains-first, (filter_back xs z))
 
   -- a member of the list that passes the test is in the filtered list
   pub filter_forth : (xs : List A) (z : A) → Contains xs z → test z ≡ true → Contains (filter test xs) z
@@ -41,32 +28,17 @@ module _ {A : Type 0} (test : A → Bool) where
   -- the result of a search is a member that passes the test
   pub find_some : (xs : List A) (z : A) → find test xs ≡ Some z → Contains xs z × (test z ≡ true)
   find_some [] z found = none_some z found
-  find_some (x ∷ xs) z found = by (test x) refl (find_some xs z) found
-    where
-      by : (b : Bool) → test x ≡ b → (find test xs ≡ Some z → Contains xs z × (test z ≡ true)) → cond b (Some x) (find test xs) ≡ Some z
-          → Contains (x ∷ xs) z × (test z ≡ true)
-      by true h rest same = let e : x ≡ z = cc in (subst (Contains (x ∷ xs)) e (cons-Contains-first x xs), subst (λ v. test v ≡ true) e h)
-      by false h rest same = let told = rest same in (cons-Contains x xs z told.0, told.1)
+  find_some (x ∷ xs) z found = grind (arith, cons-Contains-first, cons-Contains, (find_some xs z))
 
   -- if the result of a search is `None`, no member passes the test
   pub find_none : (xs : List A) (z : A) → find test xs ≡ None → Contains xs z → test z ≡ false
   find_none [] z found among = absurd (nil-Contains z among)
-  find_none (x ∷ xs) z found among = by (test x) refl (find_none xs z) found (Contains-cons x xs z among)
-    where
-      by : (b : Bool) → test x ≡ b → (find test xs ≡ None → Contains xs z → test z ≡ false) → cond b (Some x) (find test xs) ≡ None → (x ≡ z) ⊎ Contains xs z
-          → test z ≡ false
-      by true h rest same where_ = absurd (let bad : Some x ≡ None = same in cc)
-      by false h rest same (inl e) = subst (λ v. test v ≡ false) e h
-      by false h rest same (inr inside) = rest same inside
+  find_none (x ∷ xs) z found among = grind (arith, (find_none xs z))
 
   -- if `list_all` is true for a test, each member passes the test
   pub all_of : (xs : List A) (z : A) → list_all test xs ≡ true → Contains xs z → test z ≡ true
   all_of [] z all among = absurd (nil-Contains z among)
-  all_of (x ∷ xs) z all among = by (all_of xs z) (both (test x) (list_all test xs) all) (Contains-cons x xs z among)
-    where
-      by : (list_all test xs ≡ true → Contains xs z → test z ≡ true) → (test x ≡ true) × (list_all test xs ≡ true) → (x ≡ z) ⊎ Contains xs z → test z ≡ true
-      by rest parts (inl e) = subst (λ v. test v ≡ true) e parts.0
-      by rest parts (inr inside) = rest parts.1 inside
+  all_of (x ∷ xs) z all among = grind (arith, both, (all_of xs z))
 
   -- if each member passes a test, `list_all` is true for the test
   pub all_by : (xs : List A) → ((z : A) → Contains xs z → test z ≡ true) → list_all test xs ≡ true
@@ -78,20 +50,7 @@ module _ {A B : Type 0} (h : A → Option B) where
   -- each member of `filter_map h xs` is the value of `h` at a member of `xs`
   pub part_back : (xs : List A) (y : B) → Contains (filter_map h xs) y → (x : A) × Contains xs x × (h x ≡ Some y)
   part_back [] y among = absurd (nil-Contains y among)
-  part_back (x ∷ xs) y among = by (h x) refl (part_back xs y) among
-    where
-      behind : (z : A) × Contains xs z × (h z ≡ Some y) → (z : A) × Contains (x ∷ xs) z × (h z ≡ Some y)
-      behind found = (found.0, cons-Contains x xs found.0 found.1, found.2)
-
-      here : (b : B) → h x ≡ Some b → (Contains (filter_map h xs) y → (z : A) × Contains xs z × (h z ≡ Some y)) → (b ≡ y) ⊎ Contains (filter_map h xs) y
-          → (z : A) × Contains (x ∷ xs) z × (h z ≡ Some y)
-      here b is rest (inl same) = (x, cons-Contains-first x xs, is ∙ ap Some same)
-      here b is rest (inr inside) = behind (rest inside)
-
-      by : (o : Option B) → h x ≡ o → (Contains (filter_map h xs) y → (z : A) × Contains xs z × (h z ≡ Some y)) → Contains (cons_option o (filter_map h xs)) y
-          → (z : A) × Contains (x ∷ xs) z × (h z ≡ Some y)
-      by None is rest inside = behind (rest inside)
-      by (Some b) is rest inside = here b is rest (Contains-cons b (filter_map h xs) y inside)
+  part_back (x ∷ xs) y among = grind (arith, cons-Contains, cons-Contains-first, (part_back xs y))
 
   -- if `h` has a value at a member of `xs`, this value is a member of `filter_map h xs`
   pub part_forth : (xs : List A) (x : A) (y : B) → Contains xs x → h x ≡ Some y → Contains (filter_map h xs) y

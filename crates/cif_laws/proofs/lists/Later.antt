@@ -1,12 +1,13 @@
 -- Lemmas on `AllLater`, which says that each member of a list is related to each later member. For
 -- example, a list is strictly ascending if each member is below each later member.
-use Rattle.std.proofs.Common.{arith, List, [], ◌∷◌, ◌≡◌, sym, ◌∙◌, subst, inl, inr, ◌⊎◌, Contains, Bool, true, false, cond, map, ◌++◌}
+use Rattle.std.proofs.Common.{arith, List, [], ◌∷◌, ◌≡◌, inl, inr, ◌⊎◌, Contains, Bool, true, false, cond, map, ◌++◌}
+use Rattle.std.proofs.lemmas.Grind.{common_steps}
 use Rattle.std.specs.Prelude.{⊤, filter}
 use Rattle.std.specs.List.{AllByRecursion, AllPairs, flat_map}
 use Rattle.std.proofs.lemmas.List.Elements.{All-from_recursion, Contains-append_cases}
 use Rattle.std.proofs.lemmas.List.Kept.{AllPairs-cons}
 use Rattle.cif_laws.proofs.lists.AllOf.{all_append, all_map, all_weaker}
-use Rattle.cif_laws.proofs.lists.Membership.{Contains-cons, nil-Contains, below_by_recursion, cons-Contains}
+use Rattle.cif_laws.proofs.lists.Membership.{nil-Contains, below_by_recursion, cons-Contains}
 use Rattle.cif_laws.proofs.lists.Membership.{cons-Contains-first, each_member, Contains-flat_map}
 
 -- each member is related to each later member
@@ -17,13 +18,7 @@ AllLater R (x ∷ xs) = AllByRecursion (R x) xs × AllLater R xs
 -- if `AllLater` holds for a list, any two members are equal, or one is related to the other
 pub one_before : {A : Type 0} (R : A → A → Type 0) (xs : List A) (a b : A) → AllLater R xs → Contains xs a → Contains xs b → (a ≡ b) ⊎ R a b ⊎ R b a
 one_before R [] a b later in_a in_b = absurd (nil-Contains a in_a)
-one_before R (x ∷ xs) a b later in_a in_b = by (one_before R xs a b later.1) (Contains-cons x xs a in_a) (Contains-cons x xs b in_b)
-  where
-    by : (Contains xs a → Contains xs b → (a ≡ b) ⊎ R a b ⊎ R b a) → (x ≡ a) ⊎ Contains xs a → (x ≡ b) ⊎ Contains xs b → (a ≡ b) ⊎ R a b ⊎ R b a
-    by rest (inl e) (inl f) = inl (sym e ∙ f)
-    by rest (inl e) (inr there) = inr (inl (subst (λ v. R v b) e (below_by_recursion (R x) xs b later.0 there)))
-    by rest (inr here) (inl f) = inr (inr (subst (λ v. R v a) f (below_by_recursion (R x) xs a later.0 here)))
-    by rest (inr here) (inr there) = rest here there
+one_before R (x ∷ xs) a b later in_a in_b = grind (common_steps, arith, below_by_recursion, (one_before R xs a b later.1))
 
 -- suppose that `AllLater` holds for a relation. If this relation implies another one for members of
 -- the list, `AllLater` holds for the other relation too
@@ -68,13 +63,13 @@ pub later_append : {A : Type 0} (R : A → A → Type 0) (xs ys : List A) → Al
     → AllLater R (xs ++ ys)
 later_append R [] ys first second across = second
 later_append {A} R (x ∷ xs) ys first second across = (
-  each_member (R x) (xs ++ ys) (λ z among. by z (Contains-append_cases xs ys z among)),
-  later_append R xs ys first.1 second (λ a b in_a in_b. across a b (cons-Contains x xs a in_a) in_b),
+  each_member _ (xs ++ ys) (λ z among. by z (Contains-append_cases xs ys z among)),
+  later_append _ xs _ first.1 second (λ a b in_a in_b. across a b (cons-Contains x _ a in_a) in_b),
 )
   where
     by : (z : A) → Contains xs z ⊎ Contains ys z → R x z
-    by z (inl here) = below_by_recursion (R x) xs z first.0 here
-    by z (inr there) = across x z (cons-Contains-first x xs) there
+    by z (inl here) = below_by_recursion _ xs _ first.0 here
+    by z (inr there) = across x z (cons-Contains-first x _) there
 
 -- suppose that `AllLater` holds for several lists. If each member of a list is related to each
 -- member of every later list, `AllLater` holds for their concatenation
@@ -82,13 +77,11 @@ pub later_flat_map : {A B : Type 0} (R : B → B → Type 0) (S : A → A → Ty
     → ((x : A) → Contains xs x → AllLater R (f x))
     → ((x y : A) → Contains xs x → Contains xs y → S x y → (a b : B) → Contains (f x) a → Contains (f y) b → R a b) → AllLater R (flat_map f xs)
 later_flat_map R S f [] later each across = tt
-later_flat_map R S f (x ∷ xs) later each across =
-    later_append R (f x) (flat_map f xs) (each x (cons-Contains-first x xs))
-    (later_flat_map R S f xs later.1 (λ y among. each y (cons-Contains x xs y among)) (λ y z in_y in_z. across y z (cons-Contains x xs y in_y)
-    (cons-Contains x xs z in_z)))
-    (λ a b in_a in_b.
-    let found = Contains-flat_map f xs b in_b in
-    across x found.0 (cons-Contains-first x xs) (cons-Contains x xs found.0 found.1) (below_by_recursion (S x) xs found.0 later.0 found.1) a b in_a found.2)
+later_flat_map R S f (x ∷ xs) later each across = later_append R _ (flat_map f xs) (each x (cons-Contains-first _ xs))
+    (later_flat_map _ S _ xs later.1 (λ y among. each y (cons-Contains _ xs _ among)) (λ y z in_y in_z. across y z (cons-Contains x _ y in_y)
+    (cons-Contains _ xs _ in_z))) (λ a b in_a in_b.
+    let found = Contains-flat_map f _ b in_b in
+    across x found.0 (cons-Contains-first _ xs) (cons-Contains _ xs _ found.1) (below_by_recursion (S x) _ found.0 later.0 found.1) a b in_a found.2)
 
 -- like `later_append`, but `AllByRecursion` says that each member of the first list is related to
 -- each member of the second
@@ -104,8 +97,7 @@ pub later_map_weaker : {A B : Type 0} (f : A → B) (R : A → A → Type 0) (S 
     → (xs : List A) → AllLater R xs
     → AllLater S (map f xs)
 later_map_weaker f R S keeps [] all = tt
-later_map_weaker f R S keeps (x ∷ xs) all =
-    (all_map f (S (f x)) xs (all_weaker (R x) (λ y. S (f x) (f y)) (λ y r. keeps x y r) xs all.0), later_map_weaker f R S keeps xs all.1)
+later_map_weaker f R S keeps (x ∷ xs) all = (all_map _ (S (f x)) _ (all_weaker (R x) _ (λ y r. keeps x y r) xs all.0), later_map_weaker _ R _ keeps xs all.1)
 
 -- if a relation implies another relation for all values, and `AllLater` holds for the first
 -- relation, it also holds for the second

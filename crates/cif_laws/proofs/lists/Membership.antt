@@ -1,17 +1,14 @@
 -- Lemmas on membership in lists: in lists of one element, in `x ∷ xs`, in mapped lists, and in
 -- concatenations.
-use Rattle.std.proofs.Common.{◌≡◌, ℕ, zero, suc, ◌<◌, List, ◌∷◌, length, inl, inr, arith, Contains, get_or, ◌⊎◌, refl, [], subst, lit<, map, ap, ◌++◌, sym, All}
-use Rattle.std.proofs.lemmas.List.Elements.{Contains-append_cases, Contains-append_left, Contains-append_right, All-from_recursion}
+use Rattle.std.proofs.Common.{◌≡◌, ℕ, suc, ◌<◌, List, ◌∷◌, length, inl, inr, arith, Contains, get_or, ◌⊎◌, refl, [], subst, lit<, map, ◌++◌, sym, All}
+use Rattle.std.proofs.Common.{rules}
+use Rattle.std.proofs.lemmas.List.Elements.{Contains-append_cases, Contains-append_left, Contains-append_right}
 use Rattle.std.specs.List.{AllByRecursion, flat_map}
 use Rattle.std.specs.Prelude.{◌↔◌}
 
 -- a member of `x ∷ xs` is `x` or a member of `xs`
 pub Contains-cons : {A : Type 0} (x : A) (xs : List A) (z : A) → Contains (x ∷ xs) z → (x ≡ z) ⊎ Contains xs z
-Contains-cons x xs z among = by among.0 among.1 among.2
-  where
-    by : (k : ℕ) → k < length (x ∷ xs) → get_or (x ∷ xs) k z ≡ z → (x ≡ z) ⊎ Contains xs z
-    by zero below is = inl is
-    by (suc k) below is = inr (k, omega arith, is)
+Contains-cons = search rules
 
 -- `x` is a member of `x ∷ xs`
 pub cons-Contains-first : {A : Type 0} (x : A) (xs : List A) → Contains (x ∷ xs) x
@@ -28,16 +25,11 @@ nil-Contains z among = let below : among.0 < length {A = ℕ} [] = among.1 in om
 -- if `AllByRecursion` holds for a property, each member of the list has the property
 pub below_by_recursion : {A : Type 0} (P : A → Type 0) (xs : List A) (z : A) → AllByRecursion P xs → Contains xs z → P z
 below_by_recursion P [] z all among = absurd (nil-Contains z among)
-below_by_recursion P (x ∷ xs) z all among = by (below_by_recursion P xs z all.1) (Contains-cons x xs z among)
-  where
-    by : (Contains xs z → P z) → (x ≡ z) ⊎ Contains xs z → P z
-    by rest (inl same) = subst P same all.0
-    by rest (inr inside) = rest inside
+below_by_recursion P (x ∷ xs) z all among = grind (arith, (below_by_recursion P xs z all.1))
 
 -- in a list of one element, the element at any index of the list is that element
 pub only : {A : Type 0} (x y : A) (k : ℕ) → k < length (x ∷ []) → get_or (x ∷ []) k y ≡ y → x ≡ y
-only x y zero below is = is
-only x y (suc k) below is = absurd (omega arith)
+only = search rules
 
 -- a member of a list of one element is that element
 pub Contains-single : {A : Type 0} (x y : A) → Contains (x ∷ []) y → x ≡ y
@@ -50,20 +42,12 @@ single-Contains x y same = (0, lit< tt, same)
 -- each member of a mapped list is the image of a member of the original list
 pub Contains-map : {A B : Type 0} (f : A → B) (xs : List A) (y : B) → Contains (map f xs) y → (x : A) × Contains xs x × (f x ≡ y)
 Contains-map f [] y among = absurd (nil-Contains y among)
-Contains-map f (x ∷ xs) y among = by (Contains-map f xs y) (Contains-cons (f x) (map f xs) y among)
-  where
-    by : (Contains (map f xs) y → (z : _) × Contains xs z × (f z ≡ y)) → (f x ≡ y) ⊎ Contains (map f xs) y → (z : _) × Contains (x ∷ xs) z × (f z ≡ y)
-    by rest (inl same) = (x, cons-Contains-first x xs, same)
-    by rest (inr inside) = let found = rest inside in (found.0, cons-Contains x xs found.0 found.1, found.2)
+Contains-map f (x ∷ xs) y among = grind (arith, cons-Contains-first, cons-Contains, (Contains-map f xs y))
 
 -- the image of each member of a list is a member of the mapped list
 pub map-Contains : {A B : Type 0} (f : A → B) (xs : List A) (x : A) → Contains xs x → Contains (map f xs) (f x)
 map-Contains f [] x among = absurd (nil-Contains x among)
-map-Contains f (z ∷ xs) x among = by (map-Contains f xs x) (Contains-cons z xs x among)
-  where
-    by : (Contains xs x → Contains (map f xs) (f x)) → (z ≡ x) ⊎ Contains xs x → Contains (f z ∷ map f xs) (f x)
-    by rest (inl same) = subst (λ v. Contains (f z ∷ map f xs) v) (ap f same) (cons-Contains-first (f z) (map f xs))
-    by rest (inr inside) = cons-Contains (f z) (map f xs) (f x) (rest inside)
+map-Contains f (z ∷ xs) x among = grind (arith, cons-Contains-first, cons-Contains, (map-Contains f xs x))
 
 -- each member of `flat_map f xs` is a member of `f x`, for some member `x` of `xs`
 pub Contains-flat_map : {A B : Type 0} (f : A → List B) (xs : List A) (y : B) → Contains (flat_map f xs) y → (x : A) × Contains xs x × Contains (f x) y
@@ -90,11 +74,7 @@ member_of P xs x all among = subst P among.2 (all among.0 x among.1)
 
 -- if each member of a list has a property, `All` holds for the property
 pub all_members : {A : Type 0} (P : A → Type 0) (xs : List A) → ((x : A) → Contains xs x → P x) → All P xs
-all_members P xs each = All-from_recursion P xs (by xs each)
-  where
-    by : (ys : List _) → ((y : _) → Contains ys y → P y) → AllByRecursion P ys
-    by [] all = tt
-    by (y ∷ ys) all = (all y (cons-Contains-first y ys), by ys (λ z among. all z (cons-Contains y ys z among)))
+all_members = search (rules, cons-Contains-first, cons-Contains)
 
 -- if each member of a list has a property, `AllByRecursion` holds for the property
 pub each_member : {A : Type 0} (P : A → Type 0) (xs : List A) → ((z : A) → Contains xs z → P z) → AllByRecursion P xs

@@ -1,6 +1,7 @@
 -- A sorted list is strictly ascending if no two of its elements tie. Two elements tie if they
 -- compare as equal.
-use Rattle.std.proofs.Common.{◌≡◌, ℕ, suc, ◌+◌, ◌≤◌, List, [], ◌∷◌, get_or, refl, ap, sym, ◌∙◌, subst, true, false, cond, arith}
+use Rattle.std.proofs.Common.{◌≡◌, ℕ, suc, ◌+◌, ◌≤◌, List, [], ◌∷◌, get_or, refl, ap, sym, ◌∙◌, subst, true, false, cond, arith, rules}
+use Rattle.std.proofs.lemmas.Grind.{common_steps}
 use Rattle.std.specs.List.{AllByRecursion, sum_by}
 use Rattle.std.specs.List.Sorted.{IsSorted, IsPermutation}
 use Rattle.std.specs.declared.cmp.Ordering.{Ordering}
@@ -32,12 +33,7 @@ module _ {A : Type 0} {cmp : A → A → Ordering} (total : IsTotalOrder cmp) wh
 
   tie_apart : (x y : A) → ¬ (cmp x y ≡ Equal) → tie x y ≡ 0
   unfolding tie
-  tie_apart x y apart = by (cmp x y) refl
-    where
-      by : (o : Ordering) → cmp x y ≡ o → ◌≡◌ {A = ℕ} (cond (is_eq o) 1 0) 0
-      by Less e = refl
-      by Equal e = absurd (apart e)
-      by Greater e = refl
+  tie_apart = search rules
 
   ties_nil : (x : A) → ties x [] ≡ 0
   unfolding ties
@@ -54,19 +50,8 @@ module _ {A : Type 0} {cmp : A → A → Ordering} (total : IsTotalOrder cmp) wh
   -- if no two elements tie, each value ties with at most one element
   one_tie : (x : A) (xs : List A) → AreApart cmp xs → ties x xs ≤ 1
   one_tie x [] apart = let none = ties_nil x in omega arith
-  one_tie x (y ∷ ys) apart = by (one_tie x ys apart.1) (cmp x y) refl
-    where
-      other : ties x ys ≤ 1 → ¬ (cmp x y ≡ Equal) → ties x (y ∷ ys) ≤ 1
-      other rest no_tie = let first = tie_apart x y no_tie in let whole = ties_cons x y ys in omega arith
-
-      by : ties x ys ≤ 1 → (o : Ordering) → cmp x y ≡ o → ties x (y ∷ ys) ≤ 1
-      by rest Less e = other rest (λ f. cc)
-      by rest Greater e = other rest (λ f. cc)
-      by rest Equal e =
-          let first = tie_equal x y e in
-          let none = no_ties x ys (each_member (λ z. ¬ (cmp x z ≡ Equal)) ys (λ z among same. below_by_recursion (λ w. ¬ (cmp y w ≡ Equal)) ys z apart.0 among
-          (sym (total.congr x y z e) ∙ same))) in
-          let whole = ties_cons x y ys in omega arith
+  one_tie x (y ∷ ys) apart =
+      grind (common_steps, arith, ties, tie_apart, ties_cons, tie_equal, no_ties, each_member, below_by_recursion, (one_tie x ys apart.1))
 
   rest_sorted : (x : A) (xs : List A) → IsSorted cmp (x ∷ xs) → IsSorted cmp xs
   rest_sorted x xs sorted k d low below =

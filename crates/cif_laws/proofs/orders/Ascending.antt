@@ -1,5 +1,6 @@
 -- Two strictly ascending lists with the same members are equal.
-use Rattle.std.proofs.Common.{◌≡◌, List, [], ◌∷◌, refl, inl, inr, sym, ◌∙◌, subst, Contains, ◌⊎◌, ◌++◌}
+use Rattle.std.proofs.Common.{◌≡◌, List, [], ◌∷◌, refl, inl, inr, sym, Contains, ◌⊎◌, ◌++◌, arith, rules}
+use Rattle.std.proofs.lemmas.Grind.{common_steps}
 use Rattle.std.specs.Prelude.{◌↔◌}
 use Rattle.std.specs.List.{AllByRecursion}
 use Rattle.std.specs.declared.cmp.Ordering.{Ordering}
@@ -22,30 +23,24 @@ module _ {A : Type 0} {cmp : A → A → Ordering} (total : IsTotalOrder cmp) wh
   -- two ascending lists with the same members have the same first element
   same_heads : (x y : A) (xs ys : List A) → AllByRecursion (IsBelow cmp x) xs → AllByRecursion (IsBelow cmp y) ys
       → (x ≡ y) ⊎ Contains ys x → (y ≡ x) ⊎ Contains xs y → x ≡ y
-  same_heads x y xs ys above_x above_y (inl same) other = same
-  same_heads x y xs ys above_x above_y (inr inside) (inl same) = sym same
-  same_heads x y xs ys above_x above_y (inr inside) (inr among) =
-      absurd (not_both x y (below_by_recursion (IsBelow cmp x) xs y above_x among) (below_by_recursion (IsBelow cmp y) ys x above_y inside))
+  same_heads = grind (common_steps, arith, not_both, below_by_recursion)
 
   -- if two ascending lists with the same members have equal first elements, their tails have the
   -- same members
   in_tail : (x y z : A) (xs ys : List A) → x ≡ y → AllByRecursion (IsBelow cmp x) xs → Contains xs z → (y ≡ z) ⊎ Contains ys z → Contains ys z
-  in_tail x y z xs ys heads above_x among (inl same) =
-      absurd (irreflexive x (subst (IsBelow cmp x) (sym (heads ∙ same)) (below_by_recursion (IsBelow cmp x) xs z above_x among)))
-  in_tail x y z xs ys heads above_x among (inr inside) = inside
+  in_tail = grind (common_steps, arith, irreflexive, below_by_recursion)
 
   -- two ascending lists with the same members are equal
   pub same_list : (xs ys : List A) → IsStrictlyAscending cmp xs → IsStrictlyAscending cmp ys → ((z : A) → Contains xs z ↔ Contains ys z) → xs ≡ ys
   same_list [] [] up_x up_y same = refl
-  same_list [] (y ∷ ys) up_x up_y same = absurd (nil-Contains y ((same y).1 (cons-Contains-first y ys)))
-  same_list (x ∷ xs) [] up_x up_y same = absurd (nil-Contains x ((same x).0 (cons-Contains-first x xs)))
+  same_list [] (y ∷ ys) up_x up_y same = absurd (nil-Contains y ((same y).1 (cons-Contains-first _ ys)))
+  same_list (x ∷ xs) [] up_x up_y same = absurd (nil-Contains _ ((same x).0 (cons-Contains-first x _)))
   same_list (x ∷ xs) (y ∷ ys) up_x up_y same =
-      let heads = same_heads x y xs ys up_x.0 up_y.0
-      (swapped (Contains-cons y ys x ((same x).0 (cons-Contains-first x xs))))
-      (swapped (Contains-cons x xs y ((same y).1 (cons-Contains-first y ys)))) in
-      let tails = same_list xs ys up_x.1 up_y.1 (λ z. (
-        λ among. in_tail x y z xs ys heads up_x.0 among (Contains-cons y ys z ((same z).0 (cons-Contains x xs z among))),
-        λ among. in_tail y x z ys xs (sym heads) up_y.0 among (Contains-cons x xs z ((same z).1 (cons-Contains y ys z among))),
+      let heads = same_heads x _ xs _ up_x.0 up_y.0 (swapped (Contains-cons y _ x ((same x).0 (cons-Contains-first _ xs))))
+      (swapped (Contains-cons _ xs _ ((same y).1 (cons-Contains-first y _)))) in
+      let tails = same_list xs _ up_x.1 up_y.1 (λ z. (
+        λ among. in_tail x _ z _ ys heads up_x.0 among (Contains-cons _ ys _ ((same z).0 (cons-Contains x _ z among))),
+        λ among. in_tail _ x _ ys _ (sym heads) up_y.0 among (Contains-cons x _ z ((same z).1 (cons-Contains _ ys _ among))),
       )) in
       λ i. heads i ∷ tails i
     where
@@ -55,13 +50,11 @@ module _ {A : Type 0} {cmp : A → A → Ordering} (total : IsTotalOrder cmp) wh
 
 -- in a strictly ascending list each element is below each later element
 pub later_of : {A : Type 0} (cmp : A → A → Ordering) (xs : List A) → IsStrictlyAscending cmp xs → AllLater (IsBelow cmp) xs
-later_of cmp [] up = tt
-later_of cmp (x ∷ xs) up = (up.0, later_of cmp xs up.1)
+later_of = search rules
 
 -- a list in which each element is below each later element is strictly ascending
 pub ascending_of : {A : Type 0} (cmp : A → A → Ordering) (xs : List A) → AllLater (IsBelow cmp) xs → IsStrictlyAscending cmp xs
-ascending_of cmp [] up = tt
-ascending_of cmp (x ∷ xs) up = (up.0, ascending_of cmp xs up.1)
+ascending_of = search rules
 
 -- a strictly ascending list is still strictly ascending after an element above all its elements is
 -- appended

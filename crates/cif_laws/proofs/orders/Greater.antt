@@ -1,8 +1,8 @@
 -- The laws of taking the greater of two values. Some of them hold only if valid values that compare as equal are equal.
-use Rattle.std.proofs.Common.{◌≡◌, cond, refl, sym, subst, inl, inr, ◌⊎◌}
+use Rattle.std.proofs.Common.{◌≡◌, refl, sym, subst, inl, inr, ◌⊎◌, rules}
 use Rattle.std.specs.declared.cmp.Ordering.{Ordering}
-use Rattle.std.specs.declared.cmp.Ordering.TheVariants.{Less, Equal, Greater}
-use Rattle.std.specs.Ordering.{ord_max, is_lt}
+use Rattle.std.specs.declared.cmp.Ordering.TheVariants.{Equal}
+use Rattle.std.specs.Ordering.{ord_max}
 use Rattle.std.specs.Cmp.{IsTotalOrder}
 use Rattle.docker_model.specs.state.Order.{IsAtMost, IsGreater}
 use Rattle.cif_laws.proofs.orders.AtMost.{level, at_most_trans, at_most_itself, at_most_below}
@@ -23,19 +23,11 @@ module _ {A : Type 0} (valid : A → Type 0) {cmp : A → A → Ordering} (total
   -- if a value is at least as great as each of two values, it is at least as great as the greater
   -- of them
   pub greater_least : (a b c d : A) → IsGreater cmp a b c → IsAtMost cmp a d → IsAtMost cmp b d → IsAtMost cmp c d
-  greater_least a b c d is over_a over_b = by is.among
-    where
-      by : (c ≡ a) ⊎ (c ≡ b) → IsAtMost cmp c d
-      by (inl same) = subst (λ x. IsAtMost cmp x d) (sym same) over_a
-      by (inr same) = subst (λ x. IsAtMost cmp x d) (sym same) over_b
+  greater_least = search rules
 
   -- taking the greater of two values is commutative: it doesn't depend on the order of the values
   pub greater_commutes : (a b c : A) → valid a → valid b → IsGreater cmp a b c → IsGreater cmp b a c
-  greater_commutes a b c good_a good_b is = record { among = by is.among; first = is.second; second = is.first }
-    where
-      by : (c ≡ a) ⊎ (c ≡ b) → (c ≡ b) ⊎ (c ≡ a)
-      by (inl same) = inr same
-      by (inr same) = inl same
+  greater_commutes = search rules
 
   -- taking the greater of two values is idempotent: the greater of a value and itself is this value
   pub greater_itself : (a : A) → valid a → IsGreater cmp a a a
@@ -43,30 +35,18 @@ module _ {A : Type 0} (valid : A → Type 0) {cmp : A → A → Ordering} (total
 
   -- the greater of two valid values is unique
   pub greater_one : IsExact valid cmp → (a b c d : A) → valid a → valid b → IsGreater cmp a b c → IsGreater cmp a b d → c ≡ d
-  greater_one exact a b c d good_a good_b is_c is_d =
-      exact c d (greater_closed a b c good_a good_b is_c) (greater_closed a b d good_a good_b is_d)
-      (level total c d (greater_least a b c d is_c is_d.first is_d.second) (greater_least a b d c is_d is_c.first is_c.second))
+  greater_one = search (rules, greater_closed, level, greater_least)
 
   -- taking the greater of two valid values is associative: the greatest of three values is the same whichever two of them are compared first
   pub greater_associates : IsExact valid cmp → (a b c ab bc left right : A) → valid a → valid b → valid c
       → IsGreater cmp a b ab → IsGreater cmp ab c left → IsGreater cmp b c bc → IsGreater cmp a bc right → left ≡ right
-  greater_associates exact a b c ab bc left right good_a good_b good_c is_ab is_left is_bc is_right =
-      exact left right
-      (greater_closed ab c left (greater_closed a b ab good_a good_b is_ab) good_c is_left)
-      (greater_closed a bc right good_a (greater_closed b c bc good_b good_c is_bc) is_right)
-      (level total left right
-      (greater_least ab c left right is_left
-      (greater_least a b ab right is_ab is_right.first (at_most_trans total b bc right is_bc.first is_right.second))
-      (at_most_trans total c bc right is_bc.second is_right.second))
-      (greater_least a bc right left is_right
-      (at_most_trans total a ab left is_ab.first is_left.first)
-      (greater_least b c bc left is_bc (at_most_trans total b ab left is_ab.second is_left.first) is_left.second)))
+  greater_associates exact a b c ab bc left right good_a good_b good_c is_ab is_left is_bc is_right = exact left right
+      (greater_closed _ _ _ (greater_closed _ _ _ good_a good_b is_ab) good_c is_left)
+      (greater_closed _ _ _ good_a (greater_closed _ _ _ good_b good_c is_bc) is_right) (level total _ _ (greater_least _ _ _ _ is_left
+      (greater_least _ _ _ _ is_ab is_right.first (at_most_trans total _ _ _ is_bc.first is_right.second))
+      (at_most_trans total _ _ _ is_bc.second is_right.second)) (greater_least _ _ _ _ is_right (at_most_trans total _ _ _ is_ab.first is_left.first)
+      (greater_least _ _ _ _ is_bc (at_most_trans total _ _ _ is_ab.second is_left.first) is_left.second)))
 
   -- `ord_max` of two values is the greater of them
   pub greater_max : (a b : A) → IsGreater cmp a b (ord_max cmp a b)
-  greater_max a b = by (cmp b a) refl
-    where
-      by : (o : Ordering) → cmp b a ≡ o → IsGreater cmp a b (cond (is_lt o) a b)
-      by Less below = record { among = inl refl; first = at_most_itself total a; second = at_most_below cmp b a below }
-      by Equal tied = record { among = inr refl; first = (λ above. let turned = total.antisymm a b in cc); second = at_most_itself total b }
-      by Greater above = record { among = inr refl; first = (λ over. let turned = total.antisymm a b in cc); second = at_most_itself total b }
+  greater_max = search (rules, at_most_itself, at_most_below)

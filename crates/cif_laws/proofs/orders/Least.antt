@@ -1,10 +1,9 @@
 -- The least of the members of a list that pass a test. There is a least member if any member passes
 -- the test.
-use Rattle.std.proofs.Common.{◌≡◌, List, [], ◌∷◌, refl, ap, sym, ◌∙◌, subst, inl, inr, ◌⊎◌, Some, None, Bool, true, false, Contains}
+use Rattle.std.proofs.Common.{◌≡◌, List, [], ◌∷◌, refl, ap, sym, ◌∙◌, subst, inl, inr, ◌⊎◌, Some, None, Bool, true, false, Contains, rules}
 use Rattle.std.specs.Prelude.{find, ◌&&◌, not}
 use Rattle.std.specs.List.{list_all}
 use Rattle.std.specs.declared.cmp.Ordering.{Ordering}
-use Rattle.std.specs.declared.cmp.Ordering.TheVariants.{Less, Equal, Greater}
 use Rattle.std.specs.Ordering.{is_gt}
 use Rattle.std.specs.Cmp.{IsTotalOrder}
 use Rattle.docker_model.specs.state.Order.{IsAtMost, IsBelow}
@@ -26,30 +25,18 @@ module _ {A : Type 0} {cmp : A → A → Ordering} (total : IsTotalOrder cmp) (t
     pub first : (z : A) → Contains xs z → test z ≡ true → IsAtMost cmp x z
 
   not_behind : (x z : A) → not (test z && is_gt (cmp x z)) ≡ true → test z ≡ true → IsAtMost cmp x z
-  not_behind x z fails passes greater = let bad : false ≡ true = sym (λ i. not (passes i && is_gt (greater i))) ∙ fails in absurd (false_is_not bad)
-    where
-      false_is_not : false ≡ true → ⊥
-      false_is_not h = cc
+  not_behind = search rules
 
   behind_none : (x z : A) → (test z ≡ true → IsAtMost cmp x z) → not (test z && is_gt (cmp x z)) ≡ true
-  behind_none x z first = by (test z) refl
-    where
-      inner : (o : Ordering) → cmp x z ≡ o → IsAtMost cmp x z → not (is_gt o) ≡ true
-      inner Less e low = refl
-      inner Equal e low = refl
-      inner Greater e low = absurd (low e)
-
-      by : (b : Bool) → test z ≡ b → not (b && is_gt (cmp x z)) ≡ true
-      by true h = inner (cmp x z) refl (first h)
-      by false h = refl
+  behind_none = search rules
 
   -- no member passes the test, or there is a least member among those that pass
   least_in : (xs : List A) → ((z : A) → Contains xs z → test z ≡ false) ⊎ ((x : A) × IsLeast xs x)
-  least_in [] = inl (λ z among. absurd (nil-Contains z among))
+  least_in [] = inl (λ z among. absurd (nil-Contains _ among))
   least_in (x ∷ xs) = by (test x) refl (least_in xs)
     where
       alone : test x ≡ true → ((z : A) → Contains xs z → test z ≡ false) → IsLeast (x ∷ xs) x
-      alone h none = record { among = cons-Contains-first x xs; passes = h; first = λ z among passes. pick z passes (Contains-cons x xs z among) }
+      alone h none = record { among = cons-Contains-first _ xs; passes = h; first = λ z among passes. pick z passes (Contains-cons _ xs _ among) }
         where
           pick : (z : A) → test z ≡ true → (x ≡ z) ⊎ Contains xs z → IsAtMost cmp x z
           pick z passes (inl e) = subst (IsAtMost cmp x) e (at_most_itself total x)
@@ -57,37 +44,35 @@ module _ {A : Type 0} {cmp : A → A → Ordering} (total : IsTotalOrder cmp) (t
 
       better : test x ≡ true → (y : A) → IsLeast xs y → IsAtMost cmp x y ⊎ IsBelow cmp y x → (z : A) × IsLeast (x ∷ xs) z
       better h y best (inl low) =
-          (x, record { among = cons-Contains-first x xs; passes = h; first = λ z among passes. pick z passes (Contains-cons x xs z among) })
+          (x, record { among = cons-Contains-first _ xs; passes = h; first = λ z among passes. pick z passes (Contains-cons _ xs _ among) })
         where
           pick : (z : A) → test z ≡ true → (x ≡ z) ⊎ Contains xs z → IsAtMost cmp x z
           pick z passes (inl e) = subst (IsAtMost cmp x) e (at_most_itself total x)
-          pick z passes (inr inside) = at_most_trans total x y z low (best.first z inside passes)
+          pick z passes (inr inside) = at_most_trans total _ y _ low (best.first z inside passes)
       better h y best (inr below) =
-          (y, record { among = cons-Contains x xs y best.among; passes = best.passes; first = λ z among passes. pick z passes (Contains-cons x xs z among) })
+          (y, record { among = cons-Contains x _ y best.among; passes = best.passes; first = λ z among passes. pick z passes (Contains-cons _ xs _ among) })
         where
           pick : (z : A) → test z ≡ true → (x ≡ z) ⊎ Contains xs z → IsAtMost cmp y z
-          pick z passes (inl e) = subst (IsAtMost cmp y) e (at_most_below cmp y x below)
+          pick z passes (inl e) = subst (IsAtMost cmp y) e (at_most_below cmp _ x below)
           pick z passes (inr inside) = best.first z inside passes
 
       by : (b : Bool) → test x ≡ b → ((z : A) → Contains xs z → test z ≡ false) ⊎ ((z : A) × IsLeast xs z) → ((z : A) → Contains (x ∷ xs) z → test z ≡ false)
           ⊎ ((z : A) × IsLeast (x ∷ xs) z)
       by true h (inl none) = inr (x, alone h none)
-      by true h (inr (y, best)) = inr (better h y best (at_most_or total x y))
-      by false h (inl none) = inl (λ z among. pick z (Contains-cons x xs z among))
+      by true h (inr (y, best)) = inr (better h y best (at_most_or total _ y))
+      by false h (inl none) = inl (λ z among. pick z (Contains-cons _ xs _ among))
         where
           pick : (z : A) → (x ≡ z) ⊎ Contains xs z → test z ≡ false
           pick z (inl e) = subst (λ v. test v ≡ false) e h
           pick z (inr inside) = none z inside
-      by false h (inr (y, best)) =
-          inr (
-            y,
-            record {
-              among = cons-Contains x xs y best.among;
-              passes = best.passes;
-              first = λ z among passes.
-                  pick z passes (Contains-cons x xs z among);
-            },
-          )
+      by false h (inr (y, best)) = inr (
+        y,
+        record {
+          among = cons-Contains x _ y best.among;
+          passes = best.passes;
+          first = λ z among passes. pick z passes (Contains-cons _ xs _ among);
+        },
+      )
         where
           pick : (z : A) → test z ≡ true → (x ≡ z) ⊎ Contains xs z → IsAtMost cmp y z
           pick z passes (inl e) = absurd (let bad : false ≡ true = sym h ∙ ap test e ∙ passes in cc)
@@ -97,25 +82,23 @@ module _ {A : Type 0} {cmp : A → A → Ordering} (total : IsTotalOrder cmp) (t
   -- test
   pub found_least : (xs : List A) (x : A) → find (is_least xs) xs ≡ Some x → IsLeast xs x
   found_least xs x found =
-      let told = find_some (is_least xs) xs x found in
-      let parts = both (test x) (list_all (λ other. not (test other && is_gt (cmp x other))) xs) told.1 in
+      let told = find_some _ _ _ found in
+      let parts = both _ _ told.1 in
       record {
         among = told.0;
         passes = parts.0;
-        first = λ z among passes.
-            not_behind x z (all_of (λ other. not (test other && is_gt (cmp x other))) xs z parts.1 among) passes;
+        first = λ z among passes. not_behind _ _ (all_of _ _ _ parts.1 among) passes;
       }
 
   -- if the search for the least member returns `None`, no member passes the test
   pub none_passes : (xs : List A) → find (is_least xs) xs ≡ None → (z : A) → Contains xs z → test z ≡ false
-  none_passes xs none = by (least_in xs)
+  none_passes xs none = by (least_in _)
     where
       by : ((z : A) → Contains xs z → test z ≡ false) ⊎ ((x : A) × IsLeast xs x) → (z : A) → Contains xs z → test z ≡ false
       by (inl fails) = fails
       by (inr (x, best)) =
-          let holds : is_least xs x ≡ true = (λ i. best.passes i && all_by (λ other. not (test other && is_gt (cmp x other))) xs
-          (λ z among. behind_none x z (best.first z among)) i) in
-          let bad : true ≡ false = sym holds ∙ find_none (is_least xs) xs x none best.among in
+          let holds : is_least xs x ≡ true = (λ i. best.passes i && all_by _ _ (λ z among. behind_none _ _ (best.first z among)) i) in
+          let bad : true ≡ false = sym holds ∙ find_none _ _ _ none best.among in
           absurd (true_is_not bad)
         where
           true_is_not : true ≡ false → ⊥

@@ -2,9 +2,9 @@
 -- exceptions. The orders of bodies, ops and entries do so only if all lines in the bodies are
 -- records.
 use mathlib.Core.Path.{fun_ext}
-use Rattle.std.proofs.Common.{◌≡◌, subst, sym, refl, ℕ, List, [], ap, true, false}
+use Rattle.std.proofs.Common.{◌≡◌, subst, sym, ℕ, List, [], ap, true, false, rules}
 use Rattle.std.specs.declared.cmp.Ordering.{Ordering}
-use Rattle.std.specs.declared.cmp.Ordering.TheVariants.{Less, Equal, Greater}
+use Rattle.std.specs.declared.cmp.Ordering.TheVariants.{Equal}
 use Rattle.std.specs.Ordering.{ordering_then, nat_cmp, on, then_cmp, is_eq}
 use Rattle.std.specs.Cmp.{IsTotalOrder, then_total, on_total, nat_cmp_total, tied_itself}
 use Rattle.std.specs.Cmp.Lexicographic.{nat_list_cmp_total}
@@ -41,21 +41,11 @@ ledger_item_total =
 
 -- if `ordering_then a b` is `Equal`, then both `a` and `b` are `Equal`
 pub then_equal : (a b : Ordering) → ordering_then a b ≡ Equal → (a ≡ Equal) × (b ≡ Equal)
-then_equal Less b e = (e, absurd (less_is_not_equal e))
-  where
-    less_is_not_equal : Less ≡ Equal → ⊥
-    less_is_not_equal h = cc
-then_equal Equal b e = (refl, e)
-then_equal Greater b e = (e, absurd (greater_is_not_equal e))
-  where
-    greater_is_not_equal : Greater ≡ Equal → ⊥
-    greater_is_not_equal h = cc
+then_equal = search rules
 
 -- different moments don't compare as equal
 pub exact_moment : CmpEqualImpliesEq moment_cmp
-exact_moment a b e =
-    let parts = then_equal (nat_cmp a.day b.day) (nat_cmp a.minute b.minute) e in
-    λ i. record { day = exact_unsigned a.day b.day parts.0 i; minute = exact_unsigned a.minute b.minute parts.1 i }
+exact_moment = search (rules, then_equal, exact_unsigned)
 
 -- different file stamps don't compare as equal
 pub exact_file_stamp : CmpEqualImpliesEq file_stamp_cmp
@@ -140,20 +130,10 @@ by_parts = then_cmp (on key_tag nat_cmp) (then_cmp (on code_in bytes_cmp) (then_
 
 -- `ordering_then a Equal` is `a`
 pub then_equal_right : (a : Ordering) → ordering_then a Equal ≡ a
-then_equal_right Less = refl
-then_equal_right Equal = refl
-then_equal_right Greater = refl
+then_equal_right = search rules
 
 key_by_parts : (a b : Key) → key_cmp a b ≡ by_parts a b
-key_by_parts (tiploc_key a) (tiploc_key b) = sym (then_equal_right (bytes_cmp a b))
-key_by_parts (tiploc_key a) (association_key b) = refl
-key_by_parts (tiploc_key a) (schedule_key b) = refl
-key_by_parts (association_key a) (tiploc_key b) = refl
-key_by_parts (association_key a) (association_key b) = sym (then_equal_right (association_key_cmp a b))
-key_by_parts (association_key a) (schedule_key b) = refl
-key_by_parts (schedule_key a) (tiploc_key b) = refl
-key_by_parts (schedule_key a) (association_key b) = refl
-key_by_parts (schedule_key a) (schedule_key b) = refl
+key_by_parts = search (rules, then_equal_right)
 
 -- the order of keys is total
 pub key_total : IsTotalOrder key_cmp
@@ -203,15 +183,7 @@ abbrev op_by_parts : Op → Op → Ordering
 op_by_parts = then_cmp (on op_rank nat_cmp) (then_cmp (on end_in nat_cmp) (then_cmp (on bodies_in bytes_cmp) (on tag_in nat_cmp)))
 
 op_is_by_parts : (a b : Op) → op_cmp a b ≡ op_by_parts a b
-op_is_by_parts deleted deleted = refl
-op_is_by_parts deleted lapsed = refl
-op_is_by_parts deleted (put_with b) = refl
-op_is_by_parts lapsed deleted = refl
-op_is_by_parts lapsed lapsed = refl
-op_is_by_parts lapsed (put_with b) = refl
-op_is_by_parts (put_with a) deleted = refl
-op_is_by_parts (put_with a) lapsed = refl
-op_is_by_parts (put_with a) (put_with b) = refl
+op_is_by_parts = search rules
 
 -- the order of ops is total
 pub op_total : IsTotalOrder op_cmp

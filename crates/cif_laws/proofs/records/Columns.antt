@@ -1,13 +1,13 @@
 -- Lemmas on the columns and the good fields of a record, before and after the record's transaction
 -- is set to N.
-use Rattle.std.proofs.Common.{◌≡◌, ℕ, zero, suc, ◌+◌, ◌-◌, ◌<◌, ◌≤◌, List, [], ◌∷◌, take, drop, set, get_or, subst, refl}
-use Rattle.std.proofs.Common.{ap, sym, ◌∙◌, Bool, true, false, cond, Some, None, arith, length-drop, length-set}
+use Rattle.std.proofs.Common.{◌≡◌, ℕ, ◌-◌, ◌<◌, ◌≤◌, List, [], ◌∷◌, take, drop, set, subst, refl, rules}
+use Rattle.std.proofs.lemmas.Grind.{common_steps}
+use Rattle.std.proofs.Common.{ap, sym, ◌∙◌, true, cond, Some, None, arith, length-drop, length-set}
 use Rattle.std.specs.Prelude.{not, option_map, find, slice_index}
 use Rattle.std.specs.List.{AllByRecursion}
 use Rattle.std.proofs.lemmas.List.{length-take-le, get_or-drop, get_or-take, get_or-set_other, get_or-set_same, take-set}
-use Rattle.std.proofs.lemmas.List.Elements.{All-take, All-drop, All-set}
-use Rattle.std.specs.Str.{bytes_eq}
-use Rattle.docker_model.specs.records.Record.{Kind, IsRecord, is_printable, columns, column, kind_of, HasKind, identities, IsTextOfLength}
+use Rattle.std.proofs.lemmas.List.Elements.{All-set}
+use Rattle.docker_model.specs.records.Record.{Kind, IsRecord, is_printable, columns, column, kind_of, HasKind, IsTextOfLength}
 use Rattle.docker_model.specs.records.Field.{CheckedField, HasGoodFields, checked_fields, fields_of, as_new, HasNewTransaction}
 
 -- the field is good in this record
@@ -19,15 +19,7 @@ none_found : (line : List ℕ) (fields : List CheckedField)
     → option_map (λ (field : CheckedField). field.first) (find (λ field. not (field.is_good (columns field.first field.last line))) fields) ≡ None
     → AllByRecursion (IsGoodIn line) fields
 none_found line [] none = tt
-none_found line (field ∷ fields) none = by (field.is_good (columns field.first field.last line)) refl none (none_found line fields)
-  where
-    by : (b : Bool) → field.is_good (columns field.first field.last line) ≡ b
-        → option_map (λ (f : CheckedField). f.first) (cond (not b) (Some field) (find (λ f. not (f.is_good (columns f.first f.last line))) fields)) ≡ None
-        → (option_map (λ (f : CheckedField). f.first) (find (λ f. not (f.is_good (columns f.first f.last line))) fields) ≡ None
-        → AllByRecursion (IsGoodIn line) fields)
-        → AllByRecursion (IsGoodIn line) (field ∷ fields)
-    by true h found rest = (h, rest found)
-    by false h found rest = cc
+none_found line (field ∷ fields) none = grind (arith, (none_found line fields))
 
 all_found : (line : List ℕ) (fields : List CheckedField) → AllByRecursion (IsGoodIn line) fields
     → option_map (λ (field : CheckedField). field.first) (find (λ field. not (field.is_good (columns field.first field.last line))) fields) ≡ None
@@ -47,18 +39,11 @@ fields_good kind line is all = all_found line (fields_of (kind_of line) line) (s
 -- the bytes in a range of columns of a record are printable, and their number is the width of the
 -- range
 pub text_in : (line : List ℕ) (first last : ℕ) → IsRecord line → first - 1 ≤ last → last ≤ 80 → IsTextOfLength (last - (first - 1)) (columns first last line)
-text_in line first last is order within =
-    let size = is.0 in
-    let rest = length-drop (first - 1) line in (
-      length-take-le (last - (first - 1)) (drop (first - 1) line) (omega arith),
-      All-take (λ b. is_printable b ≡ true) (last - (first - 1)) (drop (first - 1) line) (All-drop (λ b. is_printable b ≡ true) (first - 1) line is.1),
-    )
+text_in = grind (common_steps, arith, length-drop, length-take-le)
 
 -- the only byte of a one-column field is the byte in that column
 pub one_column : (line : List ℕ) (n : ℕ) → 0 < n → slice_index (columns n n line) 0 ≡ column n line
-one_column line n some =
-    get_or-take (n - (n - 1)) (drop (n - 1) line) 0 0 (omega arith) ∙ get_or-drop (n - 1) line 0 0 ∙ (let e : (n - 1) + 0 ≡ n - 1 = omega arith in
-    ap (λ k. get_or line k 0) e)
+one_column = search (rules, get_or-take, get_or-drop)
 
 -- each column of a record is printable
 pub printable_column : (line : List ℕ) (n : ℕ) → IsRecord line → n - 1 < 80 → is_printable (column n line) ≡ true
@@ -67,10 +52,7 @@ printable_column line n is within = let size = is.0 in is.1 (n - 1) 0 (omega ari
 -- ---- setting the transaction to N preserves the kind of a record and its later columns
 
 drop_set : (i k : ℕ) (xs : List ℕ) (y : ℕ) → i < k → drop k (set xs i y) ≡ drop k xs
-drop_set i k [] y below = refl
-drop_set i zero (x ∷ xs) y below = absurd (omega arith)
-drop_set zero (suc k) (x ∷ xs) y below = refl
-drop_set (suc i) (suc k) (x ∷ xs) y below = drop_set i k xs y (omega arith)
+drop_set = grind (common_steps, arith)
 
 -- setting the transaction to N leaves the columns after it unchanged
 pub new_columns : (line : List ℕ) (first last : ℕ) → 3 < first → columns first last (as_new line) ≡ columns first last line
@@ -82,8 +64,7 @@ new_column line n behind = get_or-set_other line 2 (n - 1) 78 0 (omega arith)
 
 -- setting the transaction to N preserves the kind of a record
 pub new_kind : (line : List ℕ) → kind_of (as_new line) ≡ kind_of line
-new_kind line =
-    ap (λ field. option_map (λ (pair : List ℕ × Kind). pair.1) (find (λ (pair : List ℕ × Kind). bytes_eq pair.0 field) identities)) (take-set line 2 78)
+new_kind = search (rules, take-set)
 
 -- after its transaction is set to N, a record is still a record
 pub new_record : (line : List ℕ) → IsRecord line → IsRecord (as_new line)

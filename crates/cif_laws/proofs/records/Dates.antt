@@ -1,11 +1,11 @@
 -- Lemmas on day numbers, and on their relation to the calendar of the crate `jiff`.
-use Rattle.std.proofs.Common.{◌≡◌, ℕ, ◌≤◌, true, pos, arith, zero, suc, ◌+◌, ◌<◌, ◌∙◌, subst, Bool, false, cond, refl, ◌⊎◌, inl, inr, sym, ℤ, ap, ◌-◌, ◌+ℤ◌}
+use Rattle.std.proofs.Common.{◌≡◌, ℕ, ◌≤◌, true, pos, arith, zero, suc, ◌+◌, ◌<◌, ◌∙◌, subst, Bool, false, cond, refl, ◌⊎◌, inl, inr, sym, ℤ, ap, ◌-◌}
+use Rattle.std.proofs.Common.{rules}
 use Rattle.std.specs.Prelude.{◌↔◌, nat_le, count_by, unsigned_abs}
 use Rattle.std.specs.List.{range_with_len}
-use Rattle.std.specs.Int.{is_in_range}
 use Rattle.std.proofs.lemmas.Bool.{leb-true, le-leb, cases_order, lt-leb}
 use Rattle.std.proofs.lemmas.List.Sums.{sum_by-cons}
-use Rattle.jiff_core.specs.Calendar.{IsDate, days_in_month, day_count, days_of_years, days_of_months, IsCivilDate, days_from_civil}
+use Rattle.jiff_core.specs.Calendar.{IsDate, days_in_month, day_count, days_of_years, days_of_months, IsCivilDate}
 use Rattle.jiff_core.proofs.SignedLemmas.{signed_arith}
 use Rattle.jiff_core.proofs.CalendarLemmas.{days_in_month_bounds, day_count-lt_year, day_count-lt_month, day_count-day, days_from_civil-day_count}
 use Rattle.docker_model.specs.records.Date.{is_calendar_day, day_number, year_of, month_of, day_of_month}
@@ -15,23 +15,7 @@ use Rattle.cif_laws.proofs.lists.BoolsAndOptions.{and_true as and_both, both}
 -- a year, a month and a day pass the test `is_calendar_day` if and only if they are a date in the
 -- calendar of `jiff`
 pub is_calendar_day-IsDate : (year month day : ℕ) → year ≤ 9999 → (is_calendar_day year month day ≡ true) ↔ IsDate (pos year) (pos month) (pos day)
-is_calendar_day-IsDate year month day low = (
-  λ h.
-      let parts = both (is_in_range 1 12 month) _ h in
-      let months = both (nat_le 1 month) _ parts.0 in
-      let days = both (nat_le 1 day) _ parts.1 in
-      let m1 = leb-true 1 month months.0 in
-      let m2 = leb-true month 12 months.1 in
-      let d1 = leb-true 1 day days.0 in
-      let d2 = leb-true day (days_in_month (pos year) month) days.1 in
-      (omega (arith, signed_arith), omega (arith, signed_arith), omega (arith, signed_arith)),
-  λ date.
-      let m1 : 1 ≤ month = omega (arith, signed_arith, date.1) in
-      let m2 : month ≤ 12 = omega (arith, signed_arith, date.1) in
-      let d1 : 1 ≤ day = omega (arith, signed_arith, date.2) in
-      let d2 : day ≤ days_in_month (pos year) month = omega (arith, signed_arith, date.2) in
-      and_both _ _ (and_both _ _ (le-leb 1 month m1) (le-leb month 12 m2)) (and_both _ _ (le-leb 1 day d1) (le-leb day _ d2)),
-)
+is_calendar_day-IsDate = search (rules, both, leb-true, pos, signed_arith, and_both, le-leb)
 
 -- if the first `k` numbers of a range pass a test and the other numbers of the range fail it,
 -- `count_by` is `k`
@@ -89,18 +73,7 @@ first_of_month : (y m d : ℕ) → 1 ≤ d → day_count (pos y) m 1 ≤ day_cou
 first_of_month y m d day = let step = day_count-day (pos y) m 1 d (omega arith) day in omega arith
 
 from_1960 : (y m d : ℕ) → 1960 ≤ y → y ≤ 9999 → 1 ≤ m → 1 ≤ d → 4_368_300 ≤ day_count (pos y) m d
-from_1960 y m d year low month day =
-    let start = start_of_1960 in
-    let first = first_of_year y m d low month day in
-    by (cases_order 1960 y) start first
-  where
-    by : (1960 ≡ y) ⊎ ((1960 < y) ⊎ (y < 1960)) → day_count (pos 1960) 1 1 ≡ 4_368_300 → day_count (pos y) 1 1 ≤ day_count (pos y) m d
-        → 4_368_300 ≤ day_count (pos y) m d
-    by (inl same) start first =
-        let there : day_count (pos 1960) 1 1 ≤ day_count (pos y) m d = subst (λ v. day_count (pos v) 1 1 ≤ day_count (pos y) m d) (sym same) first in
-        omega arith
-    by (inr (inl lt)) start first = let up = later_year 1960 y 1 1 m d (civil_start 1960 (omega arith)) day lt in omega arith
-    by (inr (inr gt)) start first = absurd (omega arith)
+from_1960 = search (rules, start_of_1960, first_of_year, cases_order, pos, later_year, civil_start)
 
 abs_is : (z : ℤ) (n : ℕ) → z ≡ pos n → unsigned_abs z ≡ n
 abs_is z n e = ap unsigned_abs e
@@ -108,12 +81,7 @@ abs_is z n e = ap unsigned_abs e
 -- the day number of a date is its day count in the calendar of `jiff`, minus the day count of 1
 -- January 1960
 pub day_number-day_count : (y m d : ℕ) → 1960 ≤ y → y ≤ 9999 → 1 ≤ m → 1 ≤ d → day_number y m d + 4_368_300 ≡ day_count (pos y) m d
-day_number-day_count y m d year low month day =
-    let start = from_1960 y m d year low month day in
-    let signed : (days_from_civil (pos y) m d +ℤ pos 3653) ≡ pos (day_count (pos y) m d - 4_368_300) =
-    omega (arith, signed_arith, days_from_civil-day_count (pos y) m d) in
-    let number = abs_is (days_from_civil (pos y) m d +ℤ pos 3653) (day_count (pos y) m d - 4_368_300) signed in
-    omega arith
+day_number-day_count = search (rules, from_1960, pos, signed_arith, days_from_civil-day_count, abs_is)
 
 -- `year_of`, `month_of` and `day_of_month` are inverse to `day_number`
 module _ (y m d : ℕ) (year : 1960 ≤ y) (last : y ≤ 2059) (civil : IsCivilDate (pos y) m d) where
@@ -121,27 +89,10 @@ module _ (y m d : ℕ) (year : 1960 ≤ y) (last : y ≤ 2059) (civil : IsCivilD
   number_here = day_number-day_count y m d year (omega arith) civil.1.0 civil.2.0
 
   year_passes : (i : ℕ) → i < y - 1959 → nat_le (day_number (1960 + i) 1 1) (day_number y m d) ≡ true
-  year_passes i below = by (cases_order (1960 + i) y)
-    where
-      by : (1960 + i ≡ y) ⊎ ((1960 + i < y) ⊎ (y < 1960 + i)) → nat_le (day_number (1960 + i) 1 1) (day_number y m d) ≡ true
-      by (inl same) =
-          let first = first_of_year y m d (omega arith) civil.1.0 civil.2.0 in
-          let there = day_number-day_count y 1 1 year (omega arith) (omega arith) (omega arith) in
-          let here = number_here in
-          le-leb (day_number (1960 + i) 1 1) (day_number y m d) (subst (λ v. day_number v 1 1 ≤ day_number y m d) (sym same) (omega arith))
-      by (inr (inl lt)) =
-          let up = later_year (1960 + i) y 1 1 m d (civil_start (1960 + i) (omega arith)) civil.2.0 lt in
-          let there = day_number-day_count (1960 + i) 1 1 (omega arith) (omega arith) (omega arith) (omega arith) in
-          let here = number_here in
-          le-leb (day_number (1960 + i) 1 1) (day_number y m d) (omega arith)
-      by (inr (inr gt)) = absurd (omega arith)
+  year_passes = search (rules, cases_order, first_of_year, day_number-day_count, number_here, le-leb, later_year, civil_start)
 
   year_fails : (i : ℕ) → y - 1959 ≤ i → i < 100 → nat_le (day_number (1960 + i) 1 1) (day_number y m d) ≡ false
-  year_fails i low high =
-      let up = later_year y (1960 + i) m d 1 1 civil (omega arith) (omega arith) in
-      let there = day_number-day_count (1960 + i) 1 1 (omega arith) (omega arith) (omega arith) (omega arith) in
-      let here = number_here in
-      lt-leb (day_number (1960 + i) 1 1) (day_number y m d) (omega arith)
+  year_fails = search (rules, later_year, day_number-day_count, number_here, lt-leb)
 
   -- `year_of` converts the day number of a date to the year of the date
   pub year_of-day_number : year_of (day_number y m d) ≡ y
@@ -178,33 +129,22 @@ module _ (y m d : ℕ) (year : 1960 ≤ y) (last : y ≤ 2059) (civil : IsCivilD
 
   -- `month_of` converts the day number of a date to the month of the date
   pub month_of-day_number : month_of (day_number y m d) ≡ m
-  month_of-day_number =
-      let counted = count_prefix (λ v. nat_le (day_number y v 1) (day_number y m d)) 1 12 m civil.1.1 month_passes month_fails in
-      (λ i. count_by (λ v. nat_le (day_number (year_of-day_number i) v 1) (day_number y m d)) (range_with_len 1 12)) ∙ counted
+  month_of-day_number = search (rules, count_prefix, month_passes, month_fails, year_of-day_number)
 
   -- `day_of_month` converts the day number of a date to the day of the month
   pub day_of_month-day_number : day_of_month (day_number y m d) ≡ d
-  day_of_month-day_number =
-      let there = day_number-day_count y m 1 year (omega arith) civil.1.0 (omega arith) in
-      let here = number_here in
-      let step = day_count-day (pos y) m 1 d (omega arith) civil.2.0 in
-      (λ i. day_number y m d + 1 - day_number (year_of-day_number i) (month_of-day_number i) 1) ∙ counted there here step
-    where
-      counted : day_number y m 1 + 4_368_300 ≡ day_count (pos y) m 1 → day_number y m d + 4_368_300 ≡ day_count (pos y) m d
-          → day_count (pos y) m 1 + d ≡ day_count (pos y) m d + 1 → day_number y m d + 1 - day_number y m 1 ≡ d
-      counted there here step = omega arith
+  day_of_month-day_number = grind (arith, day_number-day_count, number_here, day_count-day, pos, year_of-day_number, month_of-day_number)
 
   -- the day number of a date is printed as this date
   pub day_text-day_number : day_text (day_number y m d) ≡ date_text y m d
-  day_text-day_number = λ i. date_text (year_of-day_number i) (month_of-day_number i) (day_of_month-day_number i)
+  day_text-day_number = search (rules, year_of-day_number, month_of-day_number, day_of_month-day_number)
 
--- like `day_text-day_number`, for a date that passes the test `is_calendar_day`
 pub day_text-of_calendar : (year month day : ℕ) → 1960 ≤ year → year ≤ 2059 → is_calendar_day year month day ≡ true
     → day_text (day_number year month day) ≡ date_text year month day
 day_text-of_calendar year month day low high h =
-    let parts = both (is_in_range 1 12 month) _ h in
-    let months = both (nat_le 1 month) _ parts.0 in
-    let days = both (nat_le 1 day) _ parts.1 in
+    let parts = both _ _ h in
+    let months = both _ _ parts.0 in
+    let days = both _ _ parts.1 in
     day_text-day_number year month day low high (
       omega (arith, signed_arith),
       (leb-true 1 month months.0, leb-true month 12 months.1),

@@ -1,18 +1,18 @@
 -- Tests of a record, and the number of times that a schedule passes midnight, counted record by
 -- record.
-use Rattle.std.proofs.Common.{ℕ, List, ◌≡◌, refl, true, ◌+◌, [], ◌∷◌, length, ◌∙◌, cond, arith, Bool, false}
-use Rattle.std.proofs.Common.{suc, ◌≤◌, Some, None, sym, ap, eqb-true, ◌++◌, map, subst, ◌*◌, ◌⊎◌, inl, inr}
-use Rattle.std.specs.Prelude.{not, option_map, nat_lt, ◌==◌, ◌↔◌, Option, slice_index, ◌||◌}
+use Rattle.std.proofs.Common.{ℕ, List, ◌≡◌, refl, true, ◌+◌, [], ◌∷◌, length, ◌∙◌, cond, arith, Bool, false, rules}
+use Rattle.std.proofs.Common.{◌≤◌, Some, None, sym, ap, eqb-true, ◌++◌, map, subst}
+use Rattle.std.specs.Prelude.{not, option_map, nat_lt, ◌↔◌, Option}
 use Rattle.std.specs.List.{prefix_len, AllByRecursion, AllPass, flat_map}
 use Rattle.std.proofs.lemmas.Bool.{ltb-true, ltb-false}
 use Rattle.std.proofs.lemmas.List.{map-append}
 use Rattle.std.proofs.lemmas.Grind.{flat_map-append}
 use Rattle.std.proofs.lemmas.List.Elements.{recursion_from_All, All-from_recursion}
-use Rattle.docker_model.specs.records.Record.{is_printable, leftmost_bad_byte, IsRecord, Kind, HasKind, origin_location}
-use Rattle.docker_model.specs.records.Record.{intermediate_location, terminating_location, columns, kind_of}
-use Rattle.docker_model.specs.records.Clock.{is_clock, is_present_time, half_minutes, minute_of, is_blank, is_scheduled_time, scheduled_time}
+use Rattle.docker_model.specs.records.Record.{is_printable, leftmost_bad_byte, IsRecord, Kind, HasKind}
+use Rattle.docker_model.specs.records.Record.{kind_of}
+use Rattle.docker_model.specs.records.Clock.{is_present_time, half_minutes, is_scheduled_time, scheduled_time}
 use Rattle.docker_model.specs.records.Field.{HasGoodFields}
-use Rattle.docker_model.specs.file.Journey.{fall_count, Occasion, times_of, times_along, midnights, times_by_kind, timed, departure, arrival, pass}
+use Rattle.docker_model.specs.file.Journey.{fall_count, Occasion, times_of, times_along, midnights, times_by_kind, timed}
 use Rattle.cif_laws.specs.RecordTest.{is_record}
 use Rattle.cif_laws.specs.TimesSoFar.{falls_after, last_of, later_or}
 use Rattle.cif_laws.proofs.lists.AllOf.{all_append, all_map}
@@ -31,12 +31,7 @@ front_whole (b ∷ bytes) all = (λ i. cond (not (not (all.0 i))) (1 + printable
 
 whole_front : (bytes : List ℕ) → length bytes ≤ printable_front bytes → AllByRecursion (λ b. is_printable b ≡ true) bytes
 whole_front [] all = tt
-whole_front (b ∷ bytes) all = by (is_printable b) refl all (whole_front bytes)
-  where
-    by : (t : Bool) → is_printable b ≡ t → suc (length bytes) ≤ cond (not (not t)) (1 + printable_front bytes) 0
-        → (length bytes ≤ printable_front bytes → AllByRecursion (λ c. is_printable c ≡ true) bytes) → AllByRecursion (λ c. is_printable c ≡ true) (b ∷ bytes)
-    by true h most rest = (h, rest (omega arith))
-    by false h most rest = absurd (omega arith)
+whole_front (b ∷ bytes) all = grind (arith, (whole_front bytes))
 
 bad_byte_by : (bytes : List ℕ) (t : Bool) → nat_lt (printable_front bytes) (length bytes) ≡ t → leftmost_bad_byte bytes ≡ option_map (λ (i : ℕ). i + 1)
     (cond t (Some (printable_front bytes)) None)
@@ -63,12 +58,7 @@ printable_by_none bytes none = by (nat_lt (printable_front bytes) (length bytes)
 
 -- bytes are a record if and only if they pass the test `is_record`
 pub record_iff_test : (line : List ℕ) → IsRecord line ↔ (is_record line ≡ true)
-record_iff_test line = (
-  λ is. and_true (length line == 80) _ (ap (λ n. n == 80) is.0) (test_by_none (leftmost_bad_byte line) (no_bad_byte line is.1)),
-  λ test.
-      let parts = both (length line == 80) _ test in
-      (eqb-true (length line) 80 parts.0, printable_by_none line (none_by_test (leftmost_bad_byte line) parts.1)),
-)
+record_iff_test = search (rules, and_true, test_by_none, no_bad_byte, both, eqb-true, printable_by_none, none_by_test)
 
 -- ---- how often a schedule passes midnight can be computed record by record
 
@@ -95,11 +85,7 @@ fewer_falls (time ∷ times) later = fall_count_behind time times later
 -- the last time of the concatenation of two lists is the last time of the second list. If the
 -- second list is empty, it is the last time of the first list
 pub last_of-append : (times later : List ℕ) → last_of (times ++ later) ≡ later_or (last_of later) (last_of times)
-last_of-append [] later = by (last_of later)
-  where
-    by : (o : Option ℕ) → o ≡ later_or o None
-    by None = refl
-    by (Some last) = refl
+last_of-append [] later = search rules
 last_of-append (time ∷ []) [] = refl
 last_of-append (time ∷ []) (next ∷ later) = by next later
   where
@@ -114,11 +100,7 @@ last_time = 2879
 
 no_fall_behind : (time : ℕ) (times : List ℕ) → AllByRecursion (λ t. t ≤ last_time) (time ∷ times) → fall_count ((time ∷ times) ++ last_time ∷ []) ≡ fall_count
     (time ∷ times)
-no_fall_behind time [] all = by (nat_lt last_time time) refl
-  where
-    by : (t : Bool) → nat_lt last_time time ≡ t → cond (nat_lt last_time time) 1 0 + 0 ≡ 0
-    by true h = let less = ltb-true last_time time h in let within = all.0 in absurd (omega arith)
-    by false h = λ i. cond (h i) 1 0 + 0
+no_fall_behind time [] all = search (rules, ltb-true)
 no_fall_behind time (next ∷ times) all = ap (λ n. cond (nat_lt next time) 1 0 + n) (no_fall_behind next times all.1)
 
 -- appending the time 23:59½ leaves the number of falls unchanged. A fall is a time that is earlier
@@ -130,14 +112,11 @@ no_fall_last (time ∷ times) all = no_fall_behind time times all
 -- the times of two concatenated lists of records are the times of the first list, followed by the
 -- times of the second list
 pub times_append : (lines more : List (List ℕ)) → times_along (lines ++ more) ≡ times_along lines ++ times_along more
-times_append lines more =
-    ap (map (λ (time : Occasion × ℕ). time.1)) (flat_map-append times_of lines more) ∙ map-append (λ (time : Occasion × ℕ). time.1) (flat_map times_of lines)
-    (flat_map times_of more)
+times_append = search (rules, flat_map-append, map-append)
 
 -- appending records never lowers the number of times that a schedule passes midnight
 pub fewer_midnights : (lines more : List (List ℕ)) → midnights lines ≤ midnights (lines ++ more)
-fewer_midnights lines more =
-    subst (λ times. midnights lines ≤ fall_count times) (sym (times_append lines more)) (fewer_falls (times_along lines) (times_along more))
+fewer_midnights = search (rules, times_append, fewer_falls)
 
 -- when a record is appended, the schedule passes midnight as often as before, plus once for each
 -- fall in the record's times. A fall is a time that is earlier than the time before it
@@ -164,41 +143,16 @@ abbrev IsWithinDay : Occasion × ℕ → Type 0
 IsWithinDay time = time.1 ≤ last_time
 
 half_minutes_within : (field : List ℕ) → is_present_time field ≡ true → half_minutes field ≤ last_time
-half_minutes_within field is = by (slice_index field 4 == 72)
-  where
-    by : (t : Bool) → 2 * minute_of field + cond t 1 0 ≤ last_time
-    by true = let below = clock_minute field (both (is_clock field) _ is).0 in omega arith
-    by false = let below = clock_minute field (both (is_clock field) _ is).0 in omega arith
+half_minutes_within = search (rules, clock_minute, both)
 
 timed_within : (occasion : Occasion) (field : List ℕ) → is_scheduled_time field ≡ true → AllByRecursion IsWithinDay (timed occasion (scheduled_time field))
-timed_within occasion field is = by (is_blank field) refl (either (is_blank field) (is_present_time field) is)
-  where
-    by : (t : Bool) → is_blank field ≡ t → (is_blank field ≡ true) ⊎ (is_present_time field ≡ true)
-        → AllByRecursion IsWithinDay (timed occasion (scheduled_time field))
-    by true h told = rw h tt
-    by false h (inl blank) = let bad : true ≡ false = sym blank ∙ h in cc
-    by false h (inr present) = rw h (half_minutes_within field present, tt)
+timed_within = search (rules, either, half_minutes_within)
 
 present_scheduled : (field : List ℕ) → is_present_time field ≡ true → is_scheduled_time field ≡ true
-present_scheduled field is = by (is_blank field)
-  where
-    by : (t : Bool) → (t || is_present_time field) ≡ true
-    by true = refl
-    by false = is
+present_scheduled = search rules
 
 times_by_kind_within : (kind : Kind) (line : List ℕ) → HasKind kind line → HasGoodFields line → AllByRecursion IsWithinDay (times_by_kind (Some kind) line)
-times_by_kind_within origin_location line is good =
-    let fields = good_fields origin_location line is good in timed_within departure (columns 11 15 line) (present_scheduled (columns 11 15 line) fields.1.0)
-times_by_kind_within intermediate_location line is good =
-    let fields = good_fields intermediate_location line is good in
-    all_append IsWithinDay (timed arrival (scheduled_time (columns 11 15 line)) ++ timed pass (scheduled_time (columns 21 25 line)))
-    (timed departure (scheduled_time (columns 16 20 line)))
-    (all_append IsWithinDay (timed arrival (scheduled_time (columns 11 15 line))) (timed pass (scheduled_time (columns 21 25 line)))
-    (timed_within arrival (columns 11 15 line) fields.1.0) (timed_within pass (columns 21 25 line) fields.1.1.1.0))
-    (timed_within departure (columns 16 20 line) fields.1.1.0)
-times_by_kind_within terminating_location line is good =
-    let fields = good_fields terminating_location line is good in timed_within arrival (columns 11 15 line) (present_scheduled (columns 11 15 line) fields.1.0)
-times_by_kind_within _ line is good = tt
+times_by_kind_within = search (rules, good_fields, timed_within, present_scheduled, all_append)
 
 times_within : (line : List ℕ) → HasGoodFields line → AllByRecursion IsWithinDay (times_of line)
 times_within line good = by (kind_of line) refl

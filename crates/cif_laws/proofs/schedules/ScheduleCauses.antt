@@ -1,22 +1,21 @@
 -- The cause of the fault at a record that can't continue a schedule, given the reader's stage
 -- before the record. The cause is the same when the schedule is read as part of a file.
-use Rattle.std.proofs.Common.{◌≡◌, ℕ, List, refl, ap, ◌<◌, ◌⊎◌, inl, inr, sym, ◌∙◌, ◌≤◌, None}
+use Rattle.std.proofs.Common.{◌≡◌, ℕ, List, refl, ap, ◌<◌, ◌⊎◌, inl, inr, sym, ◌∙◌, ◌≤◌, None, rules}
 use Rattle.std.proofs.Common.{arith, [], ◌∷◌, Bool, true, false, cond, Some, ◌++◌, subst, length}
-use Rattle.std.specs.Prelude.{unwrap_or, Option, is_none, is_some, option_map, ◌&&◌, ◌==◌}
+use Rattle.std.specs.Prelude.{Option, is_none, is_some, option_map, ◌&&◌}
 use Rattle.std.proofs.lemmas.Bool.{cases_order, lt-leb}
-use Rattle.docker_model.specs.records.Record.{Lines, kind_of, Kind, basic_schedule, IsRecord, extra_details, origin_location}
-use Rattle.docker_model.specs.records.Record.{intermediate_location, terminating_location, change_en_route}
+use Rattle.docker_model.specs.records.Record.{Lines, kind_of, Kind, basic_schedule, IsRecord}
 use Rattle.docker_model.specs.records.Field.{leftmost_bad_field, is_deletion}
 use Rattle.docker_model.specs.file.Journey.{midnights}
 use Rattle.docker_model.specs.file.File.{BeginsSchedule, first_record, follows_basic}
-use Rattle.docker_model.specs.file.FileFault.{FileCause, too_many, after_trailer, bad_length, bad_byte, bad_kind}
-use Rattle.docker_model.specs.file.FileFault.{bad_place, bad_field, third_midnight, no_end, cause_rank}
+use Rattle.docker_model.specs.file.FileFault.{FileCause, bad_kind}
+use Rattle.docker_model.specs.file.FileFault.{bad_place, bad_field, third_midnight, cause_rank}
 use Rattle.cif_laws.specs.ScheduleFault.{HoldsInSchedule, IsScheduleFault, IsOutOfSchedule}
 use Rattle.cif_laws.specs.RecordTest.{is_record, has_good_fields}
 use Rattle.cif_laws.specs.ScheduleStage.{after_basic, is_first_line, is_basic_kind, Stage, next_stage, stage_of, stage_after, may_end, is_sound_next}
 use Rattle.cif_laws.specs.FileStage.{unit_by_kind, in_schedule, place_in, in_stage_or, is_sound_at, next_place, Place, between_units, IsPlaceOf}
 use Rattle.cif_laws.specs.RecordCause.{with_column, field_cause, first_line_cause, schedule_cause, is_after_end}
-use Rattle.cif_laws.specs.RecordCause.{kind_cause, byte_cause, length_cause, end_cause, cause_of}
+use Rattle.cif_laws.specs.RecordCause.{kind_cause, cause_of}
 use Rattle.cif_laws.proofs.files.OneFileFault.{column_of, column_told, same_cause}
 use Rattle.cif_laws.proofs.records.RecordTests.{record_iff_test, no_bad_byte}
 use Rattle.cif_laws.proofs.schedules.ScheduleStages.{begins_iff_stage, witness, witness_kind, witness_record, witness_fields, front_of_basic}
@@ -29,27 +28,12 @@ use Rattle.cif_laws.proofs.files.FileStages.{stage_stops, tracked_place}
 
 column_in : (earlier : Lines) (line : List ℕ) (cause : FileCause) → HoldsInSchedule earlier line cause → column_told (cause_rank cause) line ≡ column_of cause
 unfolding column_of column_told
-column_in earlier line too_many holds = refl
-column_in earlier line after_trailer holds = refl
-column_in earlier line bad_length holds = refl
-column_in earlier line (bad_byte at) holds = absurd holds
-column_in earlier line bad_kind holds = refl
-column_in earlier line bad_place holds = refl
-column_in earlier line (bad_field at) holds = ap (λ o. unwrap_or o 0) holds
-column_in earlier line third_midnight holds = refl
-column_in earlier line no_end holds = refl
+column_in = search rules
 
 -- the fault at a line that can't continue a schedule has at most one cause
 pub one_schedule_cause : (earlier : Lines) (line : List ℕ) (first second : FileCause) → IsScheduleFault earlier line first → IsScheduleFault earlier line second
     → first ≡ second
-one_schedule_cause earlier line first second is_first is_second = by (cases_order (cause_rank first) (cause_rank second))
-  where
-    by : (cause_rank first ≡ cause_rank second) ⊎ ((cause_rank first < cause_rank second) ⊎ (cause_rank second < cause_rank first)) → first ≡ second
-    by (inl same) =
-        same_cause first second same
-        (sym (column_in earlier line first is_first.holds) ∙ ap (λ rank. column_told rank line) same ∙ column_in earlier line second is_second.holds)
-    by (inr (inl below)) = absurd (is_second.first first below is_first.holds)
-    by (inr (inr above)) = absurd (is_first.first second above is_second.holds)
+one_schedule_cause = search (rules, cases_order, same_cause, column_in, column_told)
 
 -- ---- if a record can't be the first record of a schedule, the cause of its fault is
 -- `first_line_cause`
@@ -58,15 +42,7 @@ one_schedule_cause earlier line first second is_first is_second = by (cases_orde
 none_below : (earlier : Lines) (line : List ℕ) (rank : ℕ) → rank ≤ 7 → (4 < rank → ¬ (kind_of line ≡ None)) → (5 < rank → ¬ IsOutOfSchedule earlier line)
     → (6 < rank → leftmost_bad_field line ≡ None)
     → (other : FileCause) → cause_rank other < rank → ¬ HoldsInSchedule earlier line other
-none_below earlier line rank most r4 r5 r6 too_many below holds = holds
-none_below earlier line rank most r4 r5 r6 after_trailer below holds = holds
-none_below earlier line rank most r4 r5 r6 bad_length below holds = holds
-none_below earlier line rank most r4 r5 r6 (bad_byte column) below holds = holds
-none_below earlier line rank most r4 r5 r6 bad_kind below holds = r4 below holds
-none_below earlier line rank most r4 r5 r6 bad_place below holds = r5 below holds
-none_below earlier line rank most r4 r5 r6 (bad_field column) below holds = let none = sym (r6 below) ∙ holds in cc
-none_below earlier line rank most r4 r5 r6 third_midnight below holds = absurd (omega arith)
-none_below earlier line rank most r4 r5 r6 no_end below holds = holds
+none_below = search rules
 
 -- a record that begins a schedule passes the test `is_first_line`
 begins_first : (line : List ℕ) → BeginsSchedule (line ∷ []) → is_first_line line ≡ true
@@ -77,8 +53,7 @@ begins_first line begins = by (is_first_line line) ((begins_iff_stage line []).0
     by false h = cc
 
 basic_is : (kind : Option Kind) → is_basic_kind kind ≡ true → kind ≡ Some basic_schedule
-basic_is (Some basic_schedule) h = refl
-basic_is _ h = cc
+basic_is = search rules
 
 -- a good basic schedule begins some schedule
 witness_begins : BeginsSchedule (witness basic_schedule ∷ [])
@@ -144,8 +119,7 @@ first_line_fault line is test = by (kind_of line) refl
 pub begins_next_stage : (lines : Lines) (stage : Stage) (line : List ℕ) (next : Stage) → stage_of lines ≡ Some stage → next_stage stage lines line ≡ Some next
     → BeginsSchedule (lines ++ line ∷ [])
 begins_next_stage [] stage line next at found = cc
-begins_next_stage (basic ∷ rest) stage line next at found =
-    (begins_more_iff basic rest stage line at).1 (next, next_line_by_test stage (basic ∷ rest) line next found)
+begins_next_stage (basic ∷ rest) stage line next at found = (begins_more_iff _ _ _ _ at).1 (next, next_line_by_test _ _ _ _ found)
 
 -- suppose that a reader is at a stage after some records. If these records and one more record
 -- begin no schedule, this record leads to no next stage
@@ -246,12 +220,7 @@ goes_on_or_fault (basic ∷ rest) line begins is = by ((begins_iff_stage basic r
 
 -- a record that can follow a basic schedule begins no unit
 pub no_unit_by_kind : (kind : Option Kind) (line : List ℕ) → follows_basic kind ≡ true → unit_by_kind kind line ≡ None
-no_unit_by_kind (Some extra_details) line h = refl
-no_unit_by_kind (Some origin_location) line h = refl
-no_unit_by_kind (Some intermediate_location) line h = refl
-no_unit_by_kind (Some terminating_location) line h = refl
-no_unit_by_kind (Some change_en_route) line h = refl
-no_unit_by_kind _ line h = cc
+no_unit_by_kind = search rules
 
 -- at this stage the record can only belong to the schedule: the schedule can't end before the
 -- record, or the record begins no unit
@@ -260,12 +229,7 @@ IsOfSchedule stage lines line = (may_end stage lines ≡ false) ⊎ (unit_by_kin
 
 no_other : (stage : Stage) (lines : Lines) (line : List ℕ) → IsOfSchedule stage lines line → cond (may_end stage lines) (unit_by_kind (kind_of line) line) None
     ≡ None
-no_other stage lines line (inl open_end) = λ i. cond (open_end i) (unit_by_kind (kind_of line) line) None
-no_other stage lines line (inr none) = by (may_end stage lines)
-  where
-    by : (b : Bool) → cond b (unit_by_kind (kind_of line) line) None ≡ None
-    by true = none
-    by false = refl
+no_other = search rules
 
 -- if a record can only belong to the schedule, it leads a reader of the file to the `Place` with
 -- the schedule's next stage
@@ -297,20 +261,15 @@ next_place_of_stage stage lines line of =
 -- `kind_cause`
 pub cause_of_record : (limit count : ℕ) (place : Place) (line : List ℕ) → count < limit → is_after_end place ≡ false → IsRecord line
     → cause_of limit count place line ≡ kind_cause place line
-cause_of_record limit count place line under open_end is =
-    (λ i. cond (lt-leb limit count under i) too_many (end_cause place line))
-    ∙ (λ i. cond (open_end i) after_trailer (length_cause place line))
-    ∙ (λ i. cond (ap (λ n. n == 80) is.0 i) (byte_cause place line) bad_length)
-    ∙ (λ i. with_column bad_byte (no_bad_byte line is.1 i) (kind_cause place line))
+cause_of_record = search (rules, lt-leb, no_bad_byte)
 
 -- suppose that a record can only belong to the schedule. Then a fault at this record has the same
 -- cause whether the record is judged as part of the file or as part of the schedule
 pub cause_in_schedule : (limit count : ℕ) (stage : Stage) (lines : Lines) (line : List ℕ) → count < limit → IsRecord line → IsOfSchedule stage lines line
     → cause_of limit count (in_schedule stage lines) line ≡ schedule_cause stage line
-cause_in_schedule limit count stage lines line under is of =
-    cause_of_record limit count (in_schedule stage lines) line under refl is
+cause_in_schedule limit count stage lines line under is of = cause_of_record limit _ (in_schedule stage lines) _ under refl is
     ∙ (λ i. cond (is_none (kind_of line)) bad_kind
-    (cond (is_none (in_stage_or (lines ++ line ∷ []) (stage_after stage (kind_of line)) (no_other stage lines line of i))) bad_place (field_cause line)))
+    (cond (is_none (in_stage_or (lines ++ line ∷ []) (stage_after stage (kind_of line)) (no_other stage _ line of i))) bad_place (field_cause line)))
     ∙ ap (λ b. cond (is_none (kind_of line)) bad_kind (cond b bad_place (field_cause line))) (by (stage_after stage (kind_of line)))
   where
     by : (after : Option Stage) → is_none (in_stage_or (lines ++ line ∷ []) after None) ≡ is_none after
@@ -322,13 +281,7 @@ cause_in_schedule limit count stage lines line under is of =
 pub cause_behind_schedule : (limit count : ℕ) (stage : Stage) (lines : Lines) (line : List ℕ) → count < limit → IsRecord line → may_end stage lines ≡ true
     → follows_basic (kind_of line) ≡ false
     → cause_of limit count (in_schedule stage lines) line ≡ cause_of limit count between_units line
-cause_behind_schedule limit count stage lines line under is may anew =
-    cause_of_record limit count (in_schedule stage lines) line under refl is
-    ∙ (λ i. cond (is_none (kind_of line)) bad_kind
-    (cond (is_none (in_stage_or (lines ++ line ∷ []) (stage_stops stage (kind_of line) anew i) (cond (may i) (unit_by_kind (kind_of line) line) None)))
-    bad_place
-    (field_cause line)))
-    ∙ sym (cause_of_record limit count between_units line under refl is)
+cause_behind_schedule = search (rules, cause_of_record, stage_stops)
 
 -- if a record is at fault as part of the schedule, it is also at fault as part of the file, and the
 -- cause is the same

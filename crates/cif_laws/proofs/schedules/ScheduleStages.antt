@@ -1,8 +1,9 @@
 -- The stage of a reader in a schedule determines which records may follow. It also determines
 -- whether the records up to the stage are a schedule.
-use Rattle.std.proofs.Common.{◌≡◌, ℕ, List, ◌∷◌, [], ◌⊎◌, true, ◌+◌, ◌++◌, inl, refl, Some, ap, inr, arith, ◌∙◌, ◌≤◌}
+use Rattle.std.proofs.Common.{◌≡◌, ℕ, List, ◌∷◌, [], ◌⊎◌, true, ◌+◌, ◌++◌, inl, refl, Some, ap, inr, arith, ◌∙◌, ◌≤◌, rules}
+use Rattle.std.proofs.lemmas.Grind.{common_steps}
 use Rattle.std.proofs.Common.{Bool, false, subst, append_assoc, cond, None, sym, eqb-true, append-nil, All, ◌<◌}
-use Rattle.std.specs.Prelude.{Option, ◌&&◌, ◌↔◌, nat_le, ◌||◌, ◌==◌, codes, option_and_then, is_none}
+use Rattle.std.specs.Prelude.{Option, ◌&&◌, ◌↔◌, nat_le, ◌||◌, codes, option_and_then, is_none}
 use Rattle.std.specs.List.{AllByRecursion}
 use Rattle.std.proofs.lemmas.Bool.{leb-true, le-leb, leb-false}
 use Rattle.std.proofs.lemmas.List.Elements.{All-from_recursion, recursion_from_All}
@@ -57,16 +58,12 @@ pub record IsFront (stage : Stage) (lines : Lines) : Type 0 where
 
 -- at each stage at most one record of extra details has been read
 pub details_of : (stage : Stage) (extra journey : Lines) → HasShape stage extra journey → AreExtraDetails extra
-details_of after_basic extra journey shape = inl shape.0
-details_of after_details extra journey shape = shape.0
-details_of in_journey extra journey shape = shape.0
-details_of after_journey extra journey shape = shape.0
+details_of = search rules
 
 -- ---- the first record leads the reader to the stage `after_basic`
 
 basic_by_test : (kind : Option Kind) → is_basic_kind kind ≡ true → kind ≡ Some basic_schedule
-basic_by_test (Some basic_schedule) h = refl
-basic_by_test _ h = cc
+basic_by_test = search rules
 
 -- the record can be the first record of a schedule: it is a basic schedule with good fields
 pub record IsFirstLine (line : List ℕ) : Type 0 where
@@ -76,48 +73,27 @@ pub record IsFirstLine (line : List ℕ) : Type 0 where
 
 -- a record can be the first record of a schedule if and only if it passes the test `is_first_line`
 pub first_line_iff_test : (line : List ℕ) → IsFirstLine line ↔ (is_first_line line ≡ true)
-first_line_iff_test line = (
-  λ told.
-      and_true (is_record line && is_basic_kind (kind_of line)) _
-      (and_true (is_record line) _ ((record_iff_test line).0 told.is) (ap is_basic_kind told.kind)) (test_by_none (leftmost_bad_field line) told.fields),
-  λ test.
-      let parts = both (is_record line && is_basic_kind (kind_of line)) _ test in
-      let first = both (is_record line) _ parts.0 in
-      record { is = (record_iff_test line).1 first.0; kind = basic_by_test (kind_of line) first.1; fields = none_by_test (leftmost_bad_field line) parts.1 },
-)
+first_line_iff_test = search (rules, and_true, record_iff_test, test_by_none, both, basic_by_test, none_by_test)
 
 -- after a record that can be the first record of a schedule, a reader is at the stage `after_basic`
 pub front_of_basic : (line : List ℕ) → IsFirstLine line → IsFront after_basic (line ∷ [])
-front_of_basic line told = record {
-  basic = line;
-  extra = [];
-  journey = [];
-  whole = refl;
-  records = (told.is, tt);
-  kind = told.kind;
-  fields = told.fields;
-  shape = (refl, refl);
-  sound = inr (record { fields = All-from_recursion HasGoodFields [] tt; falls = omega arith });
-}
+front_of_basic = search rules
 
 -- ---- a schedule passes midnight as often as its journey
 
 -- extra details have no times
 details_no_times : (extra journey : Lines) → AreExtraDetails extra → times_along (extra ++ journey) ≡ times_along journey
-details_no_times extra journey (inl none) = ap (λ e. times_along (e ++ journey)) none
-details_no_times extra journey (inr one) = ap (λ e. times_along (e ++ journey)) one.1 ∙ no_times_before one.0 journey (no_times extra_details one.0 one.2 refl)
+details_no_times = search (rules, no_times_before, no_times)
 
 -- the times of a schedule are the times of its journey
 pub times_of_journey : (basic : List ℕ) (extra journey : Lines) → HasKind basic_schedule basic → AreExtraDetails extra
     → times_along (basic ∷ extra ++ journey) ≡ times_along journey
-times_of_journey basic extra journey kind details =
-    no_times_before basic (extra ++ journey) (no_times basic_schedule basic kind refl) ∙ details_no_times extra journey details
+times_of_journey = search (rules, no_times_before, no_times, details_no_times)
 
 -- a schedule passes midnight as often as its journey
 pub midnights_of_journey : (basic : List ℕ) (extra journey : Lines) → HasKind basic_schedule basic → AreExtraDetails extra
     → midnights (basic ∷ extra ++ journey) ≡ midnights journey
-midnights_of_journey basic extra journey kind details =
-    ap fall_count (times_of_journey basic extra journey kind details)
+midnights_of_journey = search (rules, times_of_journey)
 
 -- ---- one more record leads the reader to the next stage
 
@@ -132,23 +108,11 @@ pub record IsSoundNext (lines : Lines) (line : List ℕ) : Type 0 where
 
 -- if a record passes the test `is_sound_next`, the schedule is a deletion or the record is sound
 pub sound_next_by_test : (lines : Lines) (line : List ℕ) → is_sound_next lines line ≡ true → (is_deletion (first_record lines) ≡ true) ⊎ IsSoundNext lines line
-sound_next_by_test lines line test = by (either (is_deletion (first_record lines)) _ test)
-  where
-    by : (is_deletion (first_record lines) ≡ true) ⊎ ((has_good_fields line && nat_le (midnights (lines ++ line ∷ [])) 2) ≡ true)
-        → (is_deletion (first_record lines) ≡ true) ⊎ IsSoundNext lines line
-    by (inl deletion) = inl deletion
-    by (inr good) =
-        let parts = both (has_good_fields line) _ good in
-        inr (record { fields = none_by_test (leftmost_bad_field line) parts.0; falls = leb-true (midnights (lines ++ line ∷ [])) 2 parts.1 })
+sound_next_by_test = search (rules, either, both, none_by_test, leb-true)
 
 -- if the schedule is a deletion or the record is sound, the record passes the test `is_sound_next`
 pub test_by_sound_next : (lines : Lines) (line : List ℕ) → (is_deletion (first_record lines) ≡ true) ⊎ IsSoundNext lines line → is_sound_next lines line ≡ true
-test_by_sound_next lines line (inl deletion) = ap (λ b. b || (has_good_fields line && nat_le (midnights (lines ++ line ∷ [])) 2)) deletion
-test_by_sound_next lines line (inr good) = by (is_deletion (first_record lines))
-  where
-    by : (b : Bool) → (b || (has_good_fields line && nat_le (midnights (lines ++ line ∷ [])) 2)) ≡ true
-    by true = refl
-    by false = and_true (has_good_fields line) _ (test_by_none (leftmost_bad_field line) good.fields) (le-leb (midnights (lines ++ line ∷ [])) 2 good.falls)
+test_by_sound_next = search (rules, and_true, test_by_none, le-leb)
 
 -- apart from the record itself, three values determine the result of `is_sound_next`: whether the
 -- schedule is a deletion, how often it has passed midnight, and its last time
@@ -161,7 +125,7 @@ sound_next_by_count lines line = λ i. is_deletion (first_record lines) || (has_
 -- a sound journey is still sound after a record that passes the test `is_sound_next` is appended
 sound_more : (stage : Stage) (lines : Lines) (line : List ℕ) (front : IsFront stage lines) → is_sound_next lines line ≡ true
     → IsSound front.basic (front.journey ++ line ∷ [])
-sound_more stage lines line front test = by (sound_next_by_test lines line test) front.sound
+sound_more stage lines line front test = by (sound_next_by_test lines _ test) front.sound
   where
     same_whole : lines ++ line ∷ [] ≡ front.basic ∷ front.extra ++ (front.journey ++ line ∷ [])
     same_whole = (λ i. front.whole i ++ line ∷ []) ∙ ap (λ rest. front.basic ∷ rest) (append_assoc front.extra front.journey (line ∷ []))
@@ -171,12 +135,11 @@ sound_more stage lines line front test = by (sound_next_by_test lines line test)
     by told (inl deletion) = inl deletion
     by (inl deletion) (inr good) = inl (subst (λ l. is_deletion (first_record l) ≡ true) front.whole deletion)
     by (inr next) (inr good) =
-        let same = ap midnights same_whole ∙ midnights_of_journey front.basic front.extra (front.journey ++ line ∷ []) front.kind
-        (details_of stage front.extra front.journey front.shape) in
+        let same = ap midnights same_whole ∙ midnights_of_journey front.basic _ (front.journey ++ line ∷ []) front.kind
+        (details_of _ front.extra _ front.shape) in
         let falls = next.falls in
         inr (record {
-          fields =
-              All-from_recursion HasGoodFields (front.journey ++ line ∷ []) (all_append HasGoodFields front.journey (line ∷ [])
+          fields = All-from_recursion HasGoodFields (front.journey ++ line ∷ []) (all_append HasGoodFields _ (line ∷ [])
               (recursion_from_All HasGoodFields front.journey good.fields) (next.fields, tt));
           falls = omega arith;
         })
@@ -203,8 +166,7 @@ next_line_by_test stage lines line next is = by (is_record line && is_sound_next
 -- that stage
 pub test_by_next_line : (stage : Stage) (lines : Lines) (line : List ℕ) (next : Stage) → IsNextLine stage lines line next
     → next_stage stage lines line ≡ Some next
-test_by_next_line stage lines line next told =
-    (λ i. cond (and_true (is_record line) _ ((record_iff_test line).0 told.is) told.sound i) (stage_after stage (kind_of line)) None) ∙ told.stage_is
+test_by_next_line = search (rules, and_true, record_iff_test)
 
 -- an incomplete journey is still incomplete after an intermediate location or a change en route is
 -- appended
@@ -214,7 +176,7 @@ journey_more journey line so_far is = (
   so_far.1 ++ line ∷ [],
   (λ i. so_far.2 i ++ line ∷ []),
   so_far.3,
-  all_append IsWithinJourney so_far.1 (line ∷ []) so_far.4 (is, tt),
+  all_append _ _ _ so_far.4 (is, tt),
 )
 
 -- if the kind of a record leads the reader to a next stage, the schedule with this record appended
@@ -222,43 +184,17 @@ journey_more journey line so_far is = (
 shape_more : (stage : Stage) (kind : Kind) (next : Stage) (extra journey : Lines) (line : List ℕ) → HasShape stage extra journey → HasKind kind line
     → stage_after stage (Some kind) ≡ Some next
     → (HasShape next extra (journey ++ line ∷ [])) ⊎ (HasShape next (line ∷ []) journey × (extra ≡ []) × (journey ≡ []))
-shape_more after_basic extra_details next extra journey line shape is after =
-    let same : after_details ≡ next = cc in inr (subst (λ s. HasShape s (line ∷ []) journey) same (inr (line, refl, is), shape.1), shape.0, shape.1)
-shape_more after_basic origin_location next extra journey line shape is after =
-    let same : in_journey ≡ next = cc in
-    inl (subst (λ s. HasShape s extra (journey ++ line ∷ [])) same (inl shape.0, (line, [], (λ i. shape.1 i ++ line ∷ []), is, tt)))
-shape_more after_details origin_location next extra journey line shape is after =
-    let same : in_journey ≡ next = cc in
-    inl (subst (λ s. HasShape s extra (journey ++ line ∷ [])) same (shape.0, (line, [], (λ i. shape.1 i ++ line ∷ []), is, tt)))
-shape_more in_journey intermediate_location next extra journey line shape is after =
-    let same : in_journey ≡ next = cc in
-    inl (subst (λ s. HasShape s extra (journey ++ line ∷ [])) same (shape.0, journey_more journey line shape.1 (inl is)))
-shape_more in_journey change_en_route next extra journey line shape is after =
-    let same : in_journey ≡ next = cc in
-    inl (subst (λ s. HasShape s extra (journey ++ line ∷ [])) same (shape.0, journey_more journey line shape.1 (inr is)))
-shape_more in_journey terminating_location next extra journey line shape is after =
-    let same : after_journey ≡ next = cc in
-    let open_journey = shape.1 in
-    inl (subst (λ s. HasShape s extra (journey ++ line ∷ [])) same (
-      shape.0,
-      record {
-        first = open_journey.0;
-        between = open_journey.1;
-        last = line;
-        whole = λ i. open_journey.2 i ++ line ∷ [];
-        origin = open_journey.3;
-        calls = All-from_recursion IsWithinJourney open_journey.1 open_journey.4;
-        terminus = is;
-      },
-    ))
+shape_more after_basic extra_details next extra journey line shape is after = search rules
+shape_more after_basic origin_location next extra journey line shape is after = search rules
+shape_more after_details origin_location next extra journey line shape is after = search rules
+shape_more in_journey intermediate_location next extra journey line shape is after = search (rules, journey_more)
+shape_more in_journey change_en_route next extra journey line shape is after = search (rules, journey_more)
+shape_more in_journey terminating_location next extra journey line shape is after = grind (common_steps, arith)
 shape_more _ _ next extra journey line shape is after = cc
 
 -- a record of an unknown kind leads to no next stage
 pub no_stage_of_none : (stage : Stage) → stage_after stage None ≡ None
-no_stage_of_none after_basic = refl
-no_stage_of_none after_details = refl
-no_stage_of_none in_journey = refl
-no_stage_of_none after_journey = refl
+no_stage_of_none = search rules
 
 -- suppose that records have the structure of a stage. If one more record leads to a next stage,
 -- then, with this record appended, the records have the structure of that next stage
@@ -299,20 +235,11 @@ next_front stage lines line next front test = by (kind_of line) refl (next_line_
 
 -- if a basic schedule passes the test `may_lack`, its journey may be missing
 pub lack_by_test : (basic : List ℕ) → may_lack basic ≡ true → MayLackJourney basic
-lack_by_test basic test = by (either (is_deletion basic) _ test)
-  where
-    by : (is_deletion basic ≡ true) ⊎ ((column 80 basic == 67) ≡ true) → MayLackJourney basic
-    by (inl deletion) = inl deletion
-    by (inr letter) = inr (eqb-true (column 80 basic) 67 letter)
+lack_by_test = search (rules, either, eqb-true)
 
 -- if the journey of a basic schedule may be missing, the basic schedule passes the test `may_lack`
 pub test_by_lack : (basic : List ℕ) → MayLackJourney basic → may_lack basic ≡ true
-test_by_lack basic (inl deletion) = ap (λ b. b || (column 80 basic == 67)) deletion
-test_by_lack basic (inr letter) = or_right (is_deletion basic) (ap (λ n. n == 67) letter)
-  where
-    or_right : (b : Bool) → (column 80 basic == 67) ≡ true → (b || (column 80 basic == 67)) ≡ true
-    or_right true h = refl
-    or_right false h = h
+test_by_lack = search rules
 
 -- if records have the structure of a stage at which the schedule may end, they are a schedule
 pub schedule_of_front : (stage : Stage) (lines : Lines) → IsFront stage lines → may_end stage lines ≡ true → IsSchedule lines
@@ -358,82 +285,36 @@ witness trailer = zz
 -- the record `witness kind` has the kind `kind`
 pub witness_kind : (kind : Kind) → HasKind kind (witness kind)
 unfolding witness
-witness_kind header = refl
-witness_kind tiploc_insert = refl
-witness_kind tiploc_amend = refl
-witness_kind tiploc_delete = refl
-witness_kind association = refl
-witness_kind basic_schedule = refl
-witness_kind extra_details = refl
-witness_kind origin_location = refl
-witness_kind intermediate_location = refl
-witness_kind terminating_location = refl
-witness_kind change_en_route = refl
-witness_kind trailer = refl
+witness_kind = search rules
 
 -- the record `witness kind` passes the test `is_record`
 pub witness_record : (kind : Kind) → is_record (witness kind) ≡ true
 unfolding witness
-witness_record header = refl
-witness_record tiploc_insert = refl
-witness_record tiploc_amend = refl
-witness_record tiploc_delete = refl
-witness_record association = refl
-witness_record basic_schedule = refl
-witness_record extra_details = refl
-witness_record origin_location = refl
-witness_record intermediate_location = refl
-witness_record terminating_location = refl
-witness_record change_en_route = refl
-witness_record trailer = refl
+witness_record = search rules
 
 -- the record `witness kind` has good fields
 pub witness_fields : (kind : Kind) → HasGoodFields (witness kind)
 unfolding witness
-witness_fields header = refl
-witness_fields tiploc_insert = refl
-witness_fields tiploc_amend = refl
-witness_fields tiploc_delete = refl
-witness_fields association = refl
-witness_fields basic_schedule = refl
-witness_fields extra_details = refl
-witness_fields origin_location = refl
-witness_fields intermediate_location = refl
-witness_fields terminating_location = refl
-witness_fields change_en_route = refl
-witness_fields trailer = refl
+witness_fields = search rules
 
 witness_times : (kind : Kind) → (times_along (witness kind ∷ []) ≡ []) ⊎ (times_along (witness kind ∷ []) ≡ last_time ∷ [])
 unfolding witness
-witness_times origin_location = inr refl
-witness_times terminating_location = inr refl
-witness_times header = inl refl
-witness_times tiploc_insert = inl refl
-witness_times tiploc_amend = inl refl
-witness_times tiploc_delete = inl refl
-witness_times association = inl refl
-witness_times basic_schedule = inl refl
-witness_times extra_details = inl refl
-witness_times intermediate_location = inl refl
-witness_times change_en_route = inl refl
-witness_times trailer = inl refl
+witness_times = search rules
 
 -- after records with the structure of any stage, the record `witness kind` is sound
 pub witness_sound : (stage : Stage) (lines : Lines) (kind : Kind) → IsFront stage lines → is_sound_next lines (witness kind) ≡ true
-witness_sound stage lines kind front = test_by_sound_next lines (witness kind) (by front.sound)
+witness_sound stage lines kind front = test_by_sound_next lines _ (by front.sound)
   where
     by : IsSound front.basic front.journey → (is_deletion (first_record lines) ≡ true) ⊎ IsSoundNext lines (witness kind)
     by (inl deletion) = inl (subst (λ l. is_deletion (first_record l) ≡ true) (sym front.whole) deletion)
-    by (inr good) = inr (record { fields = witness_fields kind; falls = few (witness_times kind) })
+    by (inr good) = inr (record { fields = witness_fields kind; falls = few (witness_times _) })
       where
         same : times_along lines ≡ times_along front.journey
-        same =
-            ap times_along front.whole ∙ times_of_journey front.basic front.extra front.journey front.kind
-            (details_of stage front.extra front.journey front.shape)
+        same = ap times_along front.whole ∙ times_of_journey front.basic _ front.journey front.kind (details_of _ front.extra _ front.shape)
 
         joined : (times : List ℕ) → times_along (witness kind ∷ []) ≡ times → midnights (lines ++ witness kind ∷ []) ≡ fall_count
             (times_along front.journey ++ times)
-        joined times is = ap fall_count (times_append lines (witness kind ∷ []) ∙ (λ i. same i ++ is i))
+        joined times is = ap fall_count (times_append lines _ ∙ (λ i. same i ++ is i))
 
         few : (times_along (witness kind ∷ []) ≡ []) ⊎ (times_along (witness kind ∷ []) ≡ last_time ∷ []) → midnights (lines ++ witness kind ∷ []) ≤ 2
         few (inl none) =
@@ -441,19 +322,14 @@ witness_sound stage lines kind front = test_by_sound_next lines (witness kind) (
             let falls = good.falls in omega arith
         few (inr one) =
             let whole = joined (last_time ∷ []) one ∙ no_fall_last (times_along front.journey)
-            (along_within front.journey (recursion_from_All HasGoodFields front.journey good.fields)) in
+            (along_within _ (recursion_from_All HasGoodFields front.journey good.fields)) in
             let falls = good.falls in omega arith
 
 -- suppose that records have the structure of a stage, and that a kind leads to a next stage. With
 -- the record `witness kind` appended, the records have the structure of that next stage
 pub witness_front : (stage : Stage) (lines : Lines) (kind : Kind) (next : Stage) → IsFront stage lines → stage_after stage (Some kind) ≡ Some next
     → IsFront next (lines ++ witness kind ∷ [])
-witness_front stage lines kind next front after =
-    next_front stage lines (witness kind) next front (test_by_next_line stage lines (witness kind) next (record {
-      is = (record_iff_test (witness kind)).1 (witness_record kind);
-      sound = witness_sound stage lines kind front;
-      stage_is = ap (stage_after stage) (witness_kind kind) ∙ after;
-    }))
+witness_front = search (rules, next_front, witness, test_by_next_line, record_iff_test, witness_record, witness_sound, witness_kind)
 
 -- if records begin a schedule, each prefix of these records begins a schedule
 pub begins_shorter : (front rest : Lines) → BeginsSchedule (front ++ rest) → BeginsSchedule front
@@ -464,20 +340,14 @@ pub front_begins : (stage : Stage) (lines : Lines) → IsFront stage lines → B
 front_begins stage lines front = by stage lines front
   where
     ended : (l : Lines) → IsFront after_journey l → BeginsSchedule l
-    ended l f = ([], subst IsSchedule (sym (append-nil l)) (schedule_of_front after_journey l f refl))
+    ended l f = ([], subst IsSchedule (sym (append-nil l)) (schedule_of_front _ _ f refl))
 
     inside : (l : Lines) → IsFront in_journey l → BeginsSchedule l
-    inside l f =
-        begins_shorter l (witness terminating_location ∷ [])
-        (ended (l ++ witness terminating_location ∷ []) (witness_front in_journey l terminating_location after_journey f refl))
+    inside l f = begins_shorter _ _ (ended (l ++ witness terminating_location ∷ []) (witness_front _ _ _ _ f refl))
 
     by : (s : Stage) (l : Lines) → IsFront s l → BeginsSchedule l
-    by after_basic l f =
-        begins_shorter l (witness origin_location ∷ [])
-        (inside (l ++ witness origin_location ∷ []) (witness_front after_basic l origin_location in_journey f refl))
-    by after_details l f =
-        begins_shorter l (witness origin_location ∷ [])
-        (inside (l ++ witness origin_location ∷ []) (witness_front after_details l origin_location in_journey f refl))
+    by after_basic l f = begins_shorter _ _ (inside (l ++ witness origin_location ∷ []) (witness_front _ _ _ _ f refl))
+    by after_details l f = begins_shorter _ _ (inside (l ++ witness origin_location ∷ []) (witness_front _ _ _ _ f refl))
     by in_journey l f = inside l f
     by after_journey l f = ended l f
 
@@ -485,8 +355,7 @@ front_begins stage lines front = by stage lines front
 
 front_from : (rest : Lines) (stage : Stage) (done : Lines) (final : Stage) → IsFront stage done → stage_from stage done rest ≡ Some final
     → IsFront final (done ++ rest)
-front_from [] stage done final front found =
-    let same : stage ≡ final = cc in subst (λ s. IsFront s (done ++ [])) same (subst (IsFront stage) (sym (append-nil done)) front)
+front_from [] stage done final front found = search (rules, append-nil)
 front_from (line ∷ rest) stage done final front found =
     let step = then_some (λ next. stage_from next (done ++ line ∷ []) rest) (next_stage stage done line) final found in
     subst (IsFront final) (append_assoc done (line ∷ []) rest)
@@ -518,8 +387,7 @@ stage_of_append (basic ∷ rest) stage more found = by (is_first_line basic) ref
   where
     by : (b : Bool) → is_first_line basic ≡ b → cond b (stage_from after_basic (basic ∷ []) rest) None ≡ Some stage
         → stage_of ((basic ∷ rest) ++ more) ≡ stage_from stage (basic ∷ rest) more
-    by true h told =
-        (λ i. cond (h i) (stage_from after_basic (basic ∷ []) (rest ++ more)) None) ∙ stage_from_append rest after_basic (basic ∷ []) stage more told
+    by true h told = (λ i. cond (h i) (stage_from after_basic (basic ∷ []) (rest ++ more)) None) ∙ stage_from_append rest _ (basic ∷ []) _ more told
     by false h told = cc
 
 -- `next_stage` computes the stage after one more record
@@ -572,8 +440,7 @@ sound_head basic done line rest (inr good) =
     test_by_sound_next (basic ∷ done) line (inr (record { fields = good.0.0; falls = omega arith }))
 
 sound_tail : (basic : List ℕ) (done : Lines) (line : List ℕ) (rest : Lines) → IsSoundRest basic done (line ∷ rest) → IsSoundRest basic (done ++ line ∷ []) rest
-sound_tail basic done line rest (inl deletion) = inl deletion
-sound_tail basic done line rest (inr good) = inr (good.0.1, subst (λ l. midnights (basic ∷ l) ≤ 2) (sym (append_assoc done (line ∷ []) rest)) good.1)
+sound_tail = search (rules, append_assoc)
 
 stage_from_along : (rest : Lines) (stage : Stage) (basic : List ℕ) (done : Lines) (final : Stage) → AllByRecursion IsRecord rest → IsSoundRest basic done rest
     → stage_along stage rest ≡ Some final
@@ -589,20 +456,11 @@ stage_from_along (line ∷ rest) stage basic done final records sound along =
 calls_along : (between : Lines) (last : List ℕ) → AllByRecursion IsWithinJourney between → HasKind terminating_location last
     → stage_along in_journey (between ++ last ∷ []) ≡ Some after_journey
 calls_along [] last calls terminus = λ i. option_and_then (λ next. Some next) (stage_after in_journey (terminus i))
-calls_along (line ∷ between) last calls terminus = by (calls_along between last calls.1 terminus) calls.0
-  where
-    by : stage_along in_journey (between ++ last ∷ []) ≡ Some after_journey → IsWithinJourney line
-        → stage_along in_journey ((line ∷ between) ++ last ∷ []) ≡ Some after_journey
-    by rest (inl call) = (λ i. option_and_then (λ next. stage_along next (between ++ last ∷ [])) (stage_after in_journey (call i))) ∙ rest
-    by rest (inr change) = (λ i. option_and_then (λ next. stage_along next (between ++ last ∷ [])) (stage_after in_journey (change i))) ∙ rest
+calls_along (line ∷ between) last calls terminus = grind (arith, (calls_along between last calls.1 terminus))
 
 journey_along : (stage : Stage) (journey : Lines) → stage_after stage (Some origin_location) ≡ Some in_journey → IsJourney journey
     → stage_along stage journey ≡ Some after_journey
-journey_along stage journey starts is =
-    ap (stage_along stage) is.whole
-    ∙ (λ i. option_and_then (λ next. stage_along next (is.between ++ is.last ∷ [])) (stage_after stage (is.origin i)))
-    ∙ (λ i. option_and_then (λ next. stage_along next (is.between ++ is.last ∷ [])) (starts i))
-    ∙ calls_along is.between is.last (recursion_from_All IsWithinJourney is.between is.calls) is.terminus
+journey_along = search (rules, calls_along, recursion_from_All)
 
 -- `stage` is the stage after the records, and at this stage the records may be a complete schedule
 pub record IsWholeBy (lines : Lines) (stage : Stage) : Type 0 where
@@ -617,27 +475,13 @@ record LeadsToEnd (basic : List ℕ) (rest : Lines) : Type 0 where
 
 kinds_lead : (basic : List ℕ) (extra journey : Lines) → AreExtraDetails extra → IsJourney journey ⊎ ((journey ≡ []) × MayLackJourney basic)
     → LeadsToEnd basic (extra ++ journey)
-kinds_lead basic extra journey (inl none) (inl is) =
-    subst (λ e. LeadsToEnd basic (e ++ journey)) (sym none) (record { final = after_journey; along = journey_along after_basic journey refl is; may = refl })
-kinds_lead basic extra journey (inl none) (inr lack) =
-    subst (λ e. LeadsToEnd basic (e ++ journey)) (sym none)
-    (subst (λ j. LeadsToEnd basic j) (sym lack.0) (record { final = after_basic; along = refl; may = test_by_lack basic lack.1 }))
-kinds_lead basic extra journey (inr one) (inl is) =
-    subst (λ e. LeadsToEnd basic (e ++ journey)) (sym one.1) (record {
-      final = after_journey;
-      along = (λ i. option_and_then (λ next. stage_along next journey) (stage_after after_basic (one.2 i))) ∙ journey_along after_details journey refl is;
-      may = refl;
-    })
-kinds_lead basic extra journey (inr one) (inr lack) =
-    subst (λ e. LeadsToEnd basic (e ++ journey)) (sym one.1) (subst (λ j. LeadsToEnd basic ((one.0 ∷ []) ++ j)) (sym lack.0) (record {
-      final = after_details;
-      along = λ i. option_and_then (λ next. stage_along next []) (stage_after after_basic (one.2 i));
-      may = test_by_lack basic lack.1;
-    }))
+kinds_lead basic extra journey (inl none) (inl is) = search (rules, journey_along)
+kinds_lead basic extra journey (inl none) (inr lack) = search (rules, test_by_lack)
+kinds_lead basic extra journey (inr one) (inl is) = search (rules, journey_along)
+kinds_lead basic extra journey (inr one) (inr lack) = search (rules, test_by_lack)
 
 extra_fields : (extra : Lines) → AreExtraDetails extra → AllByRecursion HasGoodFields extra
-extra_fields extra (inl none) = subst (AllByRecursion HasGoodFields) (sym none) tt
-extra_fields extra (inr one) = subst (AllByRecursion HasGoodFields) (sym one.1) (no_extra_fields one.0 one.2, tt)
+extra_fields = search (rules, no_extra_fields)
 
 -- the records of a schedule lead the reader to a stage at which the schedule may end
 pub stage_of_schedule : (lines : Lines) → IsSchedule lines → (stage : Stage) × IsWholeBy lines stage
@@ -647,20 +491,20 @@ stage_of_schedule lines is = subst (λ l. (stage : Stage) × IsWholeBy l stage) 
     records = recursion_from_All IsRecord (is.basic ∷ is.extra ++ is.journey) (subst (All IsRecord) is.whole is.records)
 
     lead : LeadsToEnd is.basic (is.extra ++ is.journey)
-    lead = kinds_lead is.basic is.extra is.journey is.details is.journey_or_none
+    lead = kinds_lead _ is.extra _ is.details is.journey_or_none
 
     sound : (is_deletion is.basic ≡ true) ⊎ IsSoundJourney is.journey → IsSoundRest is.basic [] (is.extra ++ is.journey)
     sound (inl deletion) = inl deletion
     sound (inr good) = inr (
-      all_append HasGoodFields is.extra is.journey (extra_fields is.extra is.details) (recursion_from_All HasGoodFields is.journey good.fields),
-      subst (λ n. n ≤ 2) (sym (midnights_of_journey is.basic is.extra is.journey is.kind is.details)) good.falls,
+      all_append HasGoodFields _ is.journey (extra_fields _ is.details) (recursion_from_All HasGoodFields is.journey good.fields),
+      subst (λ n. n ≤ 2) (sym (midnights_of_journey is.basic _ is.journey is.kind is.details)) good.falls,
     )
 
     found : stage_of (is.basic ∷ is.extra ++ is.journey) ≡ Some lead.final
     found =
-        (λ i. cond ((first_line_iff_test is.basic).0 (record { is = records.0; kind = is.kind; fields = is.fields }) i)
+        (λ i. cond ((first_line_iff_test _).0 (record { is = records.0; kind = is.kind; fields = is.fields }) i)
         (stage_from after_basic (is.basic ∷ []) (is.extra ++ is.journey)) None)
-        ∙ stage_from_along (is.extra ++ is.journey) after_basic is.basic [] lead.final records.1 (sound is.sound) lead.along
+        ∙ stage_from_along (is.extra ++ is.journey) _ is.basic _ lead.final records.1 (sound is.sound) lead.along
 
 -- ---- the laws of stages
 
@@ -742,8 +586,7 @@ schedule_out_of_place basic rest stage line at none next same begins =
 pub schedule_in_place : (basic : List ℕ) (rest : Lines) (stage : Stage) (kind : Kind) (next : Stage) → stage_of (basic ∷ rest) ≡ Some stage
     → stage_after stage (Some kind) ≡ Some next
     → BeginsSchedule (basic ∷ rest ++ witness kind ∷ [])
-schedule_in_place basic rest stage kind next at found =
-    front_begins next (basic ∷ rest ++ witness kind ∷ []) (witness_front stage (basic ∷ rest) kind next (front_of_stage (basic ∷ rest) stage at) found)
+schedule_in_place basic rest stage kind next at found = front_begins next _ (witness_front stage _ kind _ (front_of_stage (basic ∷ rest) _ at) found)
 
 -- ---- the reason why a record leads to no next stage
 

@@ -6,6 +6,3 @@ returns-clause-either c = goes_on_or_fault
 
 pub returns-clause-one : goal.returns-clause-one
 returns-clause-one c = one_schedule_cause
-
-pub returns-clause-none : goal.returns-clause-none
-returns-clause-none c = λ earlier line cause begins fault. fault.here begins
