@@ -1,10 +1,10 @@
 -- Lemmas on what the reader returns at the end of a file: the file with its changes, or its counts.
-use Rattle.std.proofs.Common.{◌≡◌, ℕ, ◌+◌, ◌*◌, ◌≤◌, Bool, true, false, List, [], ◌∷◌, length, Some, None, refl, arith, length-append}
+use Rattle.std.proofs.Common.{◌≡◌, ℕ, ◌+◌, ◌*◌, ◌≤◌, List, [], ◌∷◌, length, None, arith, length-append, rules}
 use Rattle.std.proofs.lemmas.List.{length-map}
 use Rattle.std.specs.Prelude.{Option}
 use Rattle.docker_model.specs.file.File.{most_records}
-use Rattle.docker_model.specs.records.Record.{Kind, kind_of, tiploc_insert, tiploc_amend, tiploc_delete, association, basic_schedule}
-use Rattle.docker_model.specs.file.Change.{Change, Key, Act, acts_by_kind, changes_of_record, changes_from, changes, keeps_code}
+use Rattle.docker_model.specs.records.Record.{Kind, kind_of}
+use Rattle.docker_model.specs.file.Change.{Change, Key, Act, acts_by_kind, changes_of_record, changes_from}
 use Rattle.cif_file.specs.declared.file.ended.Ended.{Ended}
 use Rattle.cif_file.specs.declared.keeper.kept.FileSoFar.{FileSoFar}
 use Rattle.cif_file.specs.declared.keeper.counting.CountingKeeper.{CountingKeeper}
@@ -20,16 +20,7 @@ use Rattle.cif_file.proofs.ParserLemmas.{reading_at_none}
 -- ---- how many changes the records of a file make
 
 few_acts : (kind : Option Kind) (line : List ℕ) (following : List (List ℕ)) → length (acts_by_kind kind line following) ≤ 2
-few_acts (Some tiploc_insert) line following = omega arith
-few_acts (Some tiploc_amend) line following = by (keeps_code line) refl
-  where
-    by : (b : Bool) → keeps_code line ≡ b → length (acts_by_kind (Some tiploc_amend) line following) ≤ 2
-    by true h = rw h (omega arith)
-    by false h = rw h (omega arith)
-few_acts (Some tiploc_delete) line following = omega arith
-few_acts (Some association) line following = omega arith
-few_acts (Some basic_schedule) line following = omega arith
-few_acts _ line following = omega arith
+few_acts = search rules
 
 as_change : ℕ → Key × Act → Change
 as_change n act = record { number = n; key = act.0; act = act.1 }
@@ -48,19 +39,12 @@ few_changes n (line ∷ following) =
 -- ---- the file
 
 pub of_file : (limit : ℕ) (text : List ℕ) (ended : Ended FileSoFar) → IsEndedText KeepsAll limit text ended → IsOfFileText (file_ended ended) limit text
-of_file limit text ended is = record {
-  records = is.records;
-  is_text = is.is_text;
-  of_records = record { header_is = is.of_records.header_is; count_is = is.of_records.count_is; changes_are = is.of_records.kept.1 };
-}
+of_file = search rules
 
 -- the file that the reader returns was read from the records of a CIF file with at most `most_records` records
 is_read : (limit : ℕ) (text : List ℕ) (ended : Ended FileSoFar) → limit ≤ most_records → IsEndedText KeepsAll limit text ended → IsRead (file_ended ended)
 unfolding of_file
-is_read limit text ended few is =
-    let file = of_file limit text ended is in
-    let within = is.is_text.within in
-    record { records = is.records; of_records = file.of_records; is_file = is.is_text.is; few = omega arith }
+is_read = search (rules, of_file)
 
 -- the parts that the reader returns belong to the file
 are_parts : (limit : ℕ) (text : List ℕ) (ended : Ended FileSoFar) → limit ≤ most_records → IsEndedText KeepsAll limit text ended
@@ -90,18 +74,7 @@ reads_parts limit left ended few reads = are_parts limit reads.text ended few re
 
 pub of_count : (limit : ℕ) (text : List ℕ) (ended : Ended CountingKeeper) → limit ≤ most_records → IsEndedText CountsChanges limit text ended
     → IsCountOfFileText (count_ended ended) limit text
-of_count limit text ended few is =
-    let within = is.is_text.within in
-    let most : length (changes is.records) ≤ 2 * length is.records = few_changes 1 is.records in
-    record {
-      records = is.records;
-      is_text = is.is_text;
-      of_records = record {
-        header_is = is.of_records.header_is;
-        count_is = is.of_records.count_is;
-        changes_are = is.of_records.kept (omega arith);
-      };
-    }
+of_count = search (rules, few_changes)
 
 pub reads_count : (limit : ℕ) (left : Option (List ℕ)) (ended : Ended CountingKeeper) → limit ≤ most_records → ReadsEnded CountsChanges limit left ended
     → CountsText limit left (count_ended ended)

@@ -1,26 +1,26 @@
 -- Lemmas on what the reader of a file's records remembers after taking a record, and why it refuses
 -- a record.
-use Rattle.std.proofs.Common.{◌≡◌, ℕ, ◌+◌, ◌<◌, inl, inr, Bool, true, false, cond, List, [], ◌∷◌, ◌++◌, length, map, subst}
-use Rattle.std.proofs.Common.{refl, ap, sym, ◌∙◌, Some, None, arith, append-nil, append_assoc, length-append, take}
-use Rattle.std.specs.Prelude.{Option, IsTrue, ◌↔◌, ◌&&◌, is_some, is_none, option_map, slice_index_or, OnOk, Result, Ok, Err}
+use Rattle.std.proofs.Common.{◌≡◌, ℕ, ◌+◌, ◌<◌, inl, inr, Bool, true, false, cond, List, [], ◌∷◌, ◌++◌, length, map, subst, rules}
+use Rattle.std.proofs.Common.{refl, ap, sym, ◌∙◌, Some, None, arith, append-nil, append_assoc, length-append}
+use Rattle.std.specs.Prelude.{Option, IsTrue, ◌↔◌, ◌&&◌, is_some, is_none, option_map, slice_index_or, OnOk, Result}
 use Rattle.std.specs.List.{prefix_len}
 use Rattle.std.proofs.lemmas.List.{take-append-le}
 use Rattle.std.proofs.lemmas.List.Sums.{prefix_len-le-length}
 use Rattle.docker_model.specs.records.Record.{Kind, header, basic_schedule, trailer, kind_of, IsRecord, HasKind}
 use Rattle.docker_model.specs.file.File.{first_record, follows_basic, IsFile, IsSchedule, BeginsSchedule}
-use Rattle.docker_model.specs.records.Field.{HasGoodFields, leftmost_bad_field, is_deletion, as_new}
+use Rattle.docker_model.specs.records.Field.{HasGoodFields, leftmost_bad_field}
 use Rattle.docker_model.specs.file.Change.{Change, Key, Act, Body, schedule_rest, acts_by_kind, changes_of_record}
-use Rattle.docker_model.specs.file.Change.{changes_from, changes, schedule_named, schedule_body, delete, put}
+use Rattle.docker_model.specs.file.Change.{changes_from, changes, schedule_named, delete, put}
 use Rattle.docker_model.specs.file.FileFault as fault
 use Rattle.docker_model.specs.file.FileFault.{bad_place, bad_kind, bad_field}
 use Rattle.cif_laws.proofs.files.UnitChanges.{unit_then, schedule_change}
 use Rattle.cif_laws.specs.RecordTest.{is_record, has_good_fields}
 use Rattle.cif_laws.proofs.lists.BoolsAndOptions.{test_by_none, none_by_test}
-use Rattle.cif_laws.specs.ScheduleStage.{Stage, after_basic, after_details, in_journey, after_journey}
+use Rattle.cif_laws.specs.ScheduleStage.{Stage, after_basic, after_journey}
 use Rattle.cif_laws.specs.ScheduleStage.{stage_after, stage_of, may_end, is_sound_next, next_stage}
 use Rattle.cif_laws.proofs.schedules.ScheduleStages.{stage_of_more, stage_of_first, first_line_iff_test, schedule_iff_stage, begins_iff_stage, no_stage_of_none}
 use Rattle.cif_laws.specs.FileStage.{Place, before_header, between_units, in_schedule, after_end, unit_by_kind, place_in}
-use Rattle.cif_laws.specs.FileStage.{in_stage_or, is_header_kind, place_by_kind, is_sound_at, next_place, IsPlaceOf}
+use Rattle.cif_laws.specs.FileStage.{is_header_kind, place_by_kind, is_sound_at, next_place, IsPlaceOf}
 use Rattle.cif_laws.proofs.files.FileStages.{test_by_next, next_by_test, next_behind, stage_stops, file_iff_place, one_place, place_of_more, at_of_place}
 use Rattle.cif_laws.specs.RecordCause.{cause_of, kind_cause, place_cause, field_cause, with_column, is_after_end}
 use Rattle.cif_laws.proofs.schedules.ScheduleCauses.{no_unit_by_kind, next_place_of_stage, cause_of_record}
@@ -47,9 +47,7 @@ Lines = List (List ℕ)
 
 acts_alike : (kind : Option Kind) (line : List ℕ) (following others : Lines) → schedule_rest following ≡ schedule_rest others
     → acts_by_kind kind line following ≡ acts_by_kind kind line others
-acts_alike (Some basic_schedule) line following others same =
-    ap (λ rest. (schedule_named line, cond (is_deletion line) delete (put (schedule_body (as_new line ∷ rest)))) ∷ []) same
-acts_alike _ line following others same = refl
+acts_alike = search rules
 
 abbrev as_change : ℕ → Key × Act → Change
 as_change n act = record { number = n; key = act.0; act = act.1 }
@@ -68,9 +66,7 @@ prefix_stops [] line more stops = λ i. cond (stops i) (1 + prefix_len follows m
 prefix_stops (first ∷ lines) line more stops = ap (λ n. cond (follows first) (1 + n) 0) (prefix_stops lines line more stops)
 
 rest_stops : (lines : Lines) (line : List ℕ) (more : Lines) → follows_basic (kind_of line) ≡ false → schedule_rest (lines ++ line ∷ more) ≡ schedule_rest lines
-rest_stops lines line more stops =
-    ap (λ n. take n (lines ++ line ∷ more)) (prefix_stops lines line more stops)
-    ∙ take-append-le (prefix_len follows lines) lines (line ∷ more) (prefix_len-le-length follows lines)
+rest_stops = search (rules, prefix_stops, take-append-le, prefix_len-le-length)
 
 changes_append : (n : ℕ) (records : Lines) (line : List ℕ) (more : Lines) → follows_basic (kind_of line) ≡ false
     → changes_from n (records ++ line ∷ more) ≡ changes_from n records ++ changes_from (n + length records) (line ∷ more)
@@ -83,25 +79,19 @@ changes_append n (record_first ∷ records) line more stops =
 -- if the next record doesn't come within a schedule, its changes are appended to the changes of the records before it
 pub changes_anew : (records : Lines) (line : List ℕ) → follows_basic (kind_of line) ≡ false
     → changes (records ++ line ∷ []) ≡ changes records ++ changes_of_record (length records + 1) line []
-changes_anew records line stops =
-    changes_append 1 records line [] stops
-    ∙ ap (λ last. changes records ++ last) (append-nil (changes_of_record (1 + length records) line []))
-    ∙ ap (λ k. changes records ++ changes_of_record k line []) (omega arith)
+changes_anew = search (rules, changes_append, append-nil)
 
 -- ---- lists of records
 
 -- adding records after the first record doesn't change the header
 header_stays : (records more : Lines) → 0 < length records → header_of (records ++ more) ≡ header_of records
-header_stays [] more some = absurd (omega arith)
-header_stays (first ∷ records) more some = refl
+header_stays = search rules
 
 first_stays : (lines : Lines) (line : List ℕ) → 0 < length lines → first_record (lines ++ line ∷ []) ≡ first_record lines
-first_stays [] line some = absurd (omega arith)
-first_stays (basic ∷ others) line some = refl
+first_stays = search rules
 
 some_lines : (lines : Lines) (stage : Stage) → stage_of lines ≡ Some stage → 0 < length lines
-some_lines [] stage at = absurd cc
-some_lines (basic ∷ others) stage at = omega arith
+some_lines = search rules
 
 -- ---- a schedule that is complete
 
@@ -109,11 +99,11 @@ some_lines (basic ∷ others) stage at = omega arith
 whole_iff : (lines : Lines) (stage : Stage) → stage_of lines ≡ Some stage → IsSchedule lines ↔ (may_end stage lines ≡ true)
 whole_iff lines stage at = (
   λ is.
-      let told = (schedule_iff_stage lines).0 is in
+      let told = (schedule_iff_stage _).0 is in
       let same : Some told.0 ≡ Some stage = sym told.1.found ∙ at in
       let one : told.0 ≡ stage = cc in
       subst (λ s. may_end s lines ≡ true) one told.1.may,
-  λ may. (schedule_iff_stage lines).1 (stage, record { found = at; may = may }),
+  λ may. (schedule_iff_stage _).1 (stage, record { found = at; may = may }),
 )
 
 same_change : (n m : ℕ) (k l : Key) (b c : Bool) (body : Body) → n ≡ m → k ≡ l → b ≡ c
@@ -126,16 +116,13 @@ pub changes_closed : (opened : Opened) (lines before : Lines) → HasLines (prog
     → key_meant (key.Schedule opened.key) ≡ schedule_named (first_record lines) → IsSchedule lines
     → changes (before ++ lines) ≡ changes before ++ change_opened opened lines ∷ []
 changes_closed opened [] before has number named is = absurd (let size = ap (λ (l : Lines). length l) is.whole in omega arith)
-changes_closed opened (basic ∷ others) before has number named is =
-    changes_append 1 before basic others (ap follows_basic kind)
-    ∙ ap (λ later. changes before ++ later) (
-    ap (changes_from (1 + length before)) (sym (append-nil (basic ∷ others)))
-    ∙ unit_then (1 + length before) (basic ∷ others) [] (inr is) tt
+changes_closed opened (basic ∷ others) before has number named is = changes_append _ before _ others (ap follows_basic kind)
+    ∙ ap (λ later. changes before ++ later) (ap (changes_from (1 + length before)) (sym (append-nil (basic ∷ others)))
+    ∙ unit_then _ (basic ∷ others) _ (inr is) tt
     ∙ append-nil _
-    ∙ schedule_change (1 + length before) basic others is
-    ∙ ap (λ change. change ∷ []) (same_change (1 + length before) opened.number (schedule_named basic) (key_meant (key.Schedule opened.key))
-    (is_deletion basic) (progress_meant opened.progress).deletion
-    (schedule_body (as_new basic ∷ others)) (omega arith) (sym named) (sym has.deletion_is))
+    ∙ schedule_change (1 + length before) _ others is
+    ∙ ap (λ change. change ∷ []) (same_change _ opened.number _ (key_meant (key.Schedule opened.key)) _ (progress_meant opened.progress).deletion
+    _ (omega arith) (sym named) (sym has.deletion_is))
     )
   where
     kind : HasKind basic_schedule basic
@@ -153,11 +140,7 @@ same_keeper keeps old new lines made more same equal kept =
 
 -- a record that begins a unit doesn't come within a schedule
 pub anew_by_unit : (line : List ℕ) → is_some (unit_by_kind (kind_of line) line) ≡ true → follows_basic (kind_of line) ≡ false
-anew_by_unit line begins = by (follows_basic (kind_of line)) refl
-  where
-    by : (b : Bool) → follows_basic (kind_of line) ≡ b → follows_basic (kind_of line) ≡ false
-    by false h = h
-    by true h = let bad : false ≡ true = (λ i. is_some (sym (no_unit_by_kind (kind_of line) line h) i)) ∙ begins in cc
+anew_by_unit = search (rules, no_unit_by_kind)
 
 -- suppose that all units read so far are whole. If the next record begins a unit and has good fields, its kind determines the reader's next `Place`
 pub place_over : {K : Type 0} (keeps : Keeps K) (front : Front K) (records : Lines) (line : List ℕ) (next : Place) → (over : IsOver keeps front records)
@@ -177,14 +160,13 @@ pub trailer_added : {K : Type 0} (keeps : Keeps K) (old new : Front K) (records 
     → new.header ≡ old.header → new.stage ≡ AfterEnd → new.keeper ≡ old.keeper → HasRecords keeps new (records ++ line ∷ [])
 trailer_added keeps old new records line over is kind fields same_header place made = record {
   place = after_end;
-  at = place_over keeps old records line after_end over is fields (ap (λ k. unit_by_kind k line) kind);
-  header_is = same_header ∙ over.header_is ∙ sym (header_stays records (line ∷ []) over.some);
+  at = place_over _ old _ line _ over is fields (ap (λ k. unit_by_kind k line) kind);
+  header_is = same_header ∙ over.header_is ∙ sym (header_stays records _ over.some);
   kept_are = subst (λ p. IsKept keeps p new.keeper after_end (records ++ line ∷ [])) (sym place) (
     refl,
-    same_keeper keeps old.keeper new.keeper [] (changes records) (changes (records ++ line ∷ [])) made (
-        sym (append-nil (changes records))
+    same_keeper keeps _ new.keeper _ (changes records) _ made (sym (append-nil (changes records))
         ∙ ap (λ acts. changes records ++ map (as_change (length records + 1)) acts) (sym (ap (λ k. acts_by_kind k line []) kind))
-        ∙ sym (changes_anew records line (ap follows_basic kind))) over.kept,
+        ∙ sym (changes_anew records _ (ap follows_basic kind))) over.kept,
   );
 }
 
@@ -197,13 +179,12 @@ pub single_added : {K : Type 0} (keeps : Keeps K) (old new : Front K) (records :
     → AddsSingle keeps old.keeper number line new.keeper → HasRecords keeps new (records ++ line ∷ [])
 single_added keeps old new records line number over is fields begins counted same_header place made = record {
   place = between_units;
-  at = place_over keeps old records line between_units over is fields begins;
-  header_is = same_header ∙ over.header_is ∙ sym (header_stays records (line ∷ []) over.some);
+  at = place_over _ old _ line _ over is fields begins;
+  header_is = same_header ∙ over.header_is ∙ sym (header_stays records _ over.some);
   kept_are = subst (λ p. IsKept keeps p new.keeper between_units (records ++ line ∷ [])) (sym place) (
     refl,
-    subst (keeps new.keeper []) (
-        (λ i. changes records ++ changes_of_record (counted i) line [])
-        ∙ sym (changes_anew records line (anew_by_unit line (λ i. is_some (begins i))))) (made [] (changes records) over.kept),
+    subst (keeps new.keeper []) ((λ i. changes records ++ changes_of_record (counted i) line [])
+        ∙ sym (changes_anew records _ (anew_by_unit line (λ i. is_some (begins i))))) (made [] (changes records) over.kept),
   );
 }
 
@@ -217,23 +198,21 @@ pub basic_added : {K : Type 0} (keeps : Keeps K) (old new : Front K) (opened : O
     → HasRecords keeps new (records ++ line ∷ [])
 basic_added keeps old new opened records line over is kind fields number named has same_header place added = record {
   place = in_schedule after_basic (line ∷ []);
-  at = place_over keeps old records line (in_schedule after_basic (line ∷ [])) over is fields (ap (λ k. unit_by_kind k line) kind);
-  header_is = same_header ∙ over.header_is ∙ sym (header_stays records (line ∷ []) over.some);
-  kept_are =
-      subst (λ p. IsKept keeps p new.keeper (in_schedule after_basic (line ∷ [])) (records ++ line ∷ [])) (sym place)
-      (record {
-        stage = after_basic;
-        lines = line ∷ [];
-        before = records;
-        place_is = refl;
-        stage_is =
-            stage_of_first line ∙ (λ i. cond ((first_line_iff_test line).0 (record { is = is; kind = kind; fields = fields }) i) (Some after_basic) None);
-        whole = refl;
-        number_is = number;
-        key_is = named;
-        progress_is = has;
-        kept = added (changes records) over.kept;
-      });
+  at = place_over _ _ _ _ _ over is fields (ap (λ k. unit_by_kind k line) kind);
+  header_is = same_header ∙ over.header_is ∙ sym (header_stays _ _ over.some);
+  kept_are = subst (λ p. IsKept keeps p new.keeper (in_schedule after_basic (line ∷ [])) (records ++ line ∷ [])) (sym place) (record {
+    stage = after_basic;
+    lines = line ∷ [];
+    before = records;
+    place_is = refl;
+    stage_is =
+        stage_of_first line ∙ (λ i. cond ((first_line_iff_test _).0 (record { is = is; kind = kind; fields = fields }) i) (Some after_basic) None);
+    whole = refl;
+    number_is = number;
+    key_is = named;
+    progress_is = has;
+    kept = added (changes records) over.kept;
+  });
 }
 
 -- ---- whole units
@@ -244,16 +223,7 @@ between_some records at = let told = at_of_place records between_units at in let
 -- at the stage `BetweenUnits`, all units are whole
 pub over_of_between : {K : Type 0} (keeps : Keeps K) (front : Front K) (records : Lines) → HasRecords keeps front records → front.stage ≡ BetweenUnits
     → IsOver keeps front records
-over_of_between keeps front records has place =
-    let told = subst (λ p. IsKept keeps p front.keeper has.place records) place has.kept_are in
-    record {
-      place = has.place;
-      at = has.at;
-      header_is = has.header_is;
-      some = between_some records (has.at ∙ ap Some told.0);
-      kept = told.1;
-      anew = λ line _. ap (λ p. next_place p line) told.0;
-    }
+over_of_between = search (rules, between_some)
 
 -- at the stage `InSchedule`, the reader is inside the schedule that the stage holds, and the keeper has the schedule's lines
 pub opened_of : {K : Type 0} (keeps : Keeps K) (front : Front K) (opened : Opened) (records : Lines) (has : HasRecords keeps front records)
@@ -266,24 +236,7 @@ pub over_of_closed : {K : Type 0} (keeps : Keeps K) (old new : Front K) (opened 
     → old.stage ≡ InSchedule opened → IsWholeBy opened
     → new.header ≡ old.header
     → Closes keeps old.keeper opened new.keeper → IsOver keeps new records
-over_of_closed keeps old new opened records has place whole same_header closed =
-    let told = opened_of keeps old opened records has place in
-    let is = whole told.lines told.progress_is in
-    let some = some_lines told.lines told.stage told.stage_is in
-    let size = ap (λ (l : Lines). length l) told.whole ∙ length-append told.before told.lines in
-    record {
-      place = has.place;
-      at = has.at;
-      header_is = same_header ∙ has.header_is;
-      some = omega arith;
-      kept =
-          subst (keeps new.keeper [])
-          (sym (changes_closed opened told.lines told.before told.progress_is told.number_is told.key_is is) ∙ ap changes (sym told.whole))
-          (closed told.lines (changes told.before) told.progress_is is told.kept);
-      anew =
-          λ line stops. ap (λ p. next_place p line) told.place_is ∙ next_behind told.stage told.lines line
-          ((whole_iff told.lines told.stage told.stage_is).0 is) stops;
-    }
+over_of_closed = search (rules, opened_of, some_lines, length-append, changes_closed, next_behind, whole_iff)
 
 -- ---- taking a further line of a schedule
 
@@ -307,24 +260,7 @@ pub stands_before : {K : Type 0} (keeps : Keeps K) (front new : Front K) (opened
     → follows_basic (kind_of line) ≡ true → (after : IsFollowed opened line new.stage)
     → ((lines : Lines) → HasLines (progress_meant opened.progress) lines → BeginsSchedule (lines ++ line ∷ []))
     → StandsBefore keeps new after.later line records
-stands_before keeps front new opened records line has place same_header same is follow after begins =
-    let told = opened_of keeps front opened records has place in
-    record {
-      is = is;
-      follows = follow;
-      stage = told.stage;
-      lines = told.lines;
-      before = told.before;
-      at = has.at ∙ ap Some told.place_is;
-      stage_is = told.stage_is;
-      header_is = same_header ∙ has.header_is;
-      whole = told.whole;
-      number_is = after.number ∙ told.number_is;
-      key_is = ap (λ k. key_meant (key.Schedule k)) after.named ∙ told.key_is;
-      progress_is = after.read told.lines told.progress_is;
-      goes_on = begins told.lines told.progress_is;
-      kept = subst (λ k. keeps k told.lines (changes told.before)) (sym same) told.kept;
-    }
+stands_before = search (rules, opened_of)
 
 stage_begun : (lines : Lines) (line : List ℕ) → BeginsSchedule (lines ++ line ∷ []) → (next : Stage) × (stage_of (lines ++ line ∷ []) ≡ Some next)
 stage_begun [] line begins = (begins_iff_stage line []).0 begins
@@ -340,24 +276,15 @@ place_followed keeps front opened line records before next at =
     ∙ ap (option_map (λ n. place_in n (before.lines ++ line ∷ []))) (sym (stage_of_more before.lines before.stage line before.stage_is) ∙ at)
 
 stays_inside : (next : Stage) (lines : Lines) → is_over_by (Some next) ≡ false → place_in next lines ≡ in_schedule next lines
-stays_inside after_basic lines h = refl
-stays_inside after_details lines h = refl
-stays_inside in_journey lines h = refl
-stays_inside after_journey lines h = absurd cc
+stays_inside = search rules
 
 goes_out : (next : Stage) (lines : Lines) → is_over_by (Some next) ≡ true → (next ≡ after_journey) × (place_in next lines ≡ between_units)
-goes_out after_basic lines h = absurd cc
-goes_out after_details lines h = absurd cc
-goes_out in_journey lines h = absurd cc
-goes_out after_journey lines h = (refl, refl)
+goes_out = search rules
 
 header_followed : {K : Type 0} (keeps : Keeps K) (front : Front K) (opened : Opened) (line : List ℕ) (records : Lines)
     → StandsBefore keeps front opened line records
     → front.header ≡ header_of (records ++ line ∷ [])
-header_followed keeps front opened line records before =
-    let some = some_lines before.lines before.stage before.stage_is in
-    let size = ap (λ (l : Lines). length l) before.whole ∙ length-append before.before before.lines in
-    before.header_is ∙ sym (header_stays records (line ∷ []) (omega arith))
+header_followed = search (rules, some_lines, length-append, header_stays)
 
 -- if a keeper that has received lines of a schedule adds one more line, it then holds these lines
 -- followed by the new line
@@ -427,11 +354,7 @@ line_closed keeps old new opened line records before outside same_header place c
 -- ---- which lines may come next
 
 next_of_unit : (line : List ℕ) → is_some (unit_by_kind (kind_of line) line) ≡ true → (next : Place) × (unit_by_kind (kind_of line) line ≡ Some next)
-next_of_unit line begins = by (unit_by_kind (kind_of line) line) refl
-  where
-    by : (found : Option Place) → unit_by_kind (kind_of line) line ≡ found → (next : Place) × (unit_by_kind (kind_of line) line ≡ Some next)
-    by None h = absurd (let bad : false ≡ true = (λ i. is_some (sym h i)) ∙ begins in cc)
-    by (Some next) h = (next, h)
+next_of_unit = search rules
 
 -- if all units read so far are whole, a record with good fields that begins a unit may come next
 pub unit_goes_on : {K : Type 0} (keeps : Keeps K) (front : Front K) (records : Lines) (line : List ℕ) → HasRecords keeps front records
@@ -468,8 +391,7 @@ line_goes_on keeps front opened line records before =
 -- ---- the end of the file
 
 end_by_test : (place : Place) → is_after_end place ≡ true → place ≡ after_end
-end_by_test after_end h = refl
-end_by_test _ h = absurd cc
+end_by_test = search rules
 
 -- if `ended` says whether the reader is after the trailer, it also says whether the records are a
 -- file
@@ -477,40 +399,34 @@ pub ended_iff : {K : Type 0} (keeps : Keeps K) (front : Front K) (records : Line
     → ((place : Place) → IsKept keeps front.stage front.keeper place records → is_after_end place ≡ ended)
     → IsTrue ended ↔ IsFile records
 ended_iff keeps front records ended has tells = (
-  λ is. (file_iff_place records).1 (has.at ∙ ap Some (end_by_test has.place (tells has.place has.kept_are ∙ is))),
-  λ file. let same =
-      one_place records after_end has.place ((file_iff_place records).0 file) has.at in sym (tells has.place has.kept_are) ∙ ap is_after_end (sym same),
+  λ is. (file_iff_place records).1 (has.at ∙ ap Some (end_by_test _ (tells has.place has.kept_are ∙ is))),
+  λ file. let same = one_place records _ has.place ((file_iff_place _).0 file) has.at in sym (tells has.place has.kept_are) ∙ ap is_after_end (sym same),
 )
 
 -- at the stage `BeforeHeader`, the reader isn't after the trailer
 pub tells_before : {K : Type 0} (keeps : Keeps K) (front : Front K) (records : Lines) (place : Place) → front.stage ≡ BeforeHeader
     → IsKept keeps front.stage front.keeper place records → is_after_end place ≡ false
-tells_before keeps front records place at told =
-    ap is_after_end (subst (λ p. IsKept keeps p front.keeper place records) at told).0
+tells_before = search rules
 
 -- at the stage `BetweenUnits`, the reader isn't after the trailer
 pub tells_between : {K : Type 0} (keeps : Keeps K) (front : Front K) (records : Lines) (place : Place) → front.stage ≡ BetweenUnits
     → IsKept keeps front.stage front.keeper place records → is_after_end place ≡ false
-tells_between keeps front records place at told =
-    ap is_after_end (subst (λ p. IsKept keeps p front.keeper place records) at told).0
+tells_between = search rules
 
 -- at the stage `InSchedule`, the reader isn't after the trailer
 pub tells_inside : {K : Type 0} (keeps : Keeps K) (front : Front K) (opened : Opened) (records : Lines) (place : Place) → front.stage ≡ InSchedule opened
     → IsKept keeps front.stage front.keeper place records → is_after_end place ≡ false
-tells_inside keeps front opened records place at told =
-    ap is_after_end (subst (λ p. IsKept keeps p front.keeper place records) at told).place_is
+tells_inside = search rules
 
 -- at the stage `AfterEnd`, the reader is after the trailer
 pub tells_ended : {K : Type 0} (keeps : Keeps K) (front : Front K) (records : Lines) (place : Place) → front.stage ≡ AfterEnd
     → IsKept keeps front.stage front.keeper place records → is_after_end place ≡ true
-tells_ended keeps front records place at told =
-    ap is_after_end (subst (λ p. IsKept keeps p front.keeper place records) at told).0
+tells_ended = search rules
 
 -- ---- why a record can't come next
 
 none_of : (b : Bool) (o : Option Place) → o ≡ None → cond b o None ≡ None
-none_of true o h = h
-none_of false o h = refl
+none_of = search rules
 
 -- for a record that is within the limit and isn't after the trailer, `cause_of` returns the result
 -- of `kind_cause`
@@ -520,12 +436,7 @@ told_cause : (records : Lines) (line : List ℕ) (place : Place) (cause : fault.
 told_cause records line place cause is open_end same limit under = cause_of_record limit (length records) place line under open_end is ∙ same
 
 no_place : (place : Place) (line : List ℕ) → place_by_kind place None line ≡ None
-no_place before_header line = refl
-no_place between_units line = refl
-no_place (in_schedule stage lines) line =
-    (λ i. in_stage_or (lines ++ line ∷ []) (no_stage_of_none stage i) (cond (may_end stage lines) (unit_by_kind None line) None))
-    ∙ none_of (may_end stage lines) None refl
-no_place after_end line = refl
+no_place = search (rules, no_stage_of_none, none_of)
 
 -- a line that doesn't begin with the identity of a kind of record can't come next
 pub no_kind : {K : Type 0} (keeps : Keeps K) (front : Front K) (records : Lines) (line : List ℕ) → HasRecords keeps front records → ¬ IsFile records
@@ -534,15 +445,13 @@ pub no_kind : {K : Type 0} (keeps : Keeps K) (front : Front K) (records : Lines)
 no_kind keeps front records line has unended is none = record {
   place = has.place;
   at = has.at;
-  nowhere =
-      none_of (is_record line && is_sound_at has.place line) (place_by_kind has.place (kind_of line) line)
-      (ap (λ k. place_by_kind has.place k line) none ∙ no_place has.place line);
-  is = told_cause records line has.place bad_kind is (by (is_after_end has.place) refl) (λ i. cond (is_none (none i)) bad_kind (place_cause has.place line));
+  nowhere = none_of (is_record line && is_sound_at has.place line) _ (ap (λ k. place_by_kind has.place k line) none ∙ no_place has.place _);
+  is = told_cause records _ has.place _ is (by (is_after_end has.place) refl) (λ i. cond (is_none (none i)) bad_kind (place_cause has.place line));
 }
   where
     by : (b : Bool) → is_after_end has.place ≡ b → is_after_end has.place ≡ false
     by false h = h
-    by true h = absurd (unended ((file_iff_place records).1 (has.at ∙ ap Some (end_by_test has.place h))))
+    by true h = absurd (unended ((file_iff_place records).1 (has.at ∙ ap Some (end_by_test _ h))))
 
 -- before the header, a record that isn't a header can't come next
 pub no_header : {K : Type 0} (keeps : Keeps K) (front : Front K) (records : Lines) (line : List ℕ) (kind : Kind) → HasRecords keeps front records
@@ -556,9 +465,8 @@ no_header keeps front records line kind has at is known other =
     record {
       place = before_header;
       at = has.at ∙ ap Some here;
-      nowhere = none_of (is_record line && has_good_fields line) (place_by_kind before_header (kind_of line) line) none;
-      is =
-          told_cause records line before_header bad_place is refl ((λ i. cond (is_none (known i)) bad_kind (place_cause before_header line)) ∙
+      nowhere = none_of (is_record line && has_good_fields line) _ none;
+      is = told_cause records _ before_header _ is refl ((λ i. cond (is_none (known i)) bad_kind (place_cause before_header line)) ∙
           (λ i. cond (is_none (none i)) bad_place (field_cause line)));
     }
 
@@ -566,8 +474,7 @@ unsound : (line : List ℕ) (at : ℕ) → leftmost_bad_field line ≡ Some at �
 unsound line at bad = ap is_none bad
 
 both_false : (b c : Bool) → c ≡ false → (b && c) ≡ false
-both_false true c h = h
-both_false false c h = refl
+both_false = search rules
 
 -- before the header, a header with a bad field can't come next
 pub bad_header : {K : Type 0} (keeps : Keeps K) (front : Front K) (records : Lines) (line : List ℕ) (column : ℕ) → HasRecords keeps front records
@@ -579,9 +486,8 @@ bad_header keeps front records line column has at is known bad =
     record {
       place = before_header;
       at = has.at ∙ ap Some here;
-      nowhere =
-          λ i. cond (both_false (is_record line) (has_good_fields line) (unsound line column bad) i) (place_by_kind before_header (kind_of line) line) None;
-      is = told_cause records line before_header (bad_field column) is refl (
+      nowhere = λ i. cond (both_false (is_record line) _ (unsound line _ bad) i) (place_by_kind before_header (kind_of line) line) None;
+      is = told_cause records _ before_header _ is refl (
           (λ i. cond (is_none (known i)) bad_kind (cond (is_none (cond (is_header_kind (known i)) (Some between_units) None)) bad_place (field_cause line)))
           ∙ (λ i. with_column bad_field (bad i) fault.third_midnight)
           );
@@ -660,11 +566,7 @@ bad_behind keeps front opened records line kind has at whole is known stops bad 
     }
 
 not_may : (stage : Stage) (lines : Lines) → ¬ (may_end stage lines ≡ true) → may_end stage lines ≡ false
-not_may stage lines bad = by (may_end stage lines) refl
-  where
-    by : (b : Bool) → may_end stage lines ≡ b → may_end stage lines ≡ false
-    by false h = h
-    by true h = absurd (bad h)
+not_may = search rules
 
 -- after lines that aren't a whole schedule, a record that begins a unit can't come next
 pub not_whole : {K : Type 0} (keeps : Keeps K) (front : Front K) (opened : Opened) (records : Lines) (line : List ℕ) (kind : Kind)
@@ -697,8 +599,7 @@ pub bad_line : {K : Type 0} (keeps : Keeps K) (wants : Type 0) (front : Front K)
     → front.stage ≡ InSchedule opened → IsRecord line
     → follows_basic (kind_of line) ≡ true → ((lines : Lines) → HasLines (progress_meant opened.progress) lines → IsScheduleCause lines line cause)
     → IsNoNextCause wants records line cause
-bad_line keeps wants front opened records line None has at is follow told =
-    let here = opened_of keeps front opened records has at in absurd (told here.lines here.progress_is)
+bad_line keeps wants front opened records line None has at is follow told = search (rules, opened_of)
 bad_line keeps wants front opened records line (Some cause) has at is follow told =
     let here = opened_of keeps front opened records has at in
     let found : IsPlaceOf records (in_schedule here.stage here.lines) = has.at ∙ ap Some here.place_is in
@@ -715,25 +616,21 @@ bad_line keeps wants front opened records line (Some cause) has at is follow tol
 
 -- if two facts hold whenever the result is `Ok`, so does whatever follows from both facts
 pub on_ok : {A E P Q R : Type 0} (answer : Result A E) → OnOk answer P → OnOk answer Q → (P → Q → R) → OnOk answer R
-on_ok (Ok value) p q both = both p q
-on_ok (Err error) p q both = p
+on_ok = search rules
 
 -- if a fact holds whenever the result is `Ok`, so does whatever follows from this fact
 pub on_ok_one : {A E P R : Type 0} (answer : Result A E) → OnOk answer P → (P → R) → OnOk answer R
-on_ok_one (Ok value) p one = one p
-on_ok_one (Err error) p one = p
+on_ok_one = search rules
 
 -- ---- kinds of record in the code
 
 -- of the code's kinds of record, only `Header` is a header in the definitions
 pub other_kind : (kind : code.Kind) → ¬ (kind ≡ Header) → is_header_kind (Some (meaning kind)) ≡ false
-other_kind Header bad = absurd (bad refl)
-other_kind _ bad = refl
+other_kind = search rules
 
 -- at the stage `AfterEnd`, the records are a file
 pub file_at_end : {K : Type 0} (keeps : Keeps K) (front : Front K) (records : Lines) → HasRecords keeps front records → front.stage ≡ AfterEnd → IsFile records
-file_at_end keeps front records has at =
-    (file_iff_place records).1 (has.at ∙ ap Some (subst (λ p. IsKept keeps p front.keeper has.place records) at has.kept_are).0)
+file_at_end = search (rules, file_iff_place)
 
 -- ---- the whole file
 
@@ -742,13 +639,11 @@ pub file_ended : {K : Type 0} (keeps : Keeps K) (front : Front K) (records : Lin
     → front.stage ≡ AfterEnd → front.header ≡ Some ended.header → ended.records ≡ length records → ended.keeper ≡ front.keeper
     → IsFile records × IsEnded keeps records ended
 file_ended keeps front records ended has at head counted same = (
-  file_at_end keeps front records has at,
+  file_at_end _ _ _ has at,
   record {
     header_is = first records (sym head ∙ has.header_is);
     count_is = counted;
-    kept =
-        subst (λ k. keeps k [] (changes records)) (sym same)
-        (subst (λ p. IsKept keeps p front.keeper has.place records) at has.kept_are).1;
+    kept = subst (λ k. keeps k [] (changes records)) (sym same) (subst (λ p. IsKept keeps p front.keeper has.place records) at has.kept_are).1;
   },
 )
   where

@@ -1,7 +1,7 @@
 -- Lemmas on the last line of a text. If memory runs out at this line, the text is a CIF file if the
 -- line is the trailer, and otherwise the text lacks its trailer.
-use Rattle.std.proofs.Common.{◌≡◌, ℕ, ◌+◌, ◌<◌, ◌≢◌, ◌⊎◌, inl, inr, Bool, true, false, cond, List, [], ◌∷◌, ◌++◌, length, subst, refl, ap, sym}
-use Rattle.std.proofs.Common.{◌∙◌, Some, None, arith}
+use Rattle.std.proofs.Common.{◌≡◌, ℕ, ◌+◌, ◌<◌, ◌≢◌, ◌⊎◌, inl, inr, Bool, true, false, List, [], ◌∷◌, ◌++◌, length, subst, refl, ap, sym}
+use Rattle.std.proofs.Common.{◌∙◌, Some, arith, rules}
 use Rattle.std.specs.List.{flat_map}
 use Rattle.std.specs.Str.Lines.{strip_carriage_return}
 use Rattle.docker_model.specs.records.Record.{HasKind, IsRecord, Lines, trailer}
@@ -9,9 +9,8 @@ use Rattle.docker_model.specs.file.Text.{lines_of, complete_lines}
 use Rattle.docker_model.specs.file.FaultSoFar.{sure_lines}
 use Rattle.docker_model.specs.file.File.{IsFile}
 use Rattle.cif_laws.specs.CompleteLines.{open_line}
-use Rattle.cif_laws.specs.FileStage.{Place, before_header, between_units, in_schedule, after_end, place_by_kind, in_stage_or, IsPlaceOf}
+use Rattle.cif_laws.specs.FileStage.{Place, after_end, place_by_kind, IsPlaceOf}
 use Rattle.cif_laws.specs.RecordCause.{is_after_end}
-use Rattle.cif_laws.specs.ScheduleStage.{may_end}
 use Rattle.cif_laws.proofs.files.CompleteLines.{lines_of_open}
 use Rattle.cif_laws.proofs.files.FileStages.{begins_iff_place, file_iff_place, place_of_more, next_by_test, one_place, stage_stops}
 use Rattle.cif_laws.proofs.files.ReportedFaults.{length_at_end}
@@ -43,23 +42,12 @@ last_appended (first ∷ next ∷ rest) line = last_appended (next ∷ rest) lin
 ends_with_trailer : (records : Lines) (line : List ℕ) → IsFile (records ++ line ∷ []) → HasKind trailer line
 ends_with_trailer records line is =
     let same : last_of (records ++ line ∷ []) ≡ last_of ((is.first ∷ flat_map (λ unit. unit) is.units) ++ is.last ∷ []) = ap last_of is.whole in
-    let last : line ≡ is.last =
-    sym (last_appended records line) ∙ same ∙ last_appended (is.first ∷ flat_map (λ unit. unit) is.units) is.last in
+    let last : line ≡ is.last = sym (last_appended records _) ∙ same ∙ last_appended (is.first ∷ flat_map (λ unit. unit) is.units) _ in
     subst (HasKind trailer) (sym last) is.trailer_kind
 
 -- a trailer leads the reader to `after_end`, or nowhere
 place_of_trailer : (place next : Place) (line : List ℕ) → place_by_kind place (Some trailer) line ≡ Some next → next ≡ after_end
-place_of_trailer before_header next line found = cc
-place_of_trailer between_units next line found = cc
-place_of_trailer (in_schedule stage lines) next line found = by (may_end stage lines) refl
-  where
-    reached : cond (may_end stage lines) (Some after_end) None ≡ Some next
-    reached = (λ i. in_stage_or (lines ++ line ∷ []) (sym (stage_stops stage (Some trailer) refl) i) (cond (may_end stage lines) (Some after_end) None)) ∙ found
-
-    by : (b : Bool) → may_end stage lines ≡ b → next ≡ after_end
-    by true h = let same : Some after_end ≡ Some next = (λ i. cond (sym h i) (Some after_end) None) ∙ reached in cc
-    by false h = let none : None ≡ Some next = (λ i. cond (sym h i) (Some after_end) None) ∙ reached in cc
-place_of_trailer after_end next line found = cc
+place_of_trailer = search (rules, stage_stops)
 
 -- if the reader goes on with a trailer, the reader is then at the end of the file
 trailer_ends : (records : Lines) (place next : Place) (line : List ℕ) → IsPlaceOf records place → IsPlaceOf (records ++ line ∷ []) next

@@ -1,11 +1,13 @@
 -- Lemmas on which lines a parser has taken after each piece, and which faults it returns.
 use Rattle.std.proofs.Common.{◌≡◌, ℕ, ◌+◌, ◌-◌, ◌≤◌, ◌<◌, inl, inr, Bool, true, false, cond, List, [], ◌∷◌, ◌++◌, length, subst, refl, ap, sym}
+use Rattle.std.proofs.lemmas.Grind.{common_steps}
+use Rattle.std.proofs.Common.{rules}
 use Rattle.std.proofs.Common.{◌∙◌, Some, None, arith, append_assoc, append-nil, length-append, eqb-true, take, drop, get_or, suc, drop-cons}
-use Rattle.std.specs.Prelude.{⊤, Option, ◌↔◌, ◌==◌, ◌&&◌, nat_le, position, nat_lt}
+use Rattle.std.specs.Prelude.{⊤, Option, ◌↔◌, ◌==◌, ◌&&◌, position, nat_lt}
 use Rattle.std.specs.Str.Lines.{strip_carriage_return}
 use Rattle.std.proofs.Math.Seq.{take-append_seam}
 use Rattle.std.specs.List.{position_or_len}
-use Rattle.std.proofs.lemmas.Bool.{ltb-false, leb-true, leb-false, lt-leb, le-leb, eqb-false}
+use Rattle.std.proofs.lemmas.Bool.{ltb-false, lt-leb, le-leb, eqb-false}
 use Rattle.std.proofs.lemmas.List.Sums.{position_or_len_is, fails_before_first}
 use Rattle.std.proofs.lemmas.List.{take-append-drop, take-append-le, take_all, get_or-take, length-take-le}
 use Rattle.std.proofs.lemmas.List.Quantifiers.{position-Some}
@@ -52,11 +54,7 @@ some_is : {A : Type 0} (x y : A) → Some x ≡ Some y → x ≡ y
 some_is x y same = cc
 
 above : (most n : ℕ) → ¬ (n ≤ most) → most + 1 ≤ n
-above most n many = by (nat_le n most) refl
-  where
-    by : (b : Bool) → nat_le n most ≡ b → most + 1 ≤ n
-    by true h = absurd (many (leb-true n most h))
-    by false h = let over = leb-false n most h in omega arith
+above = omega arith
 
 -- ---- out of memory
 
@@ -84,8 +82,7 @@ memory_more limit records others number told = record {
 }
 
 pub end_by_test : (place : Place) → is_after_end place ≡ true → place ≡ after_end
-end_by_test after_end h = refl
-end_by_test _ h = absurd cc
+end_by_test = search rules
 
 -- ---- the next record
 
@@ -115,9 +112,7 @@ no_next place line bad = by (next_place place line) refl
 -- the choice among three causes is always a cause, and never `None`
 some_cause : (over ended : Bool) (first second third : model.FileCause)
     → cond over (Some first) (cond ended (Some second) (Some third)) ≡ Some (cond over first (cond ended second third))
-some_cause true ended first second third = refl
-some_cause false true first second third = refl
-some_cause false false first second third = refl
+some_cause = search rules
 
 -- if the code refuses a line that isn't a record, the fault that it returns is a fault at this line
 pub refused_line : (wants : Type 0) (limit : ℕ) (records : Lines) (line : List ℕ) (cause : Option model.FileCause) (fault : FileFault)
@@ -125,32 +120,22 @@ pub refused_line : (wants : Type 0) (limit : ℕ) (records : Lines) (line : List
     → ((place : Place) → cause ≡ Some (length_cause place line)) → IsFaultNext wants limit records line fault
 refused_line wants limit records line cause fault next bad told = record {
   number = next.number;
-  cause =
-      subst (IsCauseAfter wants limit records line) (sym (next.is
+  cause = subst (IsCauseAfter wants limit records line) (sym (next.is
       ∙ ap (refusal limit (length records) next.place) (told next.place)
-      ∙ some_cause (nat_le limit (length records)) (is_after_end next.place) too_many after_trailer (length_cause next.place line)))
-      (record { place = next.place; at = next.at; here = inr (no_next next.place line bad); is = refl });
+      ∙ some_cause _ (is_after_end next.place) _ after_trailer _))
+      (record { place = next.place; at = next.at; here = inr (no_next next.place _ bad); is = refl });
 }
 
 -- if a line is refused because of its length, the fault that is returned is the fault at a line of
 -- more than 81 bytes
 pub refused_long : (limit : ℕ) (records : Lines) (fault : FileFault) → IsRefusedNext limit records (Some bad_length) fault → IsLongNext limit records fault
-refused_long limit records fault next = record {
-  number = next.number;
-  place = next.place;
-  at = next.at;
-  cause = next.is ∙ some_cause (nat_le limit (length records)) (is_after_end next.place) too_many after_trailer bad_length;
-}
+refused_long = search (rules, some_cause)
 
 -- if a record within the limit can't come next, the reason why it can't is a correct cause for refusing its line
 pub front_cause : (wants : Type 0) (limit : ℕ) (records : Lines) (line : List ℕ) (cause : FileCause) → length records < limit
     → IsNoNextCause wants records line (cause_meant cause)
     → IsCauseAfter wants limit records line (cause_meant cause)
-front_cause wants limit records line cause under told = by (cause_meant cause) told
-  where
-    by : (meant : Option model.FileCause) → IsNoNextCause wants records line meant → IsCauseAfter wants limit records line meant
-    by None goes_on = (goes_on.0, under, goes_on.1)
-    by (Some c) told_no = record { place = told_no.place; at = told_no.at; here = inr told_no.nowhere; is = told_no.is limit under }
+front_cause = search rules
 
 -- ---- a piece with a line feed, which ends a line
 
@@ -158,11 +143,7 @@ front_cause wants limit records line cause under told = by (cause_meant cause) t
 pub ended_read : {K : Type 0} (keeps : Keeps K) (old new : FileReading K) (limit : ℕ) (text front : List ℕ) → IsReading keeps old limit text → HasNoFeed front
     → HasCounted keeps new.records limit (complete_lines text ++ strip_carriage_return (open_line text ++ front) ∷ []) → new.partial.items ≡ []
     → IsReading keeps new limit (text ++ (front ++ 10 ∷ []))
-ended_read keeps old new limit text front reading plain counted none = record {
-  counted = subst (HasCounted keeps new.records limit) (sym (complete_lines_ended text front plain)) counted;
-  partial_is = none ∙ sym (open_line_ended text front plain);
-  short = let size = ap (λ (l : List ℕ). length l) (open_line_ended text front plain) in omega arith;
-}
+ended_read = search (rules, complete_lines_ended, open_line_ended)
 
 -- a fault at the line that ends at a line feed is a fault of the text up to this line feed
 pub ended_fault : {K : Type 0} (keeps : Keeps K) (wants : Type 0) (old : FileReading K) (limit : ℕ) (text front : List ℕ) (fault : FileFault)
@@ -173,12 +154,10 @@ ended_fault keeps wants old limit text front fault reading plain next = by (caus
   where
     by : (meant : Option model.FileCause) → IsCauseAfter wants limit (complete_lines text) (strip_carriage_return (open_line text ++ front)) meant
         → IsCauseSoFar limit (text ++ (front ++ 10 ∷ [])) fault.number meant
-    by None told =
-        memory_answer limit (complete_lines text) (strip_carriage_return (open_line text ++ front)) fault.number
-        (complete_lines (text ++ (front ++ 10 ∷ []))) told.1 told.2 next.number (complete_lines_ended text front plain)
+    by None told = memory_answer _ (complete_lines text) _ fault.number _ told.1 told.2 next.number (complete_lines_ended text _ plain)
     by (Some cause) told =
         subst (λ f. IsFaultSoFar limit (text ++ (front ++ 10 ∷ [])) f) (λ i. record { number = sym next.number i; cause = told.is i })
-        (fault_at_feed limit text front [] told.place plain told.at reading.counted.within told.here)
+        (fault_at_feed limit _ front _ told.place plain told.at reading.counted.within told.here)
 
 -- if a line of more than 81 bytes ends at a line feed, the text is refused at this line, which is
 -- too long
@@ -203,15 +182,7 @@ ended_long keeps old limit text front fault reading plain many next =
 pub kept_read : {K : Type 0} (keeps : Keeps K) (old new : FileReading K) (limit : ℕ) (text more : List ℕ) → IsReading keeps old limit text → HasNoFeed more
     → length old.partial.items + length more ≤ 81 → new.records ≡ old.records
     → new.partial.items ≡ old.partial.items ++ more → IsReading keeps new limit (text ++ more)
-kept_read keeps old new limit text more reading plain few records kept = record {
-  counted =
-      subst (λ r. HasCounted keeps r limit (complete_lines (text ++ more))) (sym records)
-      (subst (HasCounted keeps old.records limit) (sym (complete_lines_plain text more plain)) reading.counted);
-  partial_is = kept ∙ (λ i. reading.partial_is i ++ more) ∙ sym (open_line_plain text more plain);
-  short =
-      let size = ap (λ (l : List ℕ). length l) (open_line_plain text more plain) ∙ length-append (open_line text) more in
-      let same = ap (λ (l : List ℕ). length l) reading.partial_is in omega arith;
-}
+kept_read = search (rules, complete_lines_plain, open_line_plain, length-append)
 
 -- if more than 81 bytes of a line have been read, the text is refused at this line, which is too
 -- long even without a line feed
@@ -242,9 +213,8 @@ reported_stays limit text more fault told = by (cause_meant fault.cause) told
   where
     by : (meant : Option model.FileCause) → IsCauseSoFar limit text fault.number meant → IsCauseSoFar limit (text ++ more) fault.number meant
     by None here =
-        let stay = complete_lines_stay text more in subst (λ (l : Lines). WantsMemoryAt limit l fault.number) (sym stay.1)
-        (memory_more limit (complete_lines text) stay.0 fault.number here)
-    by (Some cause) here = fault_stays limit text more (record { number = fault.number; cause = cause }) here
+        let stay = complete_lines_stay text _ in subst (λ (l : Lines). WantsMemoryAt limit l fault.number) (sym stay.1) (memory_more limit _ stay.0 _ here)
+    by (Some cause) here = fault_stays limit _ more _ here
 
 -- ---- the end of the text
 
@@ -256,8 +226,7 @@ counted_open keeps records limit text some counted = subst (HasCounted keeps rec
 pub counted_ended : {K : Type 0} (keeps : Keeps K) (reading : FileReading K) (limit : ℕ) (text : List ℕ) → IsReading keeps reading limit text
     → reading.partial.items ≡ []
     → HasCounted keeps reading.records limit (lines_of text)
-counted_ended keeps reading limit text is none =
-    subst (HasCounted keeps reading.records limit) (sym (lines_of_ended text (sym is.partial_is ∙ none))) is.counted
+counted_ended = search (rules, lines_of_ended)
 
 -- a fault at the unfinished line at the end is a fault of the text
 pub end_fault : {K : Type 0} (keeps : Keeps K) (wants : Type 0) (reading : FileReading K) (limit : ℕ) (text : List ℕ) (fault : FileFault)
@@ -267,12 +236,10 @@ end_fault keeps wants reading limit text fault is some next = by (cause_meant fa
   where
     by : (meant : Option model.FileCause) → IsCauseAfter wants limit (complete_lines text) (strip_carriage_return (open_line text)) meant
         → IsCauseOf limit text fault.number meant
-    by None told =
-        memory_answer limit (complete_lines text) (strip_carriage_return (open_line text)) fault.number (lines_of text) told.1 told.2 next.number
-        (lines_of_open text some)
+    by None told = memory_answer _ (complete_lines text) _ fault.number _ told.1 told.2 next.number (lines_of_open text some)
     by (Some cause) told =
         subst (λ f. IsFileFault limit text f) (λ i. record { number = sym next.number i; cause = told.is i })
-        (fault_at_end limit text told.place told.at is.counted.within some told.here)
+        (fault_at_end _ text _ told.at is.counted.within some told.here)
 
 -- if all lines of a text were taken and the reader returns a file, this is the file of the text
 pub file_at_end : {K : Type 0} (keeps : Keeps K) (records : Records K) (limit : ℕ) (text : List ℕ) (ended : Ended K)
@@ -305,9 +272,8 @@ pub reported_refused : (limit : ℕ) (text : List ℕ) (fault : FileFault) → I
 reported_refused limit text fault told = by (cause_meant fault.cause) told
   where
     by : (meant : Option model.FileCause) → IsCauseSoFar limit text fault.number meant → IsCauseOf limit text fault.number meant
-    by None here =
-        subst (λ (l : Lines). WantsMemoryAt limit l fault.number) (sym (lines_of_told text))
-        (memory_more limit (complete_lines text) (line_left (open_line text)) fault.number here)
+    by None here = subst (λ (l : Lines). WantsMemoryAt limit l fault.number) (sym (lines_of_told text))
+        (memory_more _ (complete_lines text) _ fault.number here)
     by (Some cause) here = inl here.is
 
 -- ---- a line that isn't a record
@@ -318,14 +284,7 @@ pub refused_over : {K : Type 0} (keeps : Keeps K) (records : Records K) (limit :
     → fault.number ≡ records.next
     → records.limit < records.next → cause_meant fault.cause ≡ Some too_many
     → IsRefusedNext limit taken cause fault
-refused_over keeps records limit taken cause fault counted number over told = record {
-  number = number ∙ counted.next_is;
-  place = counted.has.place;
-  at = counted.has.at;
-  is =
-      told ∙ (let next = counted.next_is in let same = counted.limit_is in let most : limit ≤ length taken = omega arith in
-      λ i. cond (sym (le-leb limit (length taken) most) i) (Some too_many) (cond (is_after_end counted.has.place) (Some after_trailer) cause));
-}
+refused_over = search (rules, le-leb)
 
 -- a line within the limit that isn't a record is refused with the cause `After` if it follows the
 -- trailer. Otherwise the cause is the reason why it isn't a record
@@ -337,8 +296,7 @@ refused_within keeps records limit taken cause fault ended counted number within
   number = number ∙ counted.next_is;
   place = counted.has.place;
   at = counted.has.at;
-  is =
-      told ∙ (λ i. cond (same i) (Some after_trailer) cause)
+  is = told ∙ (λ i. cond (same i) (Some after_trailer) cause)
       ∙ (let next = counted.next_is in let limits = counted.limit_is in let under : length taken < limit = omega arith in
       λ i. cond (sym (lt-leb limit (length taken) under) i) (Some too_many) (cond (is_after_end counted.has.place) (Some after_trailer) cause));
 }
@@ -350,10 +308,10 @@ refused_within keeps records limit taken cause fault ended counted number within
         by true true h k = h ∙ sym k
         by false false h k = h ∙ sym k
         by true false h k =
-            let at = some_is after_end counted.has.place (sym ((file_iff_place taken).0 (iff.0 h)) ∙ counted.has.at) in
+            let at = some_is _ _ (sym ((file_iff_place _).0 (iff.0 h)) ∙ counted.has.at) in
             let bad : true ≡ false = ap is_after_end at ∙ k in absurd cc
         by false true h k =
-            let is = (file_iff_place taken).1 (counted.has.at ∙ ap Some (end_by_test counted.has.place k)) in
+            let is = (file_iff_place _).1 (counted.has.at ∙ ap Some (end_by_test _ k)) in
             let bad : true ≡ false = sym (iff.1 is) ∙ h in absurd cc
 
 -- ---- the bytes of a line that ends
@@ -362,10 +320,7 @@ refused_within keeps records limit taken cause fault ended counted number within
 pub ended_many : {K : Type 0} (keeps : Keeps K) (old : FileReading K) (limit : ℕ) (text front : List ℕ) → IsReading keeps old limit text
     → ¬ (length old.partial.items + length front ≤ 81)
     → 82 ≤ length (open_line text ++ front)
-ended_many keeps old limit text front reading many =
-    let same = ap (λ (l : List ℕ). length l) reading.partial_is in
-    let size = length-append (open_line text) front in
-    above 81 (length (open_line text ++ front)) (λ few. many (omega arith))
+ended_many = search (rules, length-append, above)
 
 -- the stored bytes of a line, followed by the bytes before the line feed, are the line that ends there
 pub taken_is : {K : Type 0} (keeps : Keeps K) (old : FileReading K) (limit : ℕ) (text front raw line : List ℕ) → IsReading keeps old limit text
@@ -389,26 +344,18 @@ pub ended_err : {K : Type 0} (keeps : Keeps K) (wants : Type 0) (old : FileReadi
     → IsReading keeps old limit text → HasNoFeed front
     → line ≡ strip_carriage_return (open_line text ++ front) → FaultsNext keeps wants old.records line fault
     → IsFaultReported limit (text ++ (front ++ 10 ∷ [])) fault
-ended_err keeps wants old limit text front line fault reading plain same told =
-    ended_fault keeps wants old limit text front fault reading plain
+ended_err keeps wants old limit text front line fault reading plain same told = ended_fault _ _ _ _ _ _ _ reading plain
     (subst (λ l. IsFaultNext wants limit (complete_lines text) l fault) same (told limit (complete_lines text) reading.counted))
 
 -- if the number of bytes that the parser stores is 0, the list of these bytes is empty
 pub empty_is : {K : Type 0} (old : FileReading K) → true ≡ (length old.partial.items == 0) → old.partial.items ≡ []
-empty_is old none = by old.partial.items (eqb-true (length old.partial.items) 0 (sym none))
-  where
-    by : (bytes : List ℕ) → length bytes ≡ 0 → bytes ≡ []
-    by [] h = refl
-    by (byte ∷ bytes) h = absurd (omega arith)
+empty_is = grind (common_steps, arith, eqb-true)
 
 -- if the parser holds bytes of a line that hasn't ended, the text ends in an unfinished line
 pub some_is_open : {K : Type 0} (keeps : Keeps K) (old : FileReading K) (limit : ℕ) (text : List ℕ) → IsReading keeps old limit text
     → false ≡ (length old.partial.items == 0)
     → 0 < length (open_line text)
-some_is_open keeps old limit text reading some =
-    let size = ap (λ (l : List ℕ). length l) reading.partial_is in
-    let not_none = eqb-false (length old.partial.items) 0 (sym some) in
-    above 0 (length (open_line text)) (λ none. not_none (omega (arith, size)))
+some_is_open = search (rules, eqb-false, above)
 
 -- if the unfinished line at the end of the text was taken as the last line, all lines of the text
 -- were taken
@@ -416,28 +363,20 @@ pub counted_last : {K : Type 0} (keeps : Keeps K) (old : FileReading K) (records
     → IsReading keeps old limit text
     → false ≡ (length old.partial.items == 0) → raw ≡ old.partial.items
     → line ≡ strip_carriage_return raw → HasCounted keeps records limit (complete_lines text ++ line ∷ []) → HasCounted keeps records limit (lines_of text)
-counted_last keeps old records limit text raw line reading some same strip counted =
-    counted_open keeps records limit text (some_is_open keeps old limit text reading some)
+counted_last keeps old records limit text raw line reading some same strip counted = counted_open _ records _ text (some_is_open _ old _ text reading some)
     (subst (λ l. HasCounted keeps records limit (complete_lines text ++ l ∷ [])) (strip ∙ ap strip_carriage_return (same ∙ reading.partial_is)) counted)
 
 -- ---- cutting bytes at a line feed
 
 -- `position` and `position_or_len` find the same line feed
 feed_place : (text : List ℕ) (end : ℕ) → position (λ b. b == 10) text ≡ Some end → position_or_len (λ b. b == 10) text ≡ end
-feed_place text end found =
-    let at = position-Some (λ b. b == 10) text end 0 found in
-    position_or_len_is (λ b. b == 10) text end 0 (omega (arith, at.0)) at.2 (λ _. at.1)
+feed_place = search (rules, position-Some, position_or_len_is)
 
 no_place : (place size : ℕ) (b : Bool) → nat_lt place size ≡ b → cond b (Some place) None ≡ None → size ≤ place
-no_place place size true h none = absurd cc
-no_place place size false h none = ltb-false place size h
+no_place = search (rules, ltb-false)
 
 plain_front : (text : List ℕ) (end : ℕ) → end < length text → position (λ b. b == 10) text ≡ Some end → HasNoFeed (take end text)
-plain_front text end within found = λ k d below.
-    let place = feed_place text end found in
-    let size = length-take-le end text (omega arith) in
-    let before : k < end = omega arith in
-    ap (λ b. b == 10) (get_or-take end text k d before) ∙ fails_before_first (λ b. b == 10) text k d (omega arith)
+plain_front = search (rules, feed_place, length-take-le, get_or-take, fails_before_first)
 
 -- a text is cut at its first line feed
 pub cut_at : (text : List ℕ) (end : ℕ) → position (λ b. b == 10) text ≡ Some end → IsCut text (take end text) (drop (end + 1) text)
@@ -452,9 +391,7 @@ cut_at text end found =
 
 -- if the search finds no line feed, the text has none
 pub no_feed_by : (text : List ℕ) → position (λ b. b == 10) text ≡ None → HasNoFeed text
-no_feed_by text none = λ k d below.
-    let past = no_place (position_or_len (λ b. b == 10) text) (length text) _ refl none in
-    fails_before_first (λ b. b == 10) text k d (omega arith)
+no_feed_by = search (rules, no_place, fails_before_first)
 
 -- let a piece be cut into bytes that were taken and a rest. Taking more bytes from the rest appends them to the bytes that were taken
 cut_more : (piece rest front behind : List ℕ) → before_rest piece rest ++ rest ≡ piece → rest ≡ front ++ behind
@@ -470,14 +407,7 @@ cut_more piece rest front behind whole cut =
 
 -- before any byte of a piece is taken, the list of bytes that were taken is empty, and the rest is the whole piece
 cut_first : (piece : List ℕ) → (before_rest piece piece ≡ []) × (before_rest piece piece ++ piece ≡ piece)
-cut_first piece =
-    let none : length piece - length piece ≡ 0 = omega arith in
-    let same : before_rest piece piece ≡ [] = ap (λ n. take n piece) none ∙ take_none piece in
-    (same, ap (λ l. l ++ piece) same)
-  where
-    take_none : (l : List ℕ) → take 0 l ≡ []
-    take_none [] = refl
-    take_none (b ∷ l) = refl
+cut_first = search rules
 
 -- a text consists of its first line with the line feed, and the rest
 pub cut_whole : (rest front behind : List ℕ) → IsCut rest front behind → rest ≡ (front ++ 10 ∷ []) ++ behind
@@ -491,50 +421,38 @@ TextProperty = ℕ → List ℕ → Type 0
 
 -- at first no byte of the text has been taken
 pub takes_none : (before : TextProperty) (text : List ℕ) → TakesUpTo before text text before
-takes_none before text =
-    let first = cut_first text in
-    record {
-      whole = first.1;
-      read = λ limit taken is. subst (λ l. before limit (taken ++ l)) (sym first.0) (subst (before limit) (sym (append-nil taken)) is);
-    }
+takes_none = search (rules, cut_first, append-nil)
 
 -- if the first bytes of the rest are taken, only the other bytes of the rest are still to be taken
 pub takes_further : (before middle after : TextProperty) (text rest front behind : List ℕ) → TakesUpTo before text rest middle → rest ≡ front ++ behind
     → GoesOn middle front after → TakesUpTo before text behind after
 takes_further before middle after text rest front behind up_to cut on =
-    let more = cut_more text rest front behind up_to.whole cut in
+    let more = cut_more _ _ _ _ up_to.whole cut in
     record {
       whole = more.1;
-      read = λ limit taken is.
-          subst (after limit) (append_assoc taken (before_rest text rest) front ∙ ap (λ l. taken ++ l) (sym more.0))
+      read = λ limit taken is. subst (after limit) (append_assoc taken (before_rest text rest) front ∙ ap (λ l. taken ++ l) (sym more.0))
           (on limit (taken ++ before_rest text rest) (up_to.read limit taken is));
     }
 
 -- if the first line of the rest is taken, only the bytes after this line are still to be taken
 pub takes_line : (before middle next : TextProperty) (text rest front behind : List ℕ) → TakesUpTo before text rest middle → IsCut rest front behind
     → GoesOn middle (front ++ 10 ∷ []) next → TakesUpTo before text behind next
-takes_line before middle next text rest front behind up_to cut on =
-    takes_further before middle next text rest (front ++ 10 ∷ []) behind up_to (cut_whole rest front behind cut) on
+takes_line = search (rules, takes_further, cut_whole)
 
 -- if the rest is taken in two steps, the bytes that are left after both steps are still to be taken
 pub takes_more : (before middle after : TextProperty) (text rest left : List ℕ) → TakesUpTo before text rest middle → TakesUpTo middle rest left after
     → TakesUpTo before text left after
-takes_more before middle after text rest left up_to more =
-    takes_further before middle after text rest (before_rest rest left) left up_to (sym more.whole) more.read
+takes_more before middle after text rest left up_to more = takes_further _ _ _ _ _ _ _ up_to (sym more.whole) more.read
 
 -- after the whole rest is taken, the whole text is taken
 pub takes_whole : (before middle after : TextProperty) (text rest : List ℕ) → TakesUpTo before text rest middle → GoesOn middle rest after
     → GoesOn before text after
-takes_whole before middle after text rest up_to on = λ limit taken is.
-    subst (after limit) (append_assoc taken (before_rest text rest) rest ∙ ap (λ l. taken ++ l) up_to.whole)
-    (on limit (taken ++ before_rest text rest) (up_to.read limit taken is))
+takes_whole = search (rules, append_assoc)
 
 -- a fault of the rest is a fault of the text
 pub fault_of_rest : (before middle : TextProperty) (text rest : List ℕ) (fault : FileFault) → TakesUpTo before text rest middle → TellsFault middle rest fault
     → TellsFault before text fault
-fault_of_rest before middle text rest fault up_to tells = λ limit taken is.
-    subst (λ t. IsFaultReported limit t fault) (append_assoc taken (before_rest text rest) rest ∙ ap (λ l. taken ++ l) up_to.whole)
-    (tells limit (taken ++ before_rest text rest) (up_to.read limit taken is))
+fault_of_rest = search (rules, append_assoc)
 
 -- a fault of a prefix of a text is a fault of the text
 pub fault_of_front : (before : TextProperty) (text front behind : List ℕ) (fault : FileFault) → text ≡ front ++ behind → TellsFault before front fault
@@ -646,8 +564,7 @@ names_later parser reading fault none same told = λ _ limit text has. (told lim
 pub names_last : (parser : ParserState) (reading : FileReading FileSoFar) (fault : FileFault) → parser.fault ≡ None → parser.reading ≡ reading
     → IsLast KeepsAll reading fault
     → NamesLast parser fault
-names_last parser reading fault none same told =
-    λ _ memory limit text has. told memory limit text (reading_of parser reading limit text none same has)
+names_last = search (rules, reading_of)
 
 -- ---- a record at the start of a text
 
@@ -658,11 +575,9 @@ pub record_read : {K : Type 0} (keeps : Keeps K) (before : TextProperty) (old ne
     → old.partial.items ≡ [] → CountsNext keeps old.records line new.records → new.partial.items ≡ []
     → TakesUpTo before text behind (IsReading keeps new)
 record_read keeps before old new text rest front line behind up_to begins same is none taken after =
-    let at = record_cut rest front behind is begins in
-    takes_line before (IsReading keeps old) (IsReading keeps new) text rest at.front behind up_to at.cut
-    (λ limit told reading. ended_ok keeps old new limit told at.front line reading at.cut.plain
-    (taken_is keeps old limit told at.front at.front line reading (ap (λ l. l ++ at.front) (sym none)) (same ∙ at.line_is))
-    (taken limit (complete_lines told) reading.counted) after)
+    let at = record_cut _ _ _ is begins in
+    takes_line _ _ _ _ _ _ _ up_to at.cut (λ limit told reading. ended_ok _ _ _ _ _ _ _ reading at.cut.plain
+    (taken_is _ _ _ _ _ _ _ reading (ap (λ l. l ++ at.front) (sym none)) (same ∙ at.line_is)) (taken limit (complete_lines told) reading.counted) after)
 
 -- a fault at the record at the start of the rest is a fault of the rest
 pub record_fault : {K : Type 0} (keeps : Keeps K) (wants : Type 0) (old : FileReading K) (rest front line behind : List ℕ) (fault : FileFault)
@@ -670,7 +585,6 @@ pub record_fault : {K : Type 0} (keeps : Keeps K) (wants : Type 0) (old : FileRe
     → FaultsNext keeps wants old.records line fault
     → TellsFault (IsReading keeps old) rest fault
 record_fault keeps wants old rest front line behind fault begins same is none tells =
-    let at = record_cut rest front behind is begins in
-    fault_of_front (IsReading keeps old) rest (at.front ++ 10 ∷ []) behind fault (cut_whole rest at.front behind at.cut)
-    (λ limit told reading. ended_err keeps wants old limit told at.front line fault reading at.cut.plain
-    (taken_is keeps old limit told at.front at.front line reading (ap (λ l. l ++ at.front) (sym none)) (same ∙ at.line_is)) tells)
+    let at = record_cut _ _ _ is begins in
+    fault_of_front _ _ _ _ _ (cut_whole _ _ _ at.cut) (λ limit told reading. ended_err _ _ _ _ _ _ _ _ reading at.cut.plain
+    (taken_is _ _ _ _ _ _ _ reading (ap (λ l. l ++ at.front) (sym none)) (same ∙ at.line_is)) tells)

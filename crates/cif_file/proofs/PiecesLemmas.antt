@@ -1,5 +1,6 @@
 -- Pieces of a text that are fed one after another.
-use Rattle.std.proofs.Common.{◌≡◌, ℕ, ◌+◌, ◌<◌, ◌≤◌, List, [], ◌∷◌, ◌++◌, length, map, take, drop, get_or, subst, ap, sym, ◌∙◌, append-nil}
+use Rattle.std.proofs.Common.{◌≡◌, ℕ, ◌+◌, ◌<◌, ◌≤◌, List, ◌++◌, length, map, take, drop, get_or, subst, ap, sym, ◌∙◌, append-nil, arith}
+use Rattle.std.proofs.lemmas.Grind.{common_steps}
 use Rattle.std.specs.List.{concat}
 use Rattle.std.proofs.lemmas.List.{map_more, map-append, take-append-drop, take_all}
 use Rattle.std.proofs.lemmas.List.Folds.{concat-append}
@@ -11,10 +12,7 @@ module _ {X : Type 0} (f : X → List ℕ) where
   -- the text of the first `i + 1` pieces is the text of the first `i` pieces, followed by the next piece
   pub joined_more : (pieces : List X) (i : ℕ) (d : X) → i < length pieces
       → concat (map f (take (i + 1) pieces)) ≡ concat (map f (take i pieces)) ++ f (get_or pieces i d)
-  joined_more pieces i d below =
-      ap concat (map_more f pieces i d below)
-      ∙ concat-append (map f (take i pieces)) (f (get_or pieces i d) ∷ [])
-      ∙ ap (λ last. concat (map f (take i pieces)) ++ last) (append-nil (f (get_or pieces i d)))
+  joined_more = grind (common_steps, arith, map_more, concat-append, append-nil)
 
   -- a parser that has read the first `i` pieces and then the next piece has read the first `i + 1`
   -- pieces

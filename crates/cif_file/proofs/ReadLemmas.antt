@@ -1,5 +1,6 @@
 -- Reading a source: the text that is fed to the parser is exactly the text that was read from the source.
-use Rattle.std.proofs.Common.{◌≡◌, ℕ, ◌≤◌, ◌≢◌, ◌⊎◌, inl, inr, List, [], ◌++◌, length, Some, None, Err, Result, refl, sym, ◌∙◌, ap, subst, arith, append-nil}
+use Rattle.std.proofs.Common.{◌≡◌, ℕ, ◌≤◌, ◌≢◌, ◌⊎◌, List, [], ◌++◌, length, Some, None, Err, Result, refl, sym, ◌∙◌, ap, subst, arith, append-nil}
+use Rattle.std.proofs.Common.{rules}
 use Rattle.std.specs.Prelude.{Option, Ok, OnOk, IfOk, IfErr}
 use Rattle.docker_model.specs.file.Text.{lines_of}
 use Rattle.docker_model.specs.file.FaultSoFar.{IsFaultSoFar}
@@ -11,7 +12,7 @@ use Rattle.cif_device.specs.declared.feed.FeedFault.{FeedFault}
 use Rattle.cif_device.specs.declared.feed.FeedFault.TheVariants as feed
 use Rattle.cif_device.specs.Taken.{AfterEach, HasFed, HasRefused, LosesOnePieceMore}
 use Rattle.cif_change.specs.declared.cause.FileCause.{FileCause}
-use Rattle.cif_change.specs.declared.cause.FileCause.TheVariants.{Length, Byte, Kind, Place, Field, Midnights, NoEnd, After, TooMany, Memory}
+use Rattle.cif_change.specs.declared.cause.FileCause.TheVariants.{Memory}
 use Rattle.cif_file.specs.declared.fault.FileFault.{FileFault}
 use Rattle.cif_file.specs.declared.fault.FileReadFault.{FileReadFault}
 use Rattle.cif_file.specs.declared.fault.FileReadFault.TheVariants as read
@@ -61,8 +62,7 @@ refuses_more keeps wants before piece (Err fault) told later = λ limit text has
 -- at most one piece is read after a text without a fault
 pub no_further : {K : Type 0} (keeps : Keeps K) (limit : ℕ) (initial next : Option (List ℕ)) → LosesOnePieceMore (TakesFile keeps) 65536 limit [] initial next
     → ReadsNoFurther 65536 limit initial next
-no_further keeps limit initial next more =
-    record { before = more.bytes; piece = more.piece; sound = more.taken.sound; at_once = more.few; read = more.lost }
+no_further = search rules
 
 -- a text that was read to the end of a source is the text that the source held
 held_all : (initial now : Option (List ℕ)) (text : List ℕ) → Reads initial text now → IsEnd now → Held initial text
@@ -76,16 +76,7 @@ held_all (Some told) (Some rest) text lost end =
 
 -- the only cause of the code that the definitions don't have is `Memory`
 memory_meant : (cause : FileCause) → cause_meant cause ≡ None → cause ≡ Memory
-memory_meant Length none = cc
-memory_meant (Byte at) none = cc
-memory_meant Kind none = cc
-memory_meant Place none = cc
-memory_meant (Field at) none = cc
-memory_meant Midnights none = cc
-memory_meant NoEnd none = cc
-memory_meant After none = cc
-memory_meant TooMany none = cc
-memory_meant Memory none = refl
+memory_meant = search rules
 
 -- a fault of the complete lines of a text is a fault of any longer text that begins with this one, unless the cause is `Memory`
 fault_of_reported : (limit : ℕ) (text more : List ℕ) (fault : FileFault) → IsFaultReported limit text fault → fault.cause ≢ Memory
@@ -107,31 +98,15 @@ refused_of limit text fault refused other = by (cause_meant fault.cause) refl re
 -- if reading a source returns a fault of the file, the parser returned this fault, and its cause isn't `Memory`
 returned_as_file : (fault told : FileFault) (result : FileReadFault) → (fault.cause ≡ Memory → result ≡ read.Memory)
     → (fault.cause ≢ Memory → result ≡ read.File fault) → result ≡ read.File told → (fault ≡ told) × (fault.cause ≢ Memory)
-returned_as_file fault told result memory file is =
-    let other : fault.cause ≢ Memory = λ same. let wanting : result ≡ read.Memory = memory same in cc in
-    let from : result ≡ read.File fault = file other in
-    (cc, other)
+returned_as_file = search rules
 
 pub memory_or_not : (cause : FileCause) → (cause ≡ Memory) ⊎ (cause ≢ Memory)
-memory_or_not Length = inr (λ same. cc)
-memory_or_not (Byte at) = inr (λ same. cc)
-memory_or_not Kind = inr (λ same. cc)
-memory_or_not Place = inr (λ same. cc)
-memory_or_not (Field at) = inr (λ same. cc)
-memory_or_not Midnights = inr (λ same. cc)
-memory_or_not NoEnd = inr (λ same. cc)
-memory_or_not After = inr (λ same. cc)
-memory_or_not TooMany = inr (λ same. cc)
-memory_or_not Memory = inl refl
+memory_or_not = search rules
 
 -- if reading a source returns `Memory`, the parser returned a fault with the cause `Memory`
 returned_as_memory : (fault : FileFault) (result : FileReadFault) → (fault.cause ≢ Memory → result ≡ read.File fault) → result ≡ read.Memory
     → fault.cause ≡ Memory
-returned_as_memory fault result file is = by (memory_or_not fault.cause)
-  where
-    by : (fault.cause ≡ Memory) ⊎ (fault.cause ≢ Memory) → fault.cause ≡ Memory
-    by (inl wanting) = wanting
-    by (inr other) = absurd (let from : result ≡ read.File fault = file other in cc)
+returned_as_memory = search (rules, memory_or_not)
 
 -- ---- faults of the text that a source held
 
@@ -152,7 +127,7 @@ pub memory_at_end : {K : Type 0} (keeps : Keeps K) (wants : Type 0) {A : Type 0}
     → wants × WantsMemoryAt limit (lines_of text) (length (lines_of text)) × IsFileText limit text (lines_of text)
 memory_at_end keeps wants limit text reading fault result has refused later last file is =
     let told_is : result ≡ read.Memory = cc in
-    let wanting = returned_as_memory fault result file told_is in
+    let wanting = returned_as_memory _ _ file told_is in
     let whole = last wanting limit text has in (
       (later limit text has).1 wanting,
       subst (WantsMemoryAt limit (lines_of text)) whole.0 (subst (λ cause. IsCauseOf limit text fault.number (cause_meant cause)) wanting refused),
@@ -162,16 +137,14 @@ memory_at_end keeps wants limit text reading fault result has refused later last
 -- if a fault of the text is found at the end of the source, it is a fault of the text that the source held
 refused_at_end : {K : Type 0} (keeps : Keeps K) (limit count : ℕ) (initial now : Option (List ℕ)) (reading : FileReading K) (fault : FileFault)
     → (at : HasFed (TakesFile keeps) count limit [] initial now reading) → IsEnd now → IsFaultOf limit at.bytes fault → RefusesText limit initial fault
-refused_at_end keeps limit count initial now reading fault at end is =
-    record { text = at.bytes; held = held_all initial now at.bytes at.lost end; is = is }
+refused_at_end = search (rules, held_all)
 
 -- if memory runs out at the end of the source, it does so at the last record of the text that the source held
 wants_at_end : {K : Type 0} (keeps : Keeps K) (wants : Type 0) (limit count : ℕ) (initial now : Option (List ℕ)) (reading : FileReading K)
     → (at : HasFed (TakesFile keeps) count limit [] initial now reading) → IsEnd now
     → wants × WantsMemoryAt limit (lines_of at.bytes) (length (lines_of at.bytes)) × IsFileText limit at.bytes (lines_of at.bytes)
     → WantsMemoryBy wants 65536 limit initial now
-wants_at_end keeps wants limit count initial now reading at end wanting =
-    inr (wanting.0, inr (record { text = at.bytes; held = held_all initial now at.bytes at.lost end; wanting = wanting.1; is_file = wanting.2 }))
+wants_at_end = search (rules, held_all)
 
 -- Says that a piece from the source was refused with this fault.
 abbrev HasRefusedFile : {K : Type 0} → Keeps K → Type 0 → ℕ → Option (List ℕ) → Option (List ℕ) → FileReading K → FileFault → Type 0
@@ -203,31 +176,13 @@ refused_before keeps wants limit initial next reading fault told result has memo
 wants_before : {K : Type 0} (keeps : Keeps K) (wants : Type 0) (limit : ℕ) (initial next : Option (List ℕ)) (reading : FileReading K)
     (fault : FileFault) (result : FileReadFault) → HasRefusedFile keeps wants limit initial next reading fault
     → (fault.cause ≢ Memory → result ≡ read.File fault) → result ≡ read.Memory → WantsMemoryBy wants 65536 limit initial next
-wants_before keeps wants limit initial next reading fault result has file is =
-    let wanting = returned_as_memory fault result file is in
-    let more = has.more in
-    let refused = has.refused in
-    inr (
-      refused.wanted wanting,
-      inl (record {
-        before = more.bytes;
-        piece = more.piece;
-        read = more.lost;
-        at_once = more.few;
-        number = fault.number;
-        first = refused.later;
-        wanting = subst (λ cause. IsCauseSoFar limit (more.bytes ++ more.piece) fault.number (cause_meant cause)) wanting refused.reported;
-      }),
-    )
+wants_before = search (rules, returned_as_memory)
 
 -- ---- how reading ends
 
 -- if no bytes are lost, no byte was read
 pub unread : (initial next : Option (List ℕ)) → next ≡ initial → Reads initial [] next
-unread None None same = refl
-unread None (Some rest) same = cc
-unread (Some told) None same = cc
-unread (Some told) (Some rest) same = sym same
+unread = search rules
 
 -- if feeding ended with a fault other than a failure of the source, the number of failures is
 -- unchanged
@@ -263,11 +218,8 @@ ends_whole keeps wants limit count initial now reading failed failed_now (Ok end
   failures = same;
 }
 ends_whole keeps wants limit count initial now reading failed failed_now (Err read.Source) at end few same ok file memory source = absurd (source refl)
-ends_whole keeps wants limit count initial now reading failed failed_now (Err (read.File fault)) at end few same ok file memory source = record {
-  no_further = few;
-  outcome = refused_at_end keeps limit count initial now reading fault at end (file limit at.bytes at.taken.read fault refl);
-  failures = same;
-}
+ends_whole keeps wants limit count initial now reading failed failed_now (Err (read.File fault)) at end few same ok file memory source =
+    search (rules, no_further, refused_at_end)
 ends_whole keeps wants limit count initial now reading failed failed_now (Err read.Memory) at end few same ok file memory source = record {
   no_further = few;
   outcome = wants_at_end keeps wants limit count initial now reading at end (memory limit at.bytes at.taken.read refl);
@@ -286,8 +238,7 @@ ends_early keeps wants limit initial next reading failed failed_now fault (read.
   outcome = refused_before keeps wants limit initial next reading fault told (read.File told) has memory file refl;
   failures = same;
 }
-ends_early keeps wants limit initial next reading failed failed_now fault read.Memory has few same memory file source =
-    record { no_further = few; outcome = wants_before keeps wants limit initial next reading fault read.Memory has file refl; failures = same }
+ends_early keeps wants limit initial next reading failed failed_now fault read.Memory has few same memory file source = search (rules, no_further, wants_before)
 
 -- ---- out of memory
 
@@ -297,29 +248,16 @@ ends_with : (wants wants_too : Wanting) (limit : ℕ) (left left_now : Option (L
     → (wants 65536 limit left left_now → wants_too 65536 limit left left_now)
     → StopsReadingFile limit left left_now (IsWhyNoFile wants limit left left_now fault) (CountsWhyNoFile fault failed failed_now)
     → StopsReadingFile limit left left_now (IsWhyNoFile wants_too limit left left_now fault) (CountsWhyNoFile fault failed failed_now)
-ends_with wants wants_too limit left left_now failed failed_now read.Source too ends = ends
-ends_with wants wants_too limit left left_now failed failed_now (read.File fault) too ends = ends
-ends_with wants wants_too limit left left_now failed failed_now read.Memory too ends =
-    record { no_further = ends.no_further; outcome = too ends.outcome; failures = ends.failures }
+ends_with = search (rules, no_further)
 
 -- if memory ran out where `WantsMemoryBy` allows it, it ran out where `WantsMemory` allows it
 pub wants_any : (wants : Type 0) (limit : ℕ) (left left_now : Option (List ℕ)) (failed failed_now : ℕ) (fault : FileReadFault)
     → StopsReadingFile limit left left_now (IsWhyNoFile (WantsMemoryBy wants) limit left left_now fault) (CountsWhyNoFile fault failed failed_now)
     → StopsReadingFile limit left left_now (IsWhyNoFile WantsMemory limit left left_now fault) (CountsWhyNoFile fault failed failed_now)
-wants_any wants limit left left_now failed failed_now fault ends =
-    ends_with (WantsMemoryBy wants) WantsMemory limit left left_now failed failed_now fault by ends
-  where
-    by : WantsMemoryBy wants 65536 limit left left_now → WantsMemory 65536 limit left left_now
-    by (inl unread_yet) = inl unread_yet
-    by (inr wanting) = inr wanting.1
+wants_any = search (rules, ends_with)
 
 -- if the keeper can't run out of memory, reading returns `Memory` only before it has read a byte
 pub wants_none : (limit : ℕ) (left left_now : Option (List ℕ)) (failed failed_now : ℕ) (fault : FileReadFault)
     → StopsReadingFile limit left left_now (IsWhyNoFile (WantsMemoryBy ⊥) limit left left_now fault) (CountsWhyNoFile fault failed failed_now)
     → StopsReadingFile limit left left_now (IsWhyNoFile WantsAtStart limit left left_now fault) (CountsWhyNoFile fault failed failed_now)
-wants_none limit left left_now failed failed_now fault ends =
-    ends_with (WantsMemoryBy ⊥) WantsAtStart limit left left_now failed failed_now fault by ends
-  where
-    by : WantsMemoryBy ⊥ 65536 limit left left_now → WantsAtStart 65536 limit left left_now
-    by (inl unread_yet) = unread_yet
-    by (inr wanting) = absurd wanting.0
+wants_none = search (rules, ends_with)

@@ -1,5 +1,5 @@
 -- Lemmas on a record at the start of a text, and on its line end.
-use Rattle.std.proofs.Common.{◌≡◌, ℕ, ◌-◌, ◌≤◌, inl, inr, true, false, cond, List, [], ◌∷◌, ◌++◌, length, take}
+use Rattle.std.proofs.Common.{◌≡◌, ℕ, ◌≤◌, inl, inr, true, false, List, [], ◌∷◌, ◌++◌, length, take, rules}
 use Rattle.std.proofs.Common.{drop, get_or, refl, sym, ap, ◌∙◌, subst, arith, length-append, append_assoc}
 use Rattle.std.proofs.lemmas.Grind.{common_steps}
 use Rattle.std.specs.Prelude.{◌==◌}
@@ -25,17 +25,11 @@ record_plain line is = λ k d below. no_feed (get_or line k d) (is.1 k d below)
 
 -- a record doesn't end in a carriage return, so stripping one changes nothing
 strip_record : (line : List ℕ) → IsRecord line → strip_carriage_return line ≡ line
-strip_record line is =
-    let size = is.0 in
-    λ i. cond (no_return (get_or line (length line - 1) 0) (is.1 (length line - 1) 0 (omega (arith, size))) i) (take (length line - 1) line) line
+strip_record = search (rules, no_return)
 
 -- stripping the carriage return after a line leaves the line
 strip_return : (line : List ℕ) → strip_carriage_return (line ++ 13 ∷ []) ≡ line
-strip_return line =
-    let whole = line ++ 13 ∷ [] in
-    let last : get_or whole (length whole - 1) 0 ≡ 13 = grind (arith, common_steps) in
-    let front : take (length whole - 1) whole ≡ line = grind (arith, common_steps) in
-    ap (λ t. cond t (take (length whole - 1) whole) whole) (eq-eqb _ 13 last) ∙ front
+strip_return = grind (common_steps, arith, eq-eqb)
 
 -- Says that cutting a text at its first line feed gives this line, with or without a carriage return, and this rest.
 pub record CutsRecord (text line rest : List ℕ) : Type 0 where
@@ -73,9 +67,4 @@ begins_at text line rest begins =
 
 -- conversely, if a line end follows the first 80 bytes of a text, the text begins with a line of 80 bytes
 pub begins_with : (text rest : List ℕ) → 80 ≤ length text → BeginsWithEnd (drop 80 text) rest → BeginsWithEighty text (take 80 text) rest
-begins_with text rest some ended = record {
-  eighty = length-take-le 80 text some;
-  after = drop 80 text;
-  whole = sym (take-append-drop 80 text);
-  ended = ended;
-}
+begins_with = search (rules, length-take-le, take-append-drop)

@@ -1,40 +1,31 @@
 -- Lemmas on which unit a record begins, by its kind.
-use Rattle.std.proofs.Common.{◌≡◌, List, ℕ, true, Some, ap, subst, sym}
+use Rattle.std.proofs.Common.{◌≡◌, List, ℕ, true, Some, rules}
 use Rattle.std.specs.Prelude.{is_some}
 use Rattle.docker_model.specs.records.Record.{HasKind, kind_of}
 use Rattle.cif_laws.specs.FileStage.{unit_by_kind, between_units}
 use Rattle.cif_laws.specs.ScheduleStage.{is_first_line}
 use Rattle.cif_file.specs.declared.keeper.single.Single.{Single}
-use Rattle.cif_file.specs.declared.keeper.single.Single.TheVariants.{TiplocInsert, TiplocAmend, TiplocDelete, Association}
 use Rattle.cif_file.specs.declared.records.unit.Unit.{Unit}
 use Rattle.cif_file.specs.declared.records.unit.Unit.TheVariants as unit
-use Rattle.cif_file.specs.UnitRead.{kind_of_single, line_of_single, IsUnitByKind, IsUnitOf, IsOfSome}
+use Rattle.cif_file.specs.UnitRead.{kind_of_single, line_of_single, IsUnitOf, IsOfSome}
 use Rattle.cif_change.proofs.JourneyLemmas.{first_line_is}
 
 -- after a record that is a unit by itself, the reader is between units
 pub single_leads : (line : List ℕ) (single : Single) → HasKind (kind_of_single single) line → unit_by_kind (kind_of line) line ≡ Some between_units
-single_leads line (TiplocInsert view) kind = ap (λ k. unit_by_kind k line) kind
-single_leads line (TiplocAmend view) kind = ap (λ k. unit_by_kind k line) kind
-single_leads line (TiplocDelete view) kind = ap (λ k. unit_by_kind k line) kind
-single_leads line (Association view) kind = ap (λ k. unit_by_kind k line) kind
+single_leads = search rules
 
 -- if a record is read as the beginning of a unit or as the trailer, a record of its kind is allowed
 -- after a whole unit
 pub unit_begins : (line : List ℕ) (it : Unit) → IsUnitOf line it → is_some (unit_by_kind (kind_of line) line) ≡ true
-unit_begins line (unit.Single single) is = ap (λ place. is_some place) (single_leads line single is.by_kind.1)
-unit_begins line (unit.Schedule view) is = ap (λ k. is_some (unit_by_kind k line)) is.by_kind.1
-unit_begins line unit.Trailer is = ap (λ k. is_some (unit_by_kind k line)) is.by_kind
+unit_begins = search (rules, single_leads)
 
 -- a record that is read as a unit by itself has the kind of its view
 pub single_has_kind : (it : Unit) (single : Single) → IsOfSome it → it ≡ unit.Single single → HasKind (kind_of_single single) (line_of_single single)
-single_has_kind it single some same =
-    let told = subst (IsUnitByKind some.line) same some.of.by_kind in subst (HasKind (kind_of_single single)) (sym told.0) told.1
+single_has_kind = search rules
 
 -- a record that is read as a basic schedule begins a schedule
 pub schedule_is : (it : Unit) (view : List ℕ) → IsOfSome it → it ≡ unit.Schedule view → IsUnitOf view (unit.Schedule view)
-schedule_is it view some same =
-    let told = subst (IsUnitByKind some.line) same some.of.by_kind in
-    subst (λ line. IsUnitOf line (unit.Schedule view)) (sym told.0) (record { is = some.of.is; good_fields = some.of.good_fields; by_kind = told })
+schedule_is = search rules
 
 -- a record that begins a schedule can be the first line of a schedule
 pub schedule_is_first : (view : List ℕ) → IsUnitOf view (unit.Schedule view) → is_first_line view ≡ true

@@ -14,51 +14,42 @@ feed_all-requires-clause-taking g c = record {
 
 pub returns-in-Ok-clause-reads : goal.returns-in-Ok-clause-reads
 returns-in-Ok-clause-reads g c =
-    let start = at_start g.K.ChangeKeeper.keeps c.args.limit c.new-reading.result c.new-reading.ensures c.requires.limit in
+    let start = at_start _ _ _ c.new-reading.ensures c.requires.limit in
     let left = g.S.Source.left c.args.source.now in
     let left_now = g.S.Source.left c.feed_all.new.source in
-    ends_whole g.K.ChangeKeeper.keeps g.K.ChangeKeeper.wants c.args.limit c.in-Ok.field-0 left left_now c.feed_all.new.taker
-    (g.S.Source.failures c.args.source.now) (g.S.Source.failures c.feed_all.new.source) c.ended_of.result
-    (c.in-Ok.ensures.ends.0 c.args.limit [] start) c.in-Ok.ensures.ends.1
-    (no_further g.K.ChangeKeeper.keeps c.args.limit left left_now (c.in-Ok.ensures.no_further c.args.limit [] start))
-    (c.in-Ok.ensures.failures.1 (λ is. cc))
+    ends_whole _ _ _ _ _ _ _ _ _ _ (c.in-Ok.ensures.ends.0 c.args.limit [] start) c.in-Ok.ensures.ends.1
+    (no_further _ _ _ _ (c.in-Ok.ensures.no_further c.args.limit [] start)) (c.in-Ok.ensures.failures.1 (λ is. cc))
     c.ended_of.ensures.ok c.ended_of.ensures.file c.ended_of.ensures.memory c.ended_of.ensures.source
 
 pub returns-in-Err-Source-clause-reads : goal.returns-in-Err-Source-clause-reads
 returns-in-Err-Source-clause-reads g c =
-    let start = at_start g.K.ChangeKeeper.keeps c.args.limit c.new-reading.result c.new-reading.ensures c.requires.limit in
+    let start = at_start _ _ _ c.new-reading.ensures c.requires.limit in
     record {
-      no_further = no_further g.K.ChangeKeeper.keeps c.args.limit (g.S.Source.left c.args.source.now) (g.S.Source.left c.feed_all.new.source)
-          (c.in-Err-Source.ensures.no_further c.args.limit [] start);
+      no_further = no_further _ _ _ _ (c.in-Err-Source.ensures.no_further c.args.limit [] start);
       outcome = tt;
       failures = c.in-Err-Source.ensures.failures.0.0 (ap Err c.in-Err-Source.field-0-is);
     }
 
 pub returns-in-Err-Memory-clause-reads : goal.returns-in-Err-Memory-clause-reads
 returns-in-Err-Memory-clause-reads g c =
-    let start = at_start g.K.ChangeKeeper.keeps c.args.limit c.new-reading.result c.new-reading.ensures c.requires.limit in
+    let start = at_start _ _ _ c.new-reading.ensures c.requires.limit in
     let left = g.S.Source.left c.args.source.now in
     let left_now = g.S.Source.left c.feed_all.new.source in
     let ends = subst (λ told. EndsFeeding (TakesFile g.K.ChangeKeeper.keeps) (λ _ n text piece fault. RefusesPiece g.K.ChangeKeeper.wants n text piece fault)
     c.new-reading.result c.feed_all.new.taker left left_now (Err told)) c.in-Err-Memory.field-0-is c.in-Err-Memory.ensures.ends in
     record {
-      no_further = no_further g.K.ChangeKeeper.keeps c.args.limit left left_now (c.in-Err-Memory.ensures.no_further c.args.limit [] start);
-      outcome = inl (unread left left_now ends.0);
-      failures = uncounted_memory c.in-Err-Memory.field-0 (g.S.Source.failures c.args.source.now) (g.S.Source.failures c.feed_all.new.source)
-          c.in-Err-Memory.field-0-is c.in-Err-Memory.ensures.failures;
+      no_further = no_further _ _ _ _ (c.in-Err-Memory.ensures.no_further c.args.limit [] start);
+      outcome = inl (unread _ _ ends.0);
+      failures = uncounted_memory _ _ _ c.in-Err-Memory.field-0-is c.in-Err-Memory.ensures.failures;
     }
 
 pub returns-clause-reads : goal.returns-clause-reads
 returns-clause-reads g c =
-    let start = at_start g.K.ChangeKeeper.keeps c.args.limit c.new-reading.result c.new-reading.ensures c.requires.limit in
+    let start = at_start _ _ _ c.new-reading.ensures c.requires.limit in
     let left = g.S.Source.left c.args.source.now in
     let left_now = g.S.Source.left c.feed_all.new.source in
     let refused = subst (λ told. EndsFeeding (TakesFile g.K.ChangeKeeper.keeps) (λ _ n text piece fault. RefusesPiece g.K.ChangeKeeper.wants n text piece fault)
     c.new-reading.result c.feed_all.new.taker left left_now (Err told)) c.in-Err-Refused.field-0-is c.in-Err-Refused.ensures.ends in
-    ends_early g.K.ChangeKeeper.keeps g.K.ChangeKeeper.wants c.args.limit left left_now c.feed_all.new.taker
-    (g.S.Source.failures c.args.source.now) (g.S.Source.failures c.feed_all.new.source) c.in-Err-Refused.fault c.fault_of.result
-    (refused c.args.limit [] start)
-    (no_further g.K.ChangeKeeper.keeps c.args.limit left left_now (c.in-Err-Refused.ensures.no_further c.args.limit [] start))
-    (uncounted_refused c.in-Err-Refused.field-0 c.in-Err-Refused.fault (g.S.Source.failures c.args.source.now)
-    (g.S.Source.failures c.feed_all.new.source) c.in-Err-Refused.field-0-is c.in-Err-Refused.ensures.failures)
+    ends_early _ _ _ _ _ _ _ _ _ _ (refused c.args.limit [] start) (no_further _ _ _ _ (c.in-Err-Refused.ensures.no_further c.args.limit [] start))
+    (uncounted_refused _ _ _ _ c.in-Err-Refused.field-0-is c.in-Err-Refused.ensures.failures)
     c.fault_of.ensures.memory c.fault_of.ensures.file c.fault_of.ensures.source

@@ -13,13 +13,11 @@ returns-in-Ok-clause-reads g c = record {
   no_further = c.in-Ok.ensures.reads.no_further;
   outcome = (
     subst (CountsText c.args.limit (g.S.Source.left c.args.source.now)) (sym c.into_count.ensures)
-        (reads_count c.args.limit (g.S.Source.left c.args.source.now) c.in-Ok.ended c.requires.limit c.in-Ok.ensures.reads.outcome.0),
+        (reads_count _ _ _ c.requires.limit c.in-Ok.ensures.reads.outcome.0),
     c.in-Ok.ensures.reads.outcome.1,
   );
   failures = c.in-Ok.ensures.reads.failures;
 }
 
 pub returns-in-Err-clause-reads : goal.returns-in-Err-clause-reads
-returns-in-Err-clause-reads g c =
-    wants_none c.args.limit (g.S.Source.left c.args.source.now) (g.S.Source.left c.read_kept.new.source)
-    (g.S.Source.failures c.args.source.now) (g.S.Source.failures c.read_kept.new.source) c.in-Err.fault c.in-Err.ensures.reads
+returns-in-Err-clause-reads g c = wants_none _ _ _ _ _ _ c.in-Err.ensures.reads

@@ -7,8 +7,7 @@ use Rattle.cif_file.proofs.ParserLemmas.{after_cause, front_cause}
 use Rattle.cif_file.proofs.read.next_record.take_within.Goals as goal
 
 pub returns-then-is_ended-clause-err : goal.returns-then-is_ended-clause-err
-returns-then-is_ended-clause-err g c = λ limit records has under.
-    after_cause g.K.ChangeKeeper.keeps limit c.args.front.now records c.args.line.now has ((c.is_ended.ensures records has).0 c.if-is_ended.true) under
+returns-then-is_ended-clause-err g c = λ limit records has under. after_cause _ _ _ _ _ has ((c.is_ended.ensures records has).0 c.if-is_ended.true) under
 
 pub returns-clause-err : goal.returns-clause-err
 returns-clause-err g c =

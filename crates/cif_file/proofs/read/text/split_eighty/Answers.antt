@@ -9,13 +9,10 @@ behind : (text : List ℕ) → 80 ≤ length text → take (length text - 80) (d
 behind text some = take_all (length text - 80) (drop 80 text) (let size = length-drop 80 text in omega arith)
 
 pub returns-in_err-rest : goal.returns-in_err-rest
-returns-in_err-rest c =
-    rw c.from_residual.ensures
-    (λ line rest begins.
-    let at = begins_at c.args.text.now line rest begins in
-    c.in_err-rest.ensures rest (subst (λ l. BeginsWithEnd l rest) (sym (behind c.args.text.now at.1)) at.0))
+returns-in_err-rest c = rw c.from_residual.ensures (λ line rest begins.
+    let at = begins_at _ _ _ begins in
+    c.in_err-rest.ensures rest (subst (λ l. BeginsWithEnd l rest) (sym (behind _ at.1)) at.0))
 
 pub returns : goal.returns
-returns c =
-    begins_with c.args.text.now c.in_ok-rest.rest.now c.if-text-lt-RECORD.false
-    (subst (λ l. BeginsWithEnd l c.in_ok-rest.rest.now) (behind c.args.text.now c.if-text-lt-RECORD.false) c.in_ok-rest.ensures)
+returns c = begins_with _ _ c.if-text-lt-RECORD.false
+    (subst (λ l. BeginsWithEnd l c.in_ok-rest.rest.now) (behind _ c.if-text-lt-RECORD.false) c.in_ok-rest.ensures)

@@ -18,30 +18,24 @@ returns-in-Some-clause-err c = λ limit text has.
     (ap (λ (p : ParserState). p.fault) (sym c.self.view_is) ∙ c.in-Some.is) has)
 
 pub returns-in-Ok-clause-read : goal.returns-in-Ok-clause-read
-returns-in-Ok-clause-read c = λ limit text has.
-    none_at_reading _ limit (text ++ c.args.piece.now) c.in_default.is
-    (c.in-Ok.ensures.read limit text
+returns-in-Ok-clause-read c = λ limit text has. none_at_reading _ _ _ c.in_default.is (c.in-Ok.ensures.read limit text
     (subst (λ r. IsReading KeepsAll r limit text) (ap (λ (p : ParserState). p.reading) (sym c.self.view_is))
-    (reading_at_none c.args.self.now limit text (ap (λ (p : ParserState). p.fault) (sym c.self.view_is) ∙ c.in_default.is) has)))
+    (reading_at_none _ _ _ (ap (λ (p : ParserState). p.fault) (sym c.self.view_is) ∙ c.in_default.is) has)))
 
 pub returns-in-Ok-clause-ok : goal.returns-in-Ok-clause-ok
-returns-in-Ok-clause-ok c = λ limit text has.
-    reading_tells_none KeepsAll c.feed.new.self limit (text ++ c.args.piece.now)
-    (c.in-Ok.ensures.read limit text
+returns-in-Ok-clause-ok c = λ limit text has. reading_tells_none _ _ _ _ (c.in-Ok.ensures.read limit text
     (subst (λ r. IsReading KeepsAll r limit text) (ap (λ (p : ParserState). p.reading) (sym c.self.view_is))
-    (reading_at_none c.args.self.now limit text (ap (λ (p : ParserState). p.fault) (sym c.self.view_is) ∙ c.in_default.is) has)))
+    (reading_at_none _ _ _ (ap (λ (p : ParserState). p.fault) (sym c.self.view_is) ∙ c.in_default.is) has)))
 
 pub returns-in-Err-clause-read : goal.returns-in-Err-clause-read
-returns-in-Err-clause-read c = λ limit text has.
-    c.in-Err.ensures.err limit text
+returns-in-Err-clause-read c = λ limit text has. c.in-Err.ensures.err limit text
     (subst (λ r. IsReading KeepsAll r limit text) (ap (λ (p : ParserState). p.reading) (sym c.self.view_is))
-    (reading_at_none c.args.self.now limit text (ap (λ (p : ParserState). p.fault) (sym c.self.view_is) ∙ c.in_default.is) has))
+    (reading_at_none _ _ _ (ap (λ (p : ParserState). p.fault) (sym c.self.view_is) ∙ c.in_default.is) has))
 
 pub returns-in-Err-clause-err : goal.returns-in-Err-clause-err
-returns-in-Err-clause-err c = λ limit text has.
-    c.in-Err.ensures.err limit text
+returns-in-Err-clause-err c = λ limit text has. c.in-Err.ensures.err limit text
     (subst (λ r. IsReading KeepsAll r limit text) (ap (λ (p : ParserState). p.reading) (sym c.self.view_is))
-    (reading_at_none c.args.self.now limit text (ap (λ (p : ParserState). p.fault) (sym c.self.view_is) ∙ c.in_default.is) has))
+    (reading_at_none _ _ _ (ap (λ (p : ParserState). p.fault) (sym c.self.view_is) ∙ c.in_default.is) has))
 
 pub invariant_of-self : goal.invariant_of-self
 invariant_of-self c =
@@ -51,8 +45,7 @@ invariant_of-self c =
       text = fed.text ++ c.args.piece.now;
       read =
           none_at_reading (record { reading = c.feed.new.self; fault = c.self.inside.fault }) fed.limit (fed.text ++ c.args.piece.now) c.in_default.is
-          (c.in-Ok.ensures.read fed.limit fed.text
-          (reading_at_none (record { reading = c.self.inside.reading; fault = c.self.inside.fault }) fed.limit fed.text c.in_default.is fed.read));
+          (c.in-Ok.ensures.read fed.limit fed.text (reading_at_none _ _ _ c.in_default.is fed.read));
     }
 
 pub invariant_of-self-in-Err : goal.invariant_of-self-in-Err
@@ -61,9 +54,7 @@ invariant_of-self-in-Err c =
     record {
       limit = fed.limit;
       text = fed.text ++ c.args.piece.now;
-      read =
-          c.in-Err.ensures.err fed.limit fed.text
-          (reading_at_none (record { reading = c.self.inside.reading; fault = c.self.inside.fault }) fed.limit fed.text c.in_default.is fed.read);
+      read = c.in-Err.ensures.err fed.limit fed.text (reading_at_none _ _ _ c.in_default.is fed.read);
     }
 
 pub returns-in-Some-clause-later : goal.returns-in-Some-clause-later
@@ -71,6 +62,5 @@ returns-in-Some-clause-later c =
     λ none. absurd (had_failed c.args.self.now c.in-Some.fault (ap (λ (p : ParserState). p.fault) (sym c.self.view_is) ∙ c.in-Some.is) none)
 
 pub returns-in-Err-clause-later : goal.returns-in-Err-clause-later
-returns-in-Err-clause-later c =
-    names_later c.args.self.now c.self.inside.reading c.in-Err.fault (ap (λ (p : ParserState). p.fault) (sym c.self.view_is) ∙ c.in_default.is)
+returns-in-Err-clause-later c = names_later _ _ _ (ap (λ (p : ParserState). p.fault) (sym c.self.view_is) ∙ c.in_default.is)
     (ap (λ (p : ParserState). p.reading) (sym c.self.view_is)) c.in-Err.ensures.later

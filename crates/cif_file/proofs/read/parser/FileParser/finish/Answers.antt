@@ -24,25 +24,19 @@ into_file-requires c =
     are_parts_some (record { reading = c.self.inside.reading; fault = c.self.inside.fault }) c.in-Ok.ended fed c.in-None.is c.in-Ok.ensures.ok
 
 pub returns-in-Ok-clause-ok : goal.returns-in-Ok-clause-ok
-returns-in-Ok-clause-ok c = λ limit text has.
-    subst (λ file. IsOfFileText file limit text) (sym c.into_file.ensures)
-    (of_file limit text c.in-Ok.ended
-    (c.in-Ok.ensures.ok limit text
-    (reading_of c.args.self c.self.inside.reading limit text (ap (λ (p : ParserState). p.fault) (sym c.self.view_is) ∙ c.in-None.is)
+returns-in-Ok-clause-ok c = λ limit text has. subst (λ file. IsOfFileText file limit text) (sym c.into_file.ensures) (of_file _ _ _
+    (c.in-Ok.ensures.ok limit text (reading_of _ _ _ _ (ap (λ (p : ParserState). p.fault) (sym c.self.view_is) ∙ c.in-None.is)
     (ap (λ (p : ParserState). p.reading) (sym c.self.view_is)) has)))
 
 pub returns-in-Err-clause-err : goal.returns-in-Err-clause-err
-returns-in-Err-clause-err c = λ limit text has.
-    c.in-Err.ensures.err limit text
-    (reading_of c.args.self c.self.inside.reading limit text (ap (λ (p : ParserState). p.fault) (sym c.self.view_is) ∙ c.in-None.is)
+returns-in-Err-clause-err c = λ limit text has. c.in-Err.ensures.err limit text
+    (reading_of _ _ _ _ (ap (λ (p : ParserState). p.fault) (sym c.self.view_is) ∙ c.in-None.is)
     (ap (λ (p : ParserState). p.reading) (sym c.self.view_is)) has)
 
 pub returns-in-Err-clause-later : goal.returns-in-Err-clause-later
-returns-in-Err-clause-later c =
-    names_later c.args.self c.self.inside.reading c.in-Err.fault (ap (λ (p : ParserState). p.fault) (sym c.self.view_is) ∙ c.in-None.is)
+returns-in-Err-clause-later c = names_later _ _ _ (ap (λ (p : ParserState). p.fault) (sym c.self.view_is) ∙ c.in-None.is)
     (ap (λ (p : ParserState). p.reading) (sym c.self.view_is)) c.in-Err.ensures.later
 
 pub returns-in-Err-clause-last : goal.returns-in-Err-clause-last
-returns-in-Err-clause-last c =
-    names_last c.args.self c.self.inside.reading c.in-Err.fault (ap (λ (p : ParserState). p.fault) (sym c.self.view_is) ∙ c.in-None.is)
+returns-in-Err-clause-last c = names_last _ _ _ (ap (λ (p : ParserState). p.fault) (sym c.self.view_is) ∙ c.in-None.is)
     (ap (λ (p : ParserState). p.reading) (sym c.self.view_is)) c.in-Err.ensures.last

@@ -27,24 +27,16 @@ returns-then-is_empty-clause-err g c =
 
 pub returns-in-Err-clause-err : goal.returns-in-Err-clause-err
 returns-in-Err-clause-err g c = λ limit text reading.
-    let told =
-    told_last g.K.ChangeKeeper.keeps g.K.ChangeKeeper.wants c.args.self limit text c.without_return-line.result.now c.in-Err.fault c.fault_at_end.result reading
-    (some_is_open g.K.ChangeKeeper.keeps c.args.self limit text reading c.if-is_empty.ensures)
+    let told = told_last _ _ _ _ _ _ _ _ reading (some_is_open _ _ _ _ reading c.if-is_empty.ensures)
     (c.without_return-line.ensures.line ∙ ap strip_carriage_return (c.as_slice.ensures.value ∙ reading.partial_is))
     (c.in-Err.ensures.err limit (complete_lines text) reading.counted)
     c.fault_at_end.ensures.other c.fault_at_end.ensures.trailer c.fault_at_end.ensures.cut in
     told.refused
 
 pub returns-in-Ok-clause-ok : goal.returns-in-Ok-clause-ok
-returns-in-Ok-clause-ok g c =
-    IfOk-weaker c.finish-in-Ok.result _ _
-    (λ file told. λ limit text reading.
-    file_at_end g.K.ChangeKeeper.keeps c.take.new.self limit text file
-    (counted_last g.K.ChangeKeeper.keeps c.args.self c.take.new.self limit text c.as_slice.result.now c.without_return-line.result.now reading
-    c.if-is_empty.ensures
-    c.as_slice.ensures.value
-    c.without_return-line.ensures.line (c.in-Ok.ensures.read limit (complete_lines text) reading.counted)) told)
-    c.finish-in-Ok.ensures.ok
+returns-in-Ok-clause-ok g c = IfOk-weaker c.finish-in-Ok.result _ _ (λ file told. λ limit text reading. file_at_end _ _ _ _ _
+    (counted_last _ _ _ _ _ _ _ reading c.if-is_empty.ensures c.as_slice.ensures.value
+    c.without_return-line.ensures.line (c.in-Ok.ensures.read limit (complete_lines text) reading.counted)) told) c.finish-in-Ok.ensures.ok
 
 pub returns-in-Ok-clause-err : goal.returns-in-Ok-clause-err
 returns-in-Ok-clause-err g c =
@@ -75,9 +67,7 @@ returns-then-is_empty-clause-last g c =
 
 pub returns-in-Err-clause-later : goal.returns-in-Err-clause-later
 returns-in-Err-clause-later g c = λ limit text reading.
-    let told =
-    told_last g.K.ChangeKeeper.keeps g.K.ChangeKeeper.wants c.args.self limit text c.without_return-line.result.now c.in-Err.fault c.fault_at_end.result reading
-    (some_is_open g.K.ChangeKeeper.keeps c.args.self limit text reading c.if-is_empty.ensures)
+    let told = told_last _ _ _ _ _ _ _ _ reading (some_is_open _ _ _ _ reading c.if-is_empty.ensures)
     (c.without_return-line.ensures.line ∙ ap strip_carriage_return (c.as_slice.ensures.value ∙ reading.partial_is))
     (c.in-Err.ensures.err limit (complete_lines text) reading.counted)
     c.fault_at_end.ensures.other c.fault_at_end.ensures.trailer c.fault_at_end.ensures.cut in
@@ -85,9 +75,7 @@ returns-in-Err-clause-later g c = λ limit text reading.
 
 pub returns-in-Err-clause-last : goal.returns-in-Err-clause-last
 returns-in-Err-clause-last g c = λ memory limit text reading.
-    let told =
-    told_last g.K.ChangeKeeper.keeps g.K.ChangeKeeper.wants c.args.self limit text c.without_return-line.result.now c.in-Err.fault c.fault_at_end.result reading
-    (some_is_open g.K.ChangeKeeper.keeps c.args.self limit text reading c.if-is_empty.ensures)
+    let told = told_last _ _ _ _ _ _ _ _ reading (some_is_open _ _ _ _ reading c.if-is_empty.ensures)
     (c.without_return-line.ensures.line ∙ ap strip_carriage_return (c.as_slice.ensures.value ∙ reading.partial_is))
     (c.in-Err.ensures.err limit (complete_lines text) reading.counted)
     c.fault_at_end.ensures.other c.fault_at_end.ensures.trailer c.fault_at_end.ensures.cut in

@@ -30,11 +30,8 @@ returns-then-is_empty-clause-err g c =
     c.take.ensures.err
 
 pub returns-then-not-extend-clause-err : goal.returns-then-not-extend-clause-err
-returns-then-not-extend-clause-err g c = λ limit text reading.
-    ended_long g.K.ChangeKeeper.keeps c.args.self.now limit text c.args.front.now c.too_long.result reading c.requires
-    (ended_many g.K.ChangeKeeper.keeps c.args.self.now limit text c.args.front.now reading
-    (λ few. false≢true (sym c.if-not-extend.true ∙ c.extend.ensures.fits.1 few)))
-    (c.too_long.ensures limit (complete_lines text) reading.counted)
+returns-then-not-extend-clause-err g c = λ limit text reading. ended_long _ _ _ _ _ _ reading c.requires (ended_many _ _ _ _ _ reading
+    (λ few. false≢true (sym c.if-not-extend.true ∙ c.extend.ensures.fits.1 few))) (c.too_long.ensures limit (complete_lines text) reading.counted)
 
 pub returns-clause-read : goal.returns-clause-read
 returns-clause-read g c =
@@ -55,15 +52,10 @@ returns-clause-err g c =
     c.take-taken.ensures.err
 
 pub returns-then-is_empty-clause-later : goal.returns-then-is_empty-clause-later
-returns-then-is_empty-clause-later g c =
-    if_err_by c.take.result (later_next g.K.ChangeKeeper.keeps g.K.ChangeKeeper.wants c.args.self.now c.without_return.result.now) c.take.ensures.err
+returns-then-is_empty-clause-later g c = if_err_by _ (later_next _ _ _ _) c.take.ensures.err
 
 pub returns-then-not-extend-clause-later : goal.returns-then-not-extend-clause-later
-returns-then-not-extend-clause-later g c =
-    later_long g.K.ChangeKeeper.keeps g.K.ChangeKeeper.wants c.args.self.now c.too_long.result
-    (λ limit text reading. c.too_long.ensures limit (complete_lines text) reading.counted)
+returns-then-not-extend-clause-later g c = later_long _ _ _ _ (λ limit text reading. c.too_long.ensures limit (complete_lines text) reading.counted)
 
 pub returns-clause-later : goal.returns-clause-later
-returns-clause-later g c =
-    if_err_by c.take-taken.result (later_next g.K.ChangeKeeper.keeps g.K.ChangeKeeper.wants c.args.self.now c.without_return-2.result.now)
-    c.take-taken.ensures.err
+returns-clause-later g c = if_err_by _ (later_next _ _ _ _) c.take-taken.ensures.err

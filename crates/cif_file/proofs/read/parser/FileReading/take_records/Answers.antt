@@ -2,7 +2,6 @@
 use Rattle.std.proofs.Common.{refl}
 use Rattle.std.proofs.lemmas.Result.{err_from_is_err_and}
 use Rattle.cif_file.specs.ParserRead.{IsReading}
-use Rattle.cif_file.specs.Cut.{before_rest}
 use Rattle.cif_file.proofs.ParserLemmas.{empty_is, takes_none, fault_of_rest, record_read, record_fault, later_next, later_piece}
 use Rattle.cif_file.proofs.read.parser.FileReading.take_records.Goals as goal
 
@@ -18,28 +17,17 @@ loop-front-init g c = record {
 pub returns-in_err-take_line-clause-err : goal.returns-in_err-take_line-clause-err
 returns-in_err-take_line-clause-err g c =
     let same = err_from_is_err_and c.from_residual.result c.from_residual.ensures.1 in
-    rw (same.1, same.2)
-    (fault_of_rest (IsReading g.K.ChangeKeeper.keeps c.args.self.now) (IsReading g.K.ChangeKeeper.keeps c.loop-front.self) c.args.text.now
-    c.loop-front.rest.now _
-    c.loop-front.invariant.taken
-    (record_fault g.K.ChangeKeeper.keeps g.K.ChangeKeeper.wants c.loop-front.self c.loop-front.rest.now c.in-Some.front.now c.in-Some-of.line
-    c.in-Some.behind.now _
+    rw (same.1, same.2) (fault_of_rest _ _ _ _ _ c.loop-front.invariant.taken (record_fault _ _ _ _ _ _ _ _
     c.in-Some.ensures c.in-Some-of.ensures.value (c.in-Some-of.ensures.some.0 refl) c.loop-front.invariant.none c.in_err-take_line.ensures.err))
 
 pub returns-in_err-take_line-clause-later : goal.returns-in_err-take_line-clause-later
 returns-in_err-take_line-clause-later g c =
     let same = err_from_is_err_and c.from_residual.result c.from_residual.ensures.1 in
-    rw (same.1, same.2)
-    (later_piece g.K.ChangeKeeper.keeps g.K.ChangeKeeper.wants c.args.self.now c.loop-front.self (before_rest c.args.text.now c.loop-front.rest.now) _
-    c.loop-front.invariant.taken.read
-    (later_next g.K.ChangeKeeper.keeps g.K.ChangeKeeper.wants c.loop-front.self _ _ c.in_err-take_line.ensures.err))
+    rw (same.1, same.2) (later_piece _ _ _ _ _ _ c.loop-front.invariant.taken.read (later_next _ _ _ _ _ c.in_err-take_line.ensures.err))
 
 pub loop-front-preserved : goal.loop-front-preserved
 loop-front-preserved g c = record {
-  taken =
-      record_read g.K.ChangeKeeper.keeps (IsReading g.K.ChangeKeeper.keeps c.args.self.now) c.loop-front.self
-      (record { records = c.take_line.new.self; partial = c.loop-front.self.partial }) c.args.text.now c.loop-front.rest.now c.in-Some.front.now
-      c.in-Some-of.line c.in-Some.behind.now c.loop-front.invariant.taken c.in-Some.ensures c.in-Some-of.ensures.value (c.in-Some-of.ensures.some.0 refl)
+  taken = record_read _ _ _ _ _ _ _ _ _ c.loop-front.invariant.taken c.in-Some.ensures c.in-Some-of.ensures.value (c.in-Some-of.ensures.some.0 refl)
       c.loop-front.invariant.none c.in_ok-take_line.ensures.read c.loop-front.invariant.none;
   none = c.loop-front.invariant.none;
 }

@@ -17,6 +17,5 @@ returns-in-Some-clause-read g c = λ opened place records before.
     (added_to g.K.ChangeKeeper.keeps c.args.self.now.keeper c.add_line.new.self lines c.args.line.now made some c.in_ok-add_line.ensures.kept kept)))
 
 pub returns-in-None-clause-read : goal.returns-in-None-clause-read
-returns-in-None-clause-read g c = λ opened place records before.
-    line_added g.K.ChangeKeeper.keeps c.args.self.now _ opened c.args.line.now records before (c.in-None.ensures opened place) refl place
+returns-in-None-clause-read g c = λ opened place records before. line_added _ _ _ _ _ _ before (c.in-None.ensures opened place) refl place
     c.in_ok-add_line.ensures.kept

@@ -29,6 +29,5 @@ returns-in-Schedule-clause-read g c = λ line is.
     subst (λ l. OnOk c.open.result (BeginsAnew g.K.ChangeKeeper.keeps c.args.self.now c.args.number l c.open.new.self)) told.0 c.open.ensures.read
 
 pub returns-in-Trailer-clause-read : goal.returns-in-Trailer-clause-read
-returns-in-Trailer-clause-read g c = λ line is records over counted.
-    trailer_added g.K.ChangeKeeper.keeps c.args.self.now _ records line over is.is
+returns-in-Trailer-clause-read g c = λ line is records over counted. trailer_added _ _ _ _ _ over is.is
     (subst (IsUnitByKind line) c.in-Trailer.is is.by_kind) is.good_fields refl refl refl

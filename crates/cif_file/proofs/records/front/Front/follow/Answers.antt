@@ -3,15 +3,12 @@
 use Rattle.std.proofs.Common.{ap, ◌∙◌, refl}
 use Rattle.std.specs.Prelude.{is_ok}
 use Rattle.docker_model.specs.file.File.{follows_basic}
-use Rattle.cif_change.specs.Cause.{cause_meant}
 use Rattle.cif_file.proofs.AnswerLemmas.{at_ok}
 use Rattle.cif_file.proofs.FrontLemmas.{followed, bad_line, stands_before, line_goes_on}
 use Rattle.cif_file.proofs.records.front.Front.follow.Goals as goal
 
 pub returns-in-Err-clause-err : goal.returns-in-Err-clause-err
-returns-in-Err-clause-err g c = λ opened place records has.
-    bad_line g.K.ChangeKeeper.keeps g.K.ChangeKeeper.wants c.args.self.now opened records c.args.line.now (cause_meant c.in-Err.cause) has place
-    c.requires.«record»
+returns-in-Err-clause-err g c = λ opened place records has. bad_line _ _ _ _ _ _ _ has place c.requires.«record»
     (ap follows_basic c.requires.kind ∙ c.requires.follows) (c.in-Err.ensures.err opened place)
 
 pub returns-in-Err-add_line-clause-err : goal.returns-in-Err-add_line-clause-err

@@ -20,5 +20,4 @@ returns-in-InSchedule g c =
     (λ place told. tells_inside g.K.ChangeKeeper.keeps c.args.self c.in-InSchedule.field-0 records place c.in-InSchedule.is told)).1 is)
 
 pub returns-in-Some : goal.returns-in-Some
-returns-in-Some g c = λ records has counted.
-    file_ended g.K.ChangeKeeper.keeps c.args.self records _ has c.in-AfterEnd.is c.in-Some.is counted refl
+returns-in-Some g c = λ records has counted. file_ended _ _ _ _ has c.in-AfterEnd.is c.in-Some.is counted refl

@@ -8,8 +8,6 @@ pub opened_schedule-opened-requires : goal.opened_schedule-opened-requires
 opened_schedule-opened-requires g c = schedule_is_first c.args.view.now c.requires
 
 pub returns-clause-read : goal.returns-clause-read
-returns-clause-read g c = λ records over counted.
-    basic_added g.K.ChangeKeeper.keeps c.args.self.now _ c.opened_schedule-opened.result records c.args.view.now over c.requires.is c.requires.by_kind.1
+returns-clause-read g c = λ records over counted. basic_added _ _ _ _ _ _ over c.requires.is c.requires.by_kind.1
     c.requires.good_fields (c.opened_schedule-opened.ensures.number
-    ∙ counted) c.opened_schedule-opened.ensures.key c.opened_schedule-opened.ensures.progress refl refl
-    c.in_ok-begin.ensures.kept
+    ∙ counted) c.opened_schedule-opened.ensures.key c.opened_schedule-opened.ensures.progress refl refl c.in_ok-begin.ensures.kept

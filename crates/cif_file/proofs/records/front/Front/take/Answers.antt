@@ -7,8 +7,7 @@ use Rattle.cif_file.proofs.FrontLemmas.{no_kind, file_at_end, on_ok_one}
 use Rattle.cif_file.proofs.records.front.Front.take.Goals as goal
 
 pub returns-in_default-clause-err : goal.returns-in_default-clause-err
-returns-in_default-clause-err g c = λ records has unended.
-    no_kind g.K.ChangeKeeper.keeps c.args.self.now records c.args.line.now has unended c.bytes-record.ensures.«record»
+returns-in_default-clause-err g c = λ records has unended. no_kind _ _ _ _ has unended c.bytes-record.ensures.«record»
     (sym c.kind.ensures ∙ ap (option_map meaning) c.in_default.is)
 
 pub returns-in-BeforeHeader-clause-err : goal.returns-in-BeforeHeader-clause-err
