@@ -1,6 +1,6 @@
 -- A worked example of staging: an office with the horizon 15 June receives a schedule that ends on
 -- 14 June.
-use Rattle.std.proofs.Common.{◌≡◌, ap, ◌∙◌, arith, [], ◌∷◌, Contains, subst, inl, inr, None}
+use Rattle.std.proofs.Common.{◌≡◌, ap, ◌∙◌, arith, [], ◌∷◌, Contains, subst, inl, inr, None, rules}
 use Rattle.docker_model.specs.file.Change.{Key}
 use Rattle.docker_model.specs.state.Stamp.{LedgerItem}
 use Rattle.docker_model.specs.state.Op.{Entry}
@@ -17,10 +17,7 @@ own = record { horizon = 23542; ledger = []; entries = [] }
 
 -- the received put is staged unchanged
 all_are_staged : IsStaged own None f2_state.entries f2_state.entries
-all_are_staged = record {
-  ascending = (tt, tt);
-  members = λ key entry. (λ among. (among, record { kept = tt; greater = λ other here. absurd (nil-Contains (key, other) here) }), λ told. told.0);
-}
+all_are_staged = search (rules, nil-Contains)
 
 committed_so : IsCommit own f2_state.ledger f2_state.entries (raise_horizon 23542 f2_state)
 committed_so = record {

@@ -1,5 +1,5 @@
 -- Worked examples of texts that aren't the text of a state.
-use Rattle.std.proofs.Common.{◌≡◌, ℕ, List, [], ◌∷◌, ◌++◌, take, drop, refl, inl, inr, lit≤, lit<, arith, ap}
+use Rattle.std.proofs.Common.{◌≡◌, ℕ, List, [], ◌∷◌, ◌++◌, take, drop, refl, inl, inr, lit≤, lit<, arith, ap, rules}
 use Rattle.std.specs.Prelude.{codes, slice_index}
 use Rattle.std.proofs.lemmas.List.Elements.{All-from_recursion}
 use Rattle.std.specs.Cmp.{tied_itself}
@@ -7,8 +7,7 @@ use Rattle.docker_model.specs.file.Change.{Key, schedule_key, ScheduleKey}
 use Rattle.docker_model.specs.state.Order.{IsBelow}
 use Rattle.docker_model.specs.state.Stamp.{ledger_item_cmp}
 use Rattle.docker_model.specs.state.Op.{Entry, key_cmp}
-use Rattle.docker_model.specs.state.Lapse.{HasNotToLapse}
-use Rattle.docker_model.specs.state.State.{State, IsValid, IsGoodEntry}
+use Rattle.docker_model.specs.state.State.{State, IsValid}
 use Rattle.docker_model.specs.state.StateText.{dks_1, state_text, ledger_text, item_bytes, IsToldState, TellsOp, IsOpByte}
 use Rattle.docker_model.specs.state.StatePart.{IsTag, before_mark, before_item, in_entry, before_tag, before_op, before_line, IsStampHere}
 use Rattle.docker_model.specs.state.StateFault.{IsStateFault, bad_mark, bad_order, bad_tag, bad_body, too_short, too_long, has_tail}
@@ -51,8 +50,7 @@ other_mark = inl (record {
 })
 
 told_f2 : IsToldState dks_1 f2_state
-told_f2 =
-    record { valid = f2_state_valid; horizon = refl; ops = All-from_recursion (λ (entry : Key × Entry). TellsOp dks_1 entry.1.op) f2_state.entries (tt, tt) }
+told_f2 = search (rules, f2_state_valid, f2_state)
 
 -- a text with an extra byte after the end of the state has the fault `has_tail`
 one_byte_more : IsStateFault dks_1 1000 (text ++ 7 ∷ []) (record { at = 309; cause = has_tail })
@@ -95,13 +93,7 @@ abbrev without_entry : State
 without_entry = record { horizon = 0; ledger = f2_item ∷ []; entries = [] }
 
 valid_without : IsValid without_entry
-valid_without =
-    record {
-      horizon = lit≤ tt;
-      have_lapsed = All-from_recursion (λ (entry : Key × Entry). HasNotToLapse 0 entry.1.op) [] tt;
-      ledger = good_ledger;
-      entries = (All-from_recursion (IsGoodEntry (f2_item ∷ [])) [] tt, tt);
-    }
+valid_without = search (rules, lit≤, good_ledger, f2_item)
 
 told_without : IsToldState dks_1 without_entry
 told_without = record { valid = valid_without; horizon = refl; ops = All-from_recursion (λ (entry : Key × Entry). TellsOp dks_1 entry.1.op) [] tt }

@@ -1,15 +1,12 @@
 -- The example state is valid, and is the summary of the example file.
-use Rattle.std.proofs.Common.{refl, inr, lit≤, lit<, ◌≡◌, [], ◌∷◌, arith, ap, ◌∙◌, Contains, None, sym, subst}
+use Rattle.std.proofs.Common.{refl, lit≤, lit<, ◌≡◌, [], ◌∷◌, arith, ap, ◌∙◌, Contains, None, sym, subst, rules}
 use Rattle.std.specs.Prelude.{⊤, codes}
 use Rattle.std.proofs.lemmas.List.Elements.{All-from_recursion}
-use Rattle.std.proofs.lemmas.List.Sums.{AllPass-from_list_all}
 use Rattle.std.specs.declared.cmp.Ordering.TheVariants.{Greater}
 use Rattle.std.specs.Cmp.{tied_itself}
-use Rattle.docker_model.specs.records.Record.{is_printable}
 use Rattle.docker_model.specs.file.Change.{ScheduleKey, schedule_body, schedule_key, Key, schedule_named, Change, put, changes}
 use Rattle.docker_model.specs.state.Stamp.{LedgerItem, ledger_item_of}
 use Rattle.docker_model.specs.state.Op.{Entry, put_with, entry_cmp}
-use Rattle.docker_model.specs.state.Lapse.{HasNotToLapse}
 use Rattle.docker_model.specs.state.State.{IsGoodItem, IsLedger, IsScheduleOf, IsGoodEntry, IsValid}
 use Rattle.docker_model.specs.state.Summary.{entry_of, IsKeptFile, IsEntryOf, IsSummary, IsGreatestEntryOf}
 use Rattle.cif_laws.proofs.orders.Orders.{entry_total}
@@ -21,13 +18,7 @@ use Rattle.cif_laws.proofs.lists.Membership.{Contains-single, single-Contains}
 
 -- the ledger item of the example file is well formed
 pub good_item : IsGoodItem f2_item
-good_item = record {
-  day = lit≤ tt;
-  minute = lit< tt;
-  reference = (refl, AllPass-from_list_all is_printable f2_item.stamp.reference refl);
-  indicator = inr refl;
-  last_reference = (refl, AllPass-from_list_all is_printable f2_item.last_reference refl);
-}
+good_item = search (rules, lit≤, lit<, f2_item)
 
 no_full : (item : LedgerItem) → Contains (f2_item ∷ []) item → item.indicator ≡ 70 → ⊥
 no_full item among full = let same = ap (λ (i : LedgerItem). i.indicator) (Contains-single f2_item item among) ∙ full in omega arith
@@ -53,20 +44,11 @@ schedule_of_key = record { schedule = f2_is_schedule; few = lit< tt; new = refl;
 
 -- the entry of the example state is well formed
 pub good_entry : IsGoodEntry (f2_item ∷ []) (schedule_key f2_key, f2_entry)
-good_entry = record {
-  key = record { uid = (refl, AllPass-from_list_all is_printable f2_key.uid refl); runs_from = lit≤ tt; indicator = refl };
-  stamp = record { in_ledger = single-Contains f2_item.stamp f2_item.stamp refl; low = lit≤ tt; high = lit< tt };
-  op = schedule_of_key;
-}
+good_entry = search (rules, lit≤, single-Contains, f2_item, lit<, schedule_of_key)
 
 -- the example state is valid
 pub f2_state_valid : IsValid f2_state
-f2_state_valid = record {
-  horizon = lit≤ tt;
-  have_lapsed = All-from_recursion (λ (entry : Key × Entry). HasNotToLapse 0 entry.1.op) ((schedule_key f2_key, f2_entry) ∷ []) (omega arith, tt);
-  ledger = good_ledger;
-  entries = (All-from_recursion (IsGoodEntry (f2_item ∷ [])) ((schedule_key f2_key, f2_entry) ∷ []) (good_entry, tt), (tt, tt));
-}
+f2_state_valid = search (rules, lit≤, good_ledger, f2_item, good_entry)
 
 -- the ledger item of the example file is `f2_item`
 item_is : ledger_item_of f2 ≡ f2_item
@@ -85,21 +67,14 @@ no_full_file : (item : LedgerItem) → Contains (ledger_item_of f2 ∷ []) item 
 no_full_file item among full = let same = ap (λ (i : LedgerItem). i.indicator) (Contains-single (ledger_item_of f2) item among) ∙ full in omega arith
 
 f2_entry_of : IsEntryOf (f2 ∷ []) None (schedule_key f2_key) f2_entry
-f2_entry_of = record {
-  file = f2;
-  kept = kept_f2;
-  change = f2_change;
-  among = single-Contains f2_change f2_change refl;
-  key_is = key_of_f2;
-  entry_is = entry_is;
-}
+f2_entry_of = search (rules, f2, kept_f2, single-Contains, key_of_f2, entry_is)
 
 -- `f2_entry` is the only entry that the changes of the example file make
 only_entry : (key : Key) (entry : Entry) (made : IsEntryOf (f2 ∷ []) None key entry) → (schedule_key f2_key ≡ key) × (f2_entry ≡ entry)
 only_entry key entry made =
-    let file_is : f2 ≡ made.file = Contains-single f2 made.file made.kept.among in
+    let file_is : f2 ≡ made.file = Contains-single _ _ made.kept.among in
     let among : Contains (changes f2) made.change = subst (λ file. Contains (changes file) made.change) (sym file_is) made.among in
-    let change_is : f2_change ≡ made.change = Contains-single f2_change made.change among in (
+    let change_is : f2_change ≡ made.change = Contains-single _ _ among in (
       sym key_of_f2 ∙ ap (λ (change : Change). change.key) change_is ∙ made.key_is,
       sym entry_is ∙ (λ i. entry_of (file_is i) (change_is i)) ∙ made.entry_is,
     )
@@ -113,22 +88,22 @@ not_above other made greater =
 
 -- the example state is the summary of the example file
 pub f2_summary : IsSummary (f2 ∷ []) 0 f2_state
-f2_summary = (plain_summary (f2 ∷ []) f2_state).0 (record {
+f2_summary = (plain_summary _ _).0 (record {
   no_horizon = refl;
   floor = None;
   is_floor = no_full_file;
   ledger_ascends = (tt, tt);
   ledger = λ item. (
-    λ among. (f2, kept_f2, item_is ∙ Contains-single f2_item item among),
-    λ made. single-Contains f2_item item (sym item_is ∙ ap ledger_item_of (Contains-single f2 made.0 made.1.among) ∙ made.2),
+    λ among. (f2, kept_f2, item_is ∙ Contains-single _ _ among),
+    λ made. single-Contains _ _ (sym item_is ∙ ap ledger_item_of (Contains-single _ _ made.1.among) ∙ made.2),
   );
   entries_ascend = (tt, tt);
   entries = λ key entry. (
     λ among.
-        let same = Contains-single (schedule_key f2_key, f2_entry) (key, entry) among in
+        let same = Contains-single _ _ among in
         subst (λ (pair : Key × Entry). IsGreatestEntryOf (f2 ∷ []) None pair.0 pair.1) same (record { is = f2_entry_of; greatest = not_above }),
     λ greatest.
-        let same = only_entry key entry greatest.is in
-        single-Contains (schedule_key f2_key, f2_entry) (key, entry) (λ i. (same.0 i, same.1 i)),
+        let same = only_entry _ _ greatest.is in
+        single-Contains _ _ (λ i. (same.0 i, same.1 i)),
   );
 })

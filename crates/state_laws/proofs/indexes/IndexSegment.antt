@@ -1,6 +1,6 @@
 -- The rows of an index for one place are a segment of the index. All rows in the segment are for
 -- the place, and all other rows are for other places.
-use Rattle.std.proofs.Common.{◌≡◌, ℕ, List, [], ◌∷◌, ◌++◌, map, refl, ap, ◌∙◌, Bool, true, false, cond, Contains, append-nil}
+use Rattle.std.proofs.Common.{◌≡◌, ℕ, List, [], ◌∷◌, ◌++◌, map, refl, ap, ◌∙◌, Bool, true, false, cond, Contains, append-nil, rules}
 use Rattle.std.specs.Prelude.{filter}
 use Rattle.std.specs.Str.{bytes_eq}
 use Rattle.std.proofs.lemmas.List.Elements.{filter-append}
@@ -36,12 +36,8 @@ module _ {K : Type 0} (place : List ℕ) where
       → ((row : List ℕ × K) → Contains rows row → row.0 ≡ place)
       → ((row : List ℕ × K) → Contains back row → ¬ (row.0 ≡ place)) → filter (λ (row : List ℕ × K). bytes_eq row.0 place) ((front ++ rows) ++ back) ≡ rows
   unfolding test
-  piece_is front rows back before here behind =
-      filter-append test (front ++ rows) back
-      ∙ (λ i. (filter-append test front rows ∙ (λ j. none_kept front before j ++ all_kept rows here j)) i ++ none_kept back behind i)
-      ∙ append-nil rows
+  piece_is = search (rules, filter-append, test, none_kept, all_kept, append-nil)
 
--- like `piece_is`, for the index of calls
 pub calling_piece : (place : List ℕ) (front rows back : List CallingRow) → ((row : CallingRow) → Contains front row → ¬ (row.0 ≡ place))
     → ((row : CallingRow) → Contains rows row → row.0 ≡ place)
     → ((row : CallingRow) → Contains back row → ¬ (row.0 ≡ place)) → calling_keys ((front ++ rows) ++ back) place ≡ map
@@ -53,5 +49,4 @@ pub linked_piece : (place : List ℕ) (front rows back : List LinkedRow) → ((r
     → ((row : LinkedRow) → Contains rows row → row.0 ≡ place)
     → ((row : LinkedRow) → Contains back row → ¬ (row.0 ≡ place)) → linked_keys ((front ++ rows) ++ back) place ≡ map
     (λ (row : LinkedRow). association_key row.1) rows
-linked_piece place front rows back before here behind =
-    ap (map (λ (row : LinkedRow). association_key row.1)) (piece_is place front rows back before here behind)
+linked_piece place front rows back before here behind = ap (map (λ (row : LinkedRow). association_key row.1)) (piece_is _ _ _ back before here behind)

@@ -13,7 +13,7 @@ use Rattle.std.specs.Cmp.Lexicographic.{nat_list_cmp_total}
 use Rattle.std.proofs.lemmas.Slice.Eq.{bytes_eq-Decides}
 use Rattle.docker_model.specs.file.Change.{Key, association_key, schedule_key, Body, association_body, schedule_body}
 use Rattle.docker_model.specs.state.Order.{bytes_cmp, IsBelow, IsStrictlyAscending}
-use Rattle.docker_model.specs.state.Op.{key_cmp, schedule_key_cmp, association_key_cmp}
+use Rattle.docker_model.specs.state.Op.{key_cmp}
 use Rattle.docker_model.specs.state.Table.{Table}
 use Rattle.docker_model.specs.state.Row.{Row, AreInKeyOrder}
 use Rattle.state_laws.specs.Index.{CallingRow, calling_cmp, LinkedRow, linked_cmp, IsCallingIndex}
@@ -66,20 +66,16 @@ at_place_ascends : {K : Type 0} (cmp : K → K → Ordering) (wrap : K → Key) 
     → (place : List ℕ) (index : List (List ℕ × K))
     → AllLater (λ (a b : List ℕ × K). ordering_then (bytes_cmp a.0 b.0) (cmp a.1 b.1) ≡ Less) index
     → IsStrictlyAscending key_cmp (map (λ (r : List ℕ × K). wrap r.1) (filter (λ (r : List ℕ × K). bytes_eq r.0 place) index))
-at_place_ascends {K} cmp wrap to place index up =
-    ascending_of key_cmp (map (λ (r : List ℕ × K). wrap r.1) (filter (λ (r : List ℕ × K). bytes_eq r.0 place) index))
-    (later_map (IsBelow key_cmp) (λ (r : List ℕ × K). wrap r.1) (filter (λ (r : List ℕ × K). bytes_eq r.0 place) index)
-    (later_weaker (λ (a b : List ℕ × K). ordering_then (bytes_cmp a.0 b.0) (cmp a.1 b.1) ≡ Less) (λ a b. IsBelow key_cmp (wrap a.1) (wrap b.1))
-    (filter (λ (r : List ℕ × K). bytes_eq r.0 place) index)
-    (λ a b in_a in_b below. to a.1 b.1 (behind a b in_a in_b below))
-    (later_filter (λ (a b : List ℕ × K). ordering_then (bytes_cmp a.0 b.0) (cmp a.1 b.1) ≡ Less) (λ r. bytes_eq r.0 place) index up)))
+at_place_ascends {K} cmp wrap to place index up = ascending_of _ (map (λ (r : List ℕ × K). wrap r.1) (filter (λ (r : List ℕ × K). bytes_eq r.0 place) index))
+    (later_map _ (λ (r : List ℕ × K). wrap r.1) _ (later_weaker (λ (a b : List ℕ × K). ordering_then (bytes_cmp a.0 b.0) (cmp a.1 b.1) ≡ Less) _
+    (filter (λ (r : List ℕ × K). bytes_eq r.0 place) index) (λ a b in_a in_b below. to a.1 b.1 (behind a b in_a in_b below))
+    (later_filter _ (λ r. bytes_eq r.0 place) _ up)))
   where
     behind : (a b : List ℕ × K) → Contains (filter (λ (r : List ℕ × K). bytes_eq r.0 place) index) a
-        → Contains (filter (λ (r : List ℕ × K). bytes_eq r.0 place) index) b
-        → ordering_then (bytes_cmp a.0 b.0) (cmp a.1 b.1) ≡ Less → cmp a.1 b.1 ≡ Less
+        → Contains (filter (λ (r : List ℕ × K). bytes_eq r.0 place) index) b → ordering_then (bytes_cmp a.0 b.0) (cmp a.1 b.1) ≡ Less → cmp a.1 b.1 ≡ Less
     behind a b in_a in_b below =
-        let one : a.0 ≡ place = (bytes_eq-Decides a.0 place).0 (filter_back (λ (r : List ℕ × K). bytes_eq r.0 place) index a in_a).1 in
-        let two : b.0 ≡ place = (bytes_eq-Decides b.0 place).0 (filter_back (λ (r : List ℕ × K). bytes_eq r.0 place) index b in_b).1 in
+        let one : a.0 ≡ place = (bytes_eq-Decides a.0 place).0 (filter_back (λ (r : List ℕ × K). bytes_eq r.0 place) _ a in_a).1 in
+        let two : b.0 ≡ place = (bytes_eq-Decides b.0 place).0 (filter_back _ index _ in_b).1 in
         let level : bytes_cmp a.0 b.0 ≡ Equal = (λ i. bytes_cmp (one i) (two i)) ∙ tied_itself nat_list_cmp_total place in
         sym (λ i. ordering_then (level i) (cmp a.1 b.1)) ∙ below
 
@@ -90,14 +86,12 @@ found_at : {K : Type 0} (wrap : K → Key) (place : List ℕ) (index : List (Lis
     ↔ ((k : K) × Contains index (place, k) × (wrap k ≡ key))
 found_at {K} wrap place index key = (
   λ among.
-      let found = Contains-map (λ (r : List ℕ × K). wrap r.1) (filter (λ (r : List ℕ × K). bytes_eq r.0 place) index) key among in
-      let passed = filter_back (λ (r : List ℕ × K). bytes_eq r.0 place) index found.0 found.1 in
+      let found = Contains-map _ _ _ among in
+      let passed = filter_back _ _ _ found.1 in
       let here : found.0.0 ≡ place = (bytes_eq-Decides found.0.0 place).0 passed.1 in
       (found.0.1, subst (Contains index) (λ i. (here i, found.0.1)) passed.0, found.2),
-  λ made.
-      subst (Contains (map (λ (r : List ℕ × K). wrap r.1) (filter (λ (r : List ℕ × K). bytes_eq r.0 place) index))) made.2
-      (map-Contains (λ (r : List ℕ × K). wrap r.1) (filter (λ (r : List ℕ × K). bytes_eq r.0 place) index) (place, made.0)
-      (filter_forth (λ (r : List ℕ × K). bytes_eq r.0 place) index (place, made.0) made.1 ((bytes_eq-Decides place place).1 refl))),
+  λ made. subst (Contains (map (λ (r : List ℕ × K). wrap r.1) (filter (λ (r : List ℕ × K). bytes_eq r.0 place) index))) made.2 (map-Contains _ _ _
+      (filter_forth _ _ _ made.1 ((bytes_eq-Decides place place).1 refl))),
 )
 
 order_of_keys : (rows : List Row) → IsStrictlyAscending key_cmp (map (λ (row : Row). row.0) rows) → AreInKeyOrder rows
@@ -115,22 +109,19 @@ module _ (live : Table) (place : List ℕ) where
   pub calling_by_index : (index : List CallingRow) (rows : List Row) → IsCallingIndex live index → map (λ (row : Row). row.0) rows ≡ calling_keys index place
       → ((key : Key) (body : Body) → Contains rows (key, body) → live key ≡ Some body) → AreCalling live place rows
   calling_by_index index rows is keys each = record {
-    ascending =
-        order_of_keys rows (subst (IsStrictlyAscending key_cmp) (sym keys) (at_place_ascends schedule_key_cmp schedule_key (λ a b below. below) place index
-        (later_of calling_cmp index is.ascending)));
+    ascending = order_of_keys _ (subst (IsStrictlyAscending key_cmp) (sym keys) (at_place_ascends _ _ (λ a b below. below) _ _ (later_of _ _ is.ascending)));
     members = λ key body. (
       λ among.
-          let in_keys : Contains (calling_keys index place) key = subst (λ ks. Contains ks key) keys
-          (map-Contains (λ (row : Row). row.0) rows (key, body) among) in
-          let found = (found_at schedule_key place index key).0 in_keys in
+          let in_keys : Contains (calling_keys index place) key = subst (λ ks. Contains ks key) keys (map-Contains _ _ _ among) in
+          let found = (found_at _ _ _ _).0 in_keys in
           let made = (is.members place found.0).0 found.1 in
           let body_is : Some body ≡ Some (schedule_body made.0) = sym (each key body among) ∙ ap live (sym found.2) ∙ made.1.is_live in
           (found.0, made.0, sym found.2, (let e : body ≡ schedule_body made.0 = cc in e), made.1),
       λ told.
           let in_index : Contains index (place, told.0) = (is.members place told.0).1 (told.1, told.4) in
           let in_keys : Contains (map (λ (row : Row). row.0) rows) (schedule_key told.0) = subst (λ ks. Contains ks (schedule_key told.0)) (sym keys)
-          ((found_at schedule_key place index (schedule_key told.0)).1 (told.0, in_index, refl)) in
-          let row = Contains-map (λ (row : Row). row.0) rows (schedule_key told.0) in_keys in
+          ((found_at _ _ _ _).1 (told.0, in_index, refl)) in
+          let row = Contains-map _ _ _ in_keys in
           let body_is : Some row.0.1 ≡ Some (schedule_body told.1) = sym (each row.0.0 row.0.1 row.1) ∙ ap live row.2 ∙ told.4.is_live in
           let same : row.0.1 ≡ body = (let e : row.0.1 ≡ schedule_body told.1 = cc in e) ∙ sym told.3 in
           subst (Contains rows) (λ i. ((row.2 ∙ sym told.2) i, same i)) row.1,
@@ -142,22 +133,19 @@ module _ (live : Table) (place : List ℕ) where
   pub linked_by_index : (index : List LinkedRow) (rows : List Row) → IsLinkedIndex live index → map (λ (row : Row). row.0) rows ≡ linked_keys index place
       → ((key : Key) (body : Body) → Contains rows (key, body) → live key ≡ Some body) → AreLinked live place rows
   linked_by_index index rows is keys each = record {
-    ascending =
-        order_of_keys rows (subst (IsStrictlyAscending key_cmp) (sym keys) (at_place_ascends association_key_cmp association_key
-        (λ a b below. below) place index (later_of linked_cmp index is.ascending)));
+    ascending = order_of_keys _ (subst (IsStrictlyAscending key_cmp) (sym keys) (at_place_ascends _ _ (λ a b below. below) _ _ (later_of _ _ is.ascending)));
     members = λ key body. (
       λ among.
-          let in_keys : Contains (linked_keys index place) key = subst (λ ks. Contains ks key) keys
-          (map-Contains (λ (row : Row). row.0) rows (key, body) among) in
-          let found = (found_at association_key place index key).0 in_keys in
+          let in_keys : Contains (linked_keys index place) key = subst (λ ks. Contains ks key) keys (map-Contains _ _ _ among) in
+          let found = (found_at _ _ _ _).0 in_keys in
           let made = (is.members place found.0).0 found.1 in
           let body_is : Some body ≡ Some (association_body made.0) = sym (each key body among) ∙ ap live (sym found.2) ∙ made.1.is_live in
           (found.0, made.0, sym found.2, (let e : body ≡ association_body made.0 = cc in e), made.1),
       λ told.
           let in_index : Contains index (place, told.0) = (is.members place told.0).1 (told.1, told.4) in
           let in_keys : Contains (map (λ (row : Row). row.0) rows) (association_key told.0) = subst (λ ks. Contains ks (association_key told.0)) (sym keys)
-          ((found_at association_key place index (association_key told.0)).1 (told.0, in_index, refl)) in
-          let row = Contains-map (λ (row : Row). row.0) rows (association_key told.0) in_keys in
+          ((found_at _ _ _ _).1 (told.0, in_index, refl)) in
+          let row = Contains-map _ _ _ in_keys in
           let body_is : Some row.0.1 ≡ Some (association_body told.1) = sym (each row.0.0 row.0.1 row.1) ∙ ap live row.2 ∙ told.4.is_live in
           let same : row.0.1 ≡ body = (let e : row.0.1 ≡ association_body told.1 = cc in e) ∙ sym told.3 in
           subst (Contains rows) (λ i. ((row.2 ∙ sym told.2) i, same i)) row.1,

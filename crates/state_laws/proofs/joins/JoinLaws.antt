@@ -1,6 +1,6 @@
 -- The join is commutative, associative and, for valid states, idempotent. Two states have at most
 -- one join.
-use Rattle.std.proofs.Common.{◌++◌, ◌≡◌, ◌∙◌, sym, ◌≤◌, subst, ℕ, arith, ap, List, Contains, inl, inr, ◌⊎◌, Some, None}
+use Rattle.std.proofs.Common.{◌++◌, ◌≡◌, ◌∙◌, sym, ◌≤◌, subst, ℕ, arith, ap, List, Contains, inl, inr, ◌⊎◌, Some, None, rules}
 use Rattle.std.specs.Prelude.{max, Option}
 use Rattle.std.proofs.Math.Nat.{max_comm, le-max_left, le-max_right, max-eq_left}
 use Rattle.std.proofs.lemmas.List.Elements.{Contains-append_cases, Contains-append_left}
@@ -13,7 +13,7 @@ use Rattle.docker_model.specs.state.State.{State, IsJoin, IsValid, IsGoodEntry}
 use Rattle.cif_laws.proofs.lists.Membership.{same_members_turned, same_members_rotated, Contains-map, member_of}
 use Rattle.cif_laws.proofs.orders.AtMost.{at_most_itself}
 use Rattle.cif_laws.proofs.orders.Orders.{entry_total}
-use Rattle.state_laws.proofs.states.Lapse.{max_most, entry_stays}
+use Rattle.state_laws.proofs.states.Lapse.{entry_stays}
 use Rattle.state_laws.proofs.states.PlainTable.{one_per_key}
 use Rattle.state_laws.proofs.states.ReducedEntries.{IsReduced, reduced_twice}
 use Rattle.state_laws.proofs.states.ReducedMembers.{reduced_along, reduced_unique}
@@ -22,39 +22,22 @@ use Rattle.state_laws.proofs.states.ReducedMembers.{reduced_along, reduced_uniqu
 
 -- a join of two states satisfies `IsReduced` for the ledger items and the entries of both states
 pub join_reduced : (a b c : State) → IsJoin a b c → IsReduced (a.ledger ++ b.ledger) (a.entries ++ b.entries) c
-join_reduced a b c is = record {
-  floor = is.floor;
-  is_floor = is.is_floor;
-  ledger_ascends = is.ledger_ascends;
-  ledger = is.ledger;
-  entries_ascend = is.entries_ascend;
-  of_keys = is.entries;
-}
+join_reduced = search rules
 
 -- suppose that a state has the greater of two states' horizons, and satisfies `IsReduced` for the
 -- ledger items and the entries of both states. Then it is the join of the two states
 pub reduced_join : (a b c : State) → c.horizon ≡ max a.horizon b.horizon → IsReduced (a.ledger ++ b.ledger) (a.entries ++ b.entries) c → IsJoin a b c
-reduced_join a b c horizon is = record {
-  horizon = horizon;
-  floor = is.floor;
-  is_floor = is.is_floor;
-  ledger_ascends = is.ledger_ascends;
-  ledger = is.ledger;
-  entries_ascend = is.entries_ascend;
-  entries = is.of_keys;
-}
+reduced_join = search rules
 
 -- the join is commutative
 pub join_commutes : (a b c : State) → IsJoin a b c → IsJoin b a c
-join_commutes a b c is =
-    reduced_join b a c (is.horizon ∙ max_comm a.horizon b.horizon)
-    (reduced_along (a.ledger ++ b.ledger) (b.ledger ++ a.ledger) (a.entries ++ b.entries) (b.entries ++ a.entries) (same_members_turned a.ledger b.ledger)
-    (same_members_turned a.entries b.entries) c (join_reduced a b c is))
+join_commutes a b c is = reduced_join _ a _ (is.horizon ∙ max_comm a.horizon b.horizon)
+    (reduced_along (a.ledger ++ b.ledger) _ (a.entries ++ b.entries) _ (same_members_turned a.ledger _)
+    (same_members_turned a.entries _) c (join_reduced _ b _ is))
 
 -- two states have at most one join
 pub join_unique : (a b c d : State) → IsJoin a b c → IsJoin a b d → c ≡ d
-join_unique a b c d is_c is_d =
-    reduced_unique (a.ledger ++ b.ledger) (a.entries ++ b.entries) c d (is_c.horizon ∙ sym is_d.horizon) (join_reduced a b c is_c) (join_reduced a b d is_d)
+join_unique a b c d is_c is_d = reduced_unique _ _ _ _ (is_c.horizon ∙ sym is_d.horizon) (join_reduced _ _ _ is_c) (join_reduced _ _ _ is_d)
 
 -- ---- the join is associative
 
@@ -67,37 +50,20 @@ pub horizon_right : (a b c : State) → IsJoin a b c → b.horizon ≤ c.horizon
 horizon_right a b c is = subst (λ h. b.horizon ≤ h) (sym is.horizon) (le-max_right a.horizon b.horizon)
 
 max_rotates : (a b c : ℕ) → max (max a b) c ≡ max (max b c) a
-max_rotates a b c =
-    let one = le-max_left a b in
-    let two = le-max_right a b in
-    let three = le-max_left (max a b) c in
-    let four = le-max_right (max a b) c in
-    let five = le-max_left b c in
-    let six = le-max_right b c in
-    let seven = le-max_left (max b c) a in
-    let eight = le-max_right (max b c) a in
-    let up : max (max a b) c ≤ max (max b c) a = max_most (max a b) c (max (max b c) a) (max_most a b (max (max b c) a) (omega arith) (omega arith))
-    (omega arith) in
-    let down : max (max b c) a ≤ max (max a b) c = max_most (max b c) a (max (max a b) c) (max_most b c (max (max a b) c) (omega arith) (omega arith))
-    (omega arith) in
-    omega arith
+max_rotates = omega arith
 
 -- the join is associative
 pub join_associates : (a b c ab bc x y : State) → IsJoin a b ab → IsJoin ab c x → IsJoin b c bc → IsJoin a bc y → x ≡ y
 join_associates a b c ab bc x y is_ab is_x is_bc is_y =
-    let turn = join_commutes a bc y is_y in
-    let left = reduced_twice (a.ledger ++ b.ledger) c.ledger (a.entries ++ b.entries) c.entries ab x (join_reduced a b ab is_ab) (join_reduced ab c x is_x)
-    (horizon_left ab c x is_x) in
-    let right = reduced_twice (b.ledger ++ c.ledger) a.ledger (b.entries ++ c.entries) a.entries bc y (join_reduced b c bc is_bc) (join_reduced bc a y turn)
-    (horizon_left bc a y turn) in
+    let turn = join_commutes _ bc _ is_y in
+    let left = reduced_twice (a.ledger ++ b.ledger) _ (a.entries ++ b.entries) _ ab _ (join_reduced a _ ab is_ab) (join_reduced _ c _ is_x)
+    (horizon_left ab _ x is_x) in
+    let right = reduced_twice _ a.ledger _ a.entries _ y (join_reduced _ c _ is_bc) (join_reduced bc _ y turn) (horizon_left _ a _ turn) in
     let horizons : x.horizon ≡ y.horizon =
-    is_x.horizon ∙ ap (λ h. max h c.horizon) is_ab.horizon ∙ max_rotates a.horizon b.horizon c.horizon ∙ ap (λ h. max h a.horizon) (sym is_bc.horizon)
+    is_x.horizon ∙ ap (λ h. max h c.horizon) is_ab.horizon ∙ max_rotates a.horizon _ c.horizon ∙ ap (λ h. max h a.horizon) (sym is_bc.horizon)
     ∙ sym turn.horizon in
-    reduced_unique ((b.ledger ++ c.ledger) ++ a.ledger) ((b.entries ++ c.entries) ++ a.entries) x y horizons
-    (reduced_along ((a.ledger ++ b.ledger) ++ c.ledger) ((b.ledger ++ c.ledger) ++ a.ledger) ((a.entries ++ b.entries) ++ c.entries)
-    ((b.entries ++ c.entries) ++ a.entries)
-    (same_members_rotated a.ledger b.ledger c.ledger) (same_members_rotated a.entries b.entries c.entries) x left)
-    right
+    reduced_unique _ ((b.entries ++ c.entries) ++ a.entries) _ y horizons (reduced_along _ ((b.ledger ++ c.ledger) ++ a.ledger) _
+    ((b.entries ++ c.entries) ++ a.entries) (same_members_rotated _ b.ledger _) (same_members_rotated a.entries _ c.entries) _ left) right
 
 -- ---- the join of a valid state with itself is the same state
 

@@ -1,6 +1,6 @@
 -- The join of valid states is valid. A valid state is still valid after its horizon is raised. The
 -- floor of a valid state's ledger is the file stamp of its first full extract.
-use Rattle.std.proofs.Common.{List, Contains, subst, sym, Some, None, map, inl, inr, ◌⊎◌, ℕ, ◌<◌, ◌≤◌}
+use Rattle.std.proofs.Common.{List, Contains, subst, sym, Some, None, map, inl, inr, ◌⊎◌, ℕ, ◌<◌, ◌≤◌, rules}
 use Rattle.std.proofs.Common.{◌++◌, ap, ◌≡◌, [], ◌∷◌, refl, ◌∙◌, Bool, true, false, cond, eqb-true, All}
 use Rattle.std.specs.Prelude.{Option, max, option_map, find, ◌==◌}
 use Rattle.std.proofs.lemmas.List.Elements.{All-contains, Contains-append_left, Contains-append_right, Contains-append_cases}
@@ -26,13 +26,7 @@ pub kept_floor : (items ledger : List LedgerItem) (floor : Option FileStamp) →
     → Contains ledger item)
     → IsFloor ledger floor
 kept_floor items ledger None none from to = λ item among. none item (from item among)
-kept_floor items ledger (Some stamp) greatest from to = record {
-  full = greatest.full;
-  among = to greatest.full greatest.among (subst (λ s. IsAtMost file_stamp_cmp stamp s) (sym greatest.stamped) (at_most_itself file_stamp_total stamp));
-  is_full = greatest.is_full;
-  stamped = greatest.stamped;
-  greatest = λ item among. greatest.greatest item (from item among);
-}
+kept_floor items ledger (Some stamp) greatest from to = search (rules, at_most_itself, file_stamp_total)
 
 -- suppose that the joined ledger has each item of `ledger`, unless the item is below the floor.
 -- Then each file stamp in `ledger` that isn't below the floor is also in the joined ledger
@@ -63,28 +57,25 @@ good_lapses horizon ledger key entry good = record { key = good.key; stamp = goo
 -- the join of valid states is valid
 pub join_is_valid : (first second joined : State) → IsValid first → IsValid second → IsJoin first second joined → IsValid joined
 join_is_valid first second joined one two is = record {
-  horizon = subst IsDay (sym is.horizon) (max_most first.horizon second.horizon last_day one.horizon two.horizon);
+  horizon = subst IsDay (sym is.horizon) (max_most _ second.horizon _ one.horizon two.horizon);
   ledger = record {
-    each =
-        all_members IsGoodItem joined.ledger (λ item among. item_is item (Contains-append_cases first.ledger second.ledger item ((is.ledger item).0 among).0));
+    each = all_members IsGoodItem _ (λ item among. item_is item (Contains-append_cases first.ledger second.ledger item ((is.ledger item).0 among).0));
     ascending = is.ledger_ascends;
     floor = is.floor;
-    is_floor =
-        kept_floor (first.ledger ++ second.ledger) joined.ledger is.floor is.is_floor (λ item among. ((is.ledger item).0 among).0)
+    is_floor = kept_floor (first.ledger ++ second.ledger) _ is.floor is.is_floor (λ item among. ((is.ledger item).0 among).0)
         (λ item among kept. (is.ledger item).1 (among, kept));
-    kept = all_members (λ item. IsKept is.floor item.stamp) joined.ledger (λ item among. ((is.ledger item).0 among).1);
+    kept = all_members _ joined.ledger (λ item among. ((is.ledger item).0 among).1);
   };
   entries = (
-    all_members (IsGoodEntry joined.ledger) joined.entries (λ entry among.
+    all_members _ joined.entries (λ entry among.
         let told = (is.entries entry.0 entry.1).0 among in
-        subst (λ e. IsGoodEntry joined.ledger (entry.0, e)) told.3
-        (good_lapses joined.horizon joined.ledger entry.0 told.0
+        subst (λ e. IsGoodEntry joined.ledger (entry.0, e)) told.3 (good_lapses _ joined.ledger _ told.0
         (entry_is (entry.0, told.0) told.2 (Contains-append_cases first.entries second.entries (entry.0, told.0) told.1.among)))),
     is.entries_ascend,
   );
-  have_lapsed = all_members (λ (entry : Key × Entry). HasNotToLapse joined.horizon entry.1.op) joined.entries (λ entry among.
+  have_lapsed = all_members _ joined.entries (λ entry among.
       let told = (is.entries entry.0 entry.1).0 among in
-      subst (HasNotToLapse joined.horizon) (ap (λ (e : Entry). e.op) told.3) (has_lapsed joined.horizon told.0.op));
+      subst (HasNotToLapse joined.horizon) (ap (λ (e : Entry). e.op) told.3) (has_lapsed _ told.0.op));
 }
   where
     item_is : (item : LedgerItem) → Contains first.ledger item ⊎ Contains second.ledger item → IsGoodItem item
@@ -95,12 +86,11 @@ join_is_valid first second joined one two is = record {
         → (entry : Key × Entry) → IsKept is.floor entry.1.stamp.file → IsGoodEntry ledger entry → IsGoodEntry joined.ledger entry
     moved ledger to entry kept good = record {
       key = good.key;
-      stamp =
-          record {
-            in_ledger = stamp_stays ledger joined.ledger is.floor to entry.1.stamp.file kept good.stamp.in_ledger;
-            low = good.stamp.low;
-            high = good.stamp.high;
-          };
+      stamp = record {
+        in_ledger = stamp_stays _ joined.ledger _ to entry.1.stamp.file kept good.stamp.in_ledger;
+        low = good.stamp.low;
+        high = good.stamp.high;
+      };
       op = good.op;
     }
 

@@ -1,19 +1,20 @@
 -- Rows of a table, each a key with a value. The keys may be of any type: `meant` converts them to
 -- keys of the definitions.
-use Rattle.std.proofs.Common.{◌≡◌, cond, List, [], ◌∷◌, refl, sym, ◌∙◌, subst, Contains, inl, inr, ◌⊎◌, Option, Some, None}
+use Rattle.std.proofs.Common.{◌≡◌, List, [], ◌∷◌, refl, sym, ◌∙◌, subst, Contains, Option, Some, None, arith, rules}
+use Rattle.std.proofs.lemmas.Grind.{common_steps}
 use Rattle.std.specs.Prelude.{find}
 use Rattle.std.specs.List.{AllByRecursion}
 use Rattle.std.specs.Option.{option_map}
 use Rattle.std.specs.declared.cmp.Ordering.{Ordering}
 use Rattle.std.specs.declared.cmp.Ordering.TheVariants.{Less, Equal, Greater}
 use Rattle.std.specs.Ordering.{is_eq}
-use Rattle.std.specs.Cmp.{IsTotalOrder, on_total, tied_itself}
+use Rattle.std.specs.Cmp.{IsTotalOrder, on_total}
 use Rattle.docker_model.specs.file.Change.{Key}
 use Rattle.docker_model.specs.state.Op.{key_cmp}
-use Rattle.docker_model.specs.state.Order.{IsBelow, IsStrictlyAscending}
+use Rattle.docker_model.specs.state.Order.{IsStrictlyAscending}
 use Rattle.cif_laws.proofs.orders.Orders.{key_total, exact_key}
 use Rattle.cif_laws.proofs.orders.Ascending.{same_list}
-use Rattle.cif_laws.proofs.lists.Membership.{Contains-cons, cons-Contains, cons-Contains-first, nil-Contains, below_by_recursion}
+use Rattle.cif_laws.proofs.lists.Membership.{cons-Contains, cons-Contains-first, nil-Contains, below_by_recursion}
 
 module _ {K E : Type 0} (meant : K → Key) where
   -- the order of rows by their keys
@@ -37,18 +38,12 @@ module _ {K E : Type 0} (meant : K → Key) where
 
   -- at the key of the first row, the value is the first row's value
   pub value_here : (row : K × E) (rows : List (K × E)) (key : Key) → key_cmp (meant row.0) key ≡ Equal → value_in (row ∷ rows) key ≡ Some row.1
-  value_here row rows key tied =
-      λ i. option_map (λ (r : K × E). r.1) (cond (is_eq (tied i)) (Some row) (find (λ (r : K × E). is_eq (key_cmp (meant r.0) key)) rows))
+  value_here = search rules
 
   -- at any key other than the first row's key, the value is the same with and without the first row
   pub value_behind : (row : K × E) (rows : List (K × E)) (key : Key) → ¬ (key_cmp (meant row.0) key ≡ Equal)
       → value_in (row ∷ rows) key ≡ value_in rows key
-  value_behind row rows key other = by (key_cmp (meant row.0) key) refl
-    where
-      by : (o : Ordering) → key_cmp (meant row.0) key ≡ o → value_in (row ∷ rows) key ≡ value_in rows key
-      by Less is = λ i. option_map (λ (r : K × E). r.1) (cond (is_eq (is i)) (Some row) (find (λ (r : K × E). is_eq (key_cmp (meant r.0) key)) rows))
-      by Equal is = absurd (other is)
-      by Greater is = λ i. option_map (λ (r : K × E). r.1) (cond (is_eq (is i)) (Some row) (find (λ (r : K × E). is_eq (key_cmp (meant r.0) key)) rows))
+  value_behind = search rules
 
   -- if all rows are above a key, they don't have this key
   pub value_above : (key : Key) (rows : List (K × E)) → AllByRecursion (λ (row : K × E). key_cmp key (meant row.0) ≡ Less) rows → value_in rows key ≡ None
@@ -60,16 +55,7 @@ module _ {K E : Type 0} (meant : K → Key) where
   -- in ascending rows, the value at the key of any row is that row's value
   pub value_of : (rows : List (K × E)) (row : K × E) → AreUp rows → Contains rows row → value_in rows (meant row.0) ≡ Some row.1
   value_of [] row up among = absurd (nil-Contains row among)
-  value_of (first ∷ rows) row up among = by (value_of rows row up.1) (Contains-cons first rows row among)
-    where
-      by : (Contains rows row → value_in rows (meant row.0) ≡ Some row.1) → (first ≡ row) ⊎ Contains rows row
-          → value_in (first ∷ rows) (meant row.0) ≡ Some row.1
-      by rest (inl same) = subst (λ (r : K × E). value_in (first ∷ rows) (meant r.0) ≡ Some r.1) same
-          (value_here first rows (meant first.0) (tied_itself key_total (meant first.0)))
-      by rest (inr inside) =
-          value_behind first rows (meant row.0)
-          (λ tied. let below : keyed_cmp first row ≡ Less = below_by_recursion (IsBelow keyed_cmp first) rows row up.0 inside in cc)
-          ∙ rest inside
+  value_of (first ∷ rows) row up among = grind (common_steps, arith, value_here, key_total, value_behind, below_by_recursion, (value_of rows row up.1))
 
   -- if rows have a value at a key, some row has this key and this value
   pub row_of : (rows : List (K × E)) (key : Key) (value : E) → value_in rows key ≡ Some value → RowWith rows key value
@@ -91,11 +77,10 @@ module _ {K E : Type 0} (meant : K → Key) where
   -- if they are converted to equal keys
   pub same_rows : ((a b : K) → meant a ≡ meant b → a ≡ b) → (a b : List (K × E)) → AreUp a → AreUp b
       → ((key : Key) → value_in a key ≡ value_in b key) → a ≡ b
-  same_rows same_key a b up_a up_b same =
-      same_list keyed_total a b up_a up_b (λ row. (into a b up_a same row, into b a up_b (λ key. sym (same key)) row))
+  same_rows same_key a b up_a up_b same = same_list keyed_total _ _ up_a up_b (λ row. (into a b up_a same row, into b a up_b (λ key. sym (same key)) row))
     where
       into : (x y : List (K × E)) → AreUp x → ((key : Key) → value_in x key ≡ value_in y key) → (row : K × E) → Contains x row → Contains y row
       into x y up_x alike row among =
-          let there = row_of y (meant row.0) row.1 (sym (alike (meant row.0)) ∙ value_of x row up_x among) in
+          let there = row_of _ _ _ (sym (alike (meant row.0)) ∙ value_of _ _ up_x among) in
           let whole : there.0 ≡ row = (λ i. (same_key there.0.0 row.0 there.2 i, there.3 i)) in
           subst (Contains y) whole there.1

@@ -1,6 +1,7 @@
 -- The laws of a function that joins two values, derived from the laws of a relation between two
 -- values and their join.
 use Rattle.std.specs.Prelude.{◌≡◌}
+use Rattle.std.proofs.Common.{rules}
 
 -- The laws of a function that joins two values: it is commutative, associative and idempotent, and
 -- the result is valid.
@@ -21,11 +22,4 @@ pub pick_laws : {E : Type 0} (valid : E → Type 0) (is_join : E → E → E →
     → ((a : E) → valid a → is_join a a a)
     → ((a b : E) → is_join a b (picked a b))
     → ArePickLaws valid picked
-pick_laws valid is_join picked closed one commutative associative idempotent joins = record {
-  closed = λ a b good_a good_b. closed a b (picked a b) good_a good_b (joins a b);
-  commutes = λ a b good_a good_b. one a b (picked a b) (picked b a) good_a good_b (joins a b) (commutative b a (picked b a) good_b good_a (joins b a));
-  associates = λ a b c good_a good_b good_c.
-      associative a b c (picked a b) (picked b c) (picked (picked a b) c) (picked a (picked b c)) good_a good_b good_c
-      (joins a b) (joins (picked a b) c) (joins b c) (joins a (picked b c));
-  itself = λ a good. one a a (picked a a) a good good (joins a a) (idempotent a good);
-}
+pick_laws = search rules

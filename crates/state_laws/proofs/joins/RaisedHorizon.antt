@@ -1,20 +1,19 @@
 -- Setting a horizon that isn't greater than the state's horizon leaves a valid state unchanged. A
 -- horizon may be set after a join instead of before the join. If the horizon is 0, no entry lapses.
-use Rattle.std.proofs.Common.{◌≡◌, ℕ, ◌≤◌, List, [], ◌∷◌, Contains, subst, ap, sym, ◌∙◌, arith}
+use Rattle.std.proofs.Common.{◌≡◌, ℕ, ◌≤◌, List, Contains, subst, ap, sym, ◌∙◌, rules}
 use Rattle.std.specs.Prelude.{Option, ◌↔◌, max}
 use Rattle.std.proofs.Math.Nat.{le-max_left, max-eq_left, max-zero, zero-max}
-use Rattle.std.proofs.lemmas.List.Elements.{All-contains, recursion_from_All, All-from_recursion}
-use Rattle.std.specs.List.{AllByRecursion}
+use Rattle.std.proofs.lemmas.List.Elements.{recursion_from_All}
 use Rattle.docker_model.specs.file.Change.{Key}
 use Rattle.docker_model.specs.state.Order.{IsStrictlyAscending}
 use Rattle.docker_model.specs.state.Stamp.{FileStamp, LedgerItem, ledger_item_cmp, ledger_item_of}
-use Rattle.docker_model.specs.state.Op.{Op, deleted, lapsed, put_with, Entry}
+use Rattle.docker_model.specs.state.Op.{Op, Entry}
 use Rattle.docker_model.specs.state.Lapse.{lapse_entry, HasNotToLapse}
 use Rattle.docker_model.specs.state.State.{State, AreAscending, HaveLapsed, IsValid, IsJoin, lapse_state, raise_horizon}
 use Rattle.state_laws.specs.LawTerms.{without_horizon}
 use Rattle.docker_model.specs.state.Summary.{IsFloorOf, IsKeptFile, IsSummary, IsGreatestEntryOf}
 use Rattle.state_laws.proofs.states.PlainTable.{Keyed}
-use Rattle.state_laws.proofs.states.Lapse.{entry_twice, entry_stays, lapse_none}
+use Rattle.state_laws.proofs.states.Lapse.{entry_twice, lapse_none}
 use Rattle.state_laws.proofs.states.LapsedGreatest.{lapsed_from, lapsed_to}
 use Rattle.state_laws.proofs.states.KeptEntries.{lapse_ascends, entries_stay}
 
@@ -24,17 +23,7 @@ use Rattle.state_laws.proofs.states.KeptEntries.{lapse_ascends, entries_stay}
 -- the state's horizon
 pub lapsed_already : (horizon : ℕ) (state : State) → HaveLapsed horizon state.entries
     → lapse_state horizon state ≡ record { horizon = horizon; ledger = state.ledger; entries = state.entries }
-lapsed_already horizon state all = λ i. record {
-  horizon = horizon;
-  ledger = state.ledger;
-  entries = entries_stay horizon state.entries (recursion_from_All (λ (entry : Keyed). HasNotToLapse horizon entry.1.op) state.entries all) i;
-}
-
--- lapsing an entry of a valid state with the state's own horizon leaves the entry unchanged
-pub entry_of_valid_stays : (state : State) (key : Key) (entry : Entry) → IsValid state → Contains state.entries (key, entry)
-    → lapse_entry state.horizon entry ≡ entry
-entry_of_valid_stays state key entry valid among =
-    entry_stays state.horizon entry (All-contains (λ (e : Keyed). HasNotToLapse state.horizon e.1.op) state.entries (key, entry) valid.have_lapsed among)
+lapsed_already = search (rules, entries_stay, recursion_from_All)
 
 -- setting a horizon that isn't greater than the state's horizon leaves a valid state unchanged
 pub not_greater : (horizon : ℕ) (state : State) → IsValid state → horizon ≤ state.horizon → raise_horizon horizon state ≡ state
@@ -42,8 +31,7 @@ not_greater horizon state valid low = ap (λ h. lapse_state h state) (max-eq_lef
 
 -- removing the horizon of a valid state and setting it again leaves the state unchanged
 pub set_last : (state : State) → IsValid state → raise_horizon state.horizon (without_horizon state) ≡ state
-set_last state valid =
-    ap (λ h. lapse_state h (without_horizon state)) (zero-max state.horizon) ∙ lapsed_already state.horizon (without_horizon state) valid.have_lapsed
+set_last = search (rules, zero-max, lapsed_already)
 
 -- ---- a horizon may be set after a join instead of before
 
@@ -56,15 +44,15 @@ join_then_set a b c is = record {
   is_floor = is.is_floor;
   ledger_ascends = is.ledger_ascends;
   ledger = is.ledger;
-  entries_ascend = lapse_ascends (max c.horizon b.horizon) c.entries is.entries_ascend;
+  entries_ascend = lapse_ascends _ c.entries is.entries_ascend;
   entries = λ key entry. (
     λ among.
-        let before = lapsed_from (max c.horizon b.horizon) c.entries key entry among in
+        let before = lapsed_from _ c.entries _ entry among in
         let told = (is.entries key before.0).0 before.1 in
         (told.0, told.1, told.2, sym (twofold told.0) ∙ ap (lapse_entry (max c.horizon b.horizon)) told.3 ∙ before.2),
     λ told.
         let there = (is.entries key (lapse_entry c.horizon told.0)).1 (told.0, told.1, told.2, λ i. lapse_entry c.horizon told.0) in
-        subst (λ e. Contains (raise_horizon b.horizon c).entries (key, e)) (twofold told.0 ∙ told.3) (lapsed_to (max c.horizon b.horizon) c.entries key
+        subst (λ e. Contains (raise_horizon b.horizon c).entries (key, e)) (twofold told.0 ∙ told.3) (lapsed_to _ c.entries _
         (lapse_entry c.horizon told.0) there),
   );
 }
@@ -73,21 +61,15 @@ join_then_set a b c is = record {
     horizons = ap (λ h. max h b.horizon) (is.horizon ∙ max-zero a.horizon)
 
     twofold : (entry : Entry) → lapse_entry (max c.horizon b.horizon) (lapse_entry c.horizon entry) ≡ lapse_entry (max c.horizon b.horizon) entry
-    twofold entry = entry_twice (max c.horizon b.horizon) c.horizon entry ∙ ap (λ h. lapse_entry h entry) (max-eq_left (le-max_left c.horizon b.horizon))
+    twofold entry = entry_twice _ c.horizon _ ∙ ap (λ h. lapse_entry h entry) (max-eq_left (le-max_left c.horizon b.horizon))
 
 -- if the horizon is 0, no op has to lapse
 pub none_has_to : (op : Op) → HasNotToLapse 0 op
-none_has_to deleted = tt
-none_has_to lapsed = tt
-none_has_to (put_with body) = omega arith
+none_has_to = search rules
 
 -- if the horizon is 0, no entry has to lapse
 pub none_to_lapse : (entries : List Keyed) → HaveLapsed 0 entries
-none_to_lapse entries = All-from_recursion (λ (entry : Keyed). HasNotToLapse 0 entry.1.op) entries (each entries)
-  where
-    each : (xs : List Keyed) → AllByRecursion (λ (entry : Keyed). HasNotToLapse 0 entry.1.op) xs
-    each [] = tt
-    each (x ∷ xs) = (none_has_to x.1.op, each xs)
+none_to_lapse = search (rules, none_has_to)
 
 -- `state` is the summary of the files without a horizon. For each key it has the greatest entry
 -- from the files that aren't below the floor, and no entry has lapsed
@@ -114,8 +96,8 @@ plain_summary files state = (
     ledger = is.ledger;
     entries_ascend = is.entries_ascend;
     entries = λ key entry. (
-      λ among. (entry, (is.entries key entry).0 among, lapse_entry_none entry),
-      λ told. subst (λ e. Contains state.entries (key, e)) (sym (lapse_entry_none told.0) ∙ told.2) ((is.entries key told.0).1 told.1),
+      λ among. (entry, (is.entries key entry).0 among, lapse_entry_none _),
+      λ told. subst (λ e. Contains state.entries (key, e)) (sym (lapse_entry_none _) ∙ told.2) ((is.entries key told.0).1 told.1),
     );
   },
   λ is. record {
@@ -128,8 +110,8 @@ plain_summary files state = (
     entries = λ key entry. (
       λ among.
           let told = (is.entries key entry).0 among in
-          subst (λ e. IsGreatestEntryOf files is.floor key e) (sym (lapse_entry_none told.0) ∙ told.2) told.1,
-      λ best. (is.entries key entry).1 (entry, best, lapse_entry_none entry),
+          subst (λ e. IsGreatestEntryOf files is.floor key e) (sym (lapse_entry_none _) ∙ told.2) told.1,
+      λ best. (is.entries key entry).1 (entry, best, lapse_entry_none _),
     );
   },
 )

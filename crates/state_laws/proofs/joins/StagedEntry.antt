@@ -1,9 +1,8 @@
 -- When one more entry is offered for staging, it is staged or left out. The first lemmas are about
 -- the entry that a state has at a key.
-use Rattle.std.proofs.Common.{◌≡◌, List, [], ◌∷◌, ◌++◌, refl, ap, sym, ◌∙◌, subst, inl, inr, ◌⊎◌, Some, None, Contains, arith}
+use Rattle.std.proofs.Common.{◌≡◌, List, [], ◌∷◌, ◌++◌, refl, ap, sym, ◌∙◌, subst, inl, inr, ◌⊎◌, Some, None, Contains, arith, rules}
 use Rattle.std.specs.Prelude.{Option, ◌↔◌, option_and_then}
 use Rattle.std.specs.declared.cmp.Ordering.TheVariants.{Less}
-use Rattle.std.specs.Ordering.{on}
 use Rattle.std.proofs.lemmas.List.Elements.{Contains-append_left, Contains-append_right, Contains-append_cases}
 use Rattle.docker_model.specs.file.Change.{Key}
 use Rattle.docker_model.specs.state.Order.{IsBelow}
@@ -32,17 +31,17 @@ Some_is a b h = cc
 -- key with this entry
 pub entry_at_iff : (state : State) → AreAscending state.entries → (key : Key) (entry : Entry) → (entry_at state key ≡ Some entry) ↔ Contains state.entries
     (key, entry)
-entry_at_iff state up key entry = by (find_in state.entries key)
+entry_at_iff state up key entry = by (find_in _ _)
   where
     by : Found state.entries key ⊎ NotFound state.entries key → (entry_at state key ≡ Some entry) ↔ Contains state.entries (key, entry)
     by (inl (pair, found, here)) =
         let at : entry_at state key ≡ Some pair.1 = ap (option_and_then (λ (e : Keyed). Some e.1)) found in (
-          λ is. subst (λ e. Contains state.entries (key, e)) (Some_is pair.1 entry (sym at ∙ is)) here,
-          λ among. at ∙ ap Some (one_per_key state.entries up key pair.1 entry here among),
+          λ is. subst (λ e. Contains state.entries (key, e)) (Some_is _ _ (sym at ∙ is)) here,
+          λ among. at ∙ ap Some (one_per_key _ up _ _ _ here among),
         )
     by (inr (missing, none)) =
         let at : entry_at state key ≡ None = ap (option_and_then (λ (e : Keyed). Some e.1)) missing in (
-          λ is. none_some entry (sym at ∙ is),
+          λ is. none_some _ (sym at ∙ is),
           λ among. absurd (none entry among),
         )
 
@@ -69,10 +68,7 @@ to_stage_by_get own up floor key entry = by (entry_at own key) refl
 
 -- as long as no entry has been offered for staging, no entry is staged
 pub nothing_staged : (own : State) (floor : Option FileStamp) → IsStaged own floor [] []
-nothing_staged own floor = record {
-  ascending = tt;
-  members = λ key entry. (λ among. absurd (nil-Contains (key, entry) among), λ told. absurd (nil-Contains (key, entry) told.0));
-}
+nothing_staged = search (rules, nil-Contains)
 
 module _ (own : State) (floor : Option FileStamp) (offered staged : List (Key × Entry)) (key : Key) (entry : Entry)
     (stages : IsStaged own floor offered staged) where
@@ -80,10 +76,8 @@ module _ (own : State) (floor : Option FileStamp) (offered staged : List (Key ×
   pub one_staged_more : ((other : Key × Entry) → Contains staged other → key_cmp other.0 key ≡ Less) → IsToStage own floor key entry
       → IsStaged own floor (offered ++ (key, entry) ∷ []) (staged ++ (key, entry) ∷ [])
   one_staged_more above to = record {
-    ascending = ascending_of (on (λ (e : Key × Entry). e.0) key_cmp) (staged ++ (key, entry) ∷ [])
-        (later_append (IsBelow (on (λ (e : Key × Entry). e.0) key_cmp)) staged ((key, entry) ∷ [])
-        (later_of (on (λ (e : Key × Entry). e.0) key_cmp) staged stages.ascending) (tt, tt)
-        (λ a b in_a in_b. subst (λ (e : Key × Entry). key_cmp a.0 e.0 ≡ Less) (Contains-single (key, entry) b in_b) (above a in_a)));
+    ascending = ascending_of _ _ (later_append _ _ _ (later_of _ _ stages.ascending) (tt, tt)
+        (λ a b in_a in_b. subst (λ (e : Key × Entry). key_cmp a.0 e.0 ≡ Less) (Contains-single _ _ in_b) (above a in_a)));
     members = λ k e. (
       λ among. forth k e (Contains-append_cases staged ((key, entry) ∷ []) (k, e) among),
       λ told. back k e told.1 (Contains-append_cases offered ((key, entry) ∷ []) (k, e) told.0),
@@ -95,7 +89,7 @@ module _ (own : State) (floor : Option FileStamp) (offered staged : List (Key ×
       forth k e (inl here) = let told = (stages.members k e).0 here in (Contains-append_left offered ((key, entry) ∷ []) (k, e) told.0, told.1)
       forth k e (inr here) = (
         Contains-append_right offered ((key, entry) ∷ []) (k, e) here,
-        subst (λ (v : Key × Entry). IsToStage own floor v.0 v.1) (Contains-single (key, entry) (k, e) here) to,
+        subst (λ (v : Key × Entry). IsToStage own floor v.0 v.1) (Contains-single _ _ here) to,
       )
 
       back : (k : Key) (e : Entry) → IsToStage own floor k e → Contains offered (k, e) ⊎ Contains {X = Key × Entry} ((key, entry) ∷ []) (k, e)
@@ -116,8 +110,7 @@ module _ (own : State) (floor : Option FileStamp) (offered staged : List (Key ×
       back : (k : Key) (e : Entry) → IsToStage own floor k e → Contains offered (k, e) ⊎ Contains {X = Key × Entry} ((key, entry) ∷ []) (k, e)
           → Contains staged (k, e)
       back k e to_stage (inl here) = (stages.members k e).1 (here, to_stage)
-      back k e to_stage (inr here) =
-          absurd (out (subst (λ (v : Key × Entry). IsToStage own floor v.0 v.1) (sym (Contains-single (key, entry) (k, e) here)) to_stage))
+      back k e to_stage (inr here) = absurd (out (subst (λ (v : Key × Entry). IsToStage own floor v.0 v.1) (sym (Contains-single _ _ here)) to_stage))
 
 -- ---- after all entries are offered, the commit makes the join
 
@@ -128,9 +121,8 @@ pub staging_joins_before : (own received : State) (floor : Option FileStamp) (st
     → IsFloor (own.ledger ++ received.ledger) floor → IsStaged own floor received.entries staged → IsCommit own received.ledger staged after
     → IsJoin own (without_horizon received) after
 staging_joins_before own received floor staged after valid valid_too is_floor stages commit =
-    let floors : floor ≡ commit.floor = floor_unique (own.ledger ++ received.ledger) (own.ledger ++ received.ledger)
-    (λ item. (λ x. x, λ x. x)) floor commit.floor is_floor commit.is_floor in
-    commit_is_join own received valid valid_too staged after commit (subst (λ f. IsStaged own f received.entries staged) floors stages)
+    let floors : floor ≡ commit.floor = floor_unique (own.ledger ++ received.ledger) _ (λ item. (λ x. x, λ x. x)) floor _ is_floor commit.is_floor in
+    commit_is_join own _ valid valid_too staged _ commit (subst (λ f. IsStaged own f received.entries staged) floors stages)
 
 -- suppose that all entries of a received state are offered for staging to the office whose state is
 -- `own`. Then the staged entries are committed, and the received horizon is set. The result is the
@@ -138,18 +130,16 @@ staging_joins_before own received floor staged after valid valid_too is_floor st
 pub staging_joins : (own received : State) (floor : Option FileStamp) (staged : List (Key × Entry)) (after : State) → IsValid own → IsValid received
     → IsFloor (own.ledger ++ received.ledger) floor → IsStaged own floor received.entries staged → IsCommit own received.ledger staged after
     → IsJoin own received (raise_horizon received.horizon after)
-staging_joins own received floor staged after valid valid_too is_floor stages commit =
-    join_then_set own received after (staging_joins_before own received floor staged after valid valid_too is_floor stages commit)
+staging_joins = search (rules, join_then_set, staging_joins_before)
 
 -- the state after a commit is valid
 pub commit_is_valid : (own received : State) (floor : Option FileStamp) (staged : List (Key × Entry)) (after : State) → IsValid own → IsValid received
     → IsFloor (own.ledger ++ received.ledger) floor → IsStaged own floor received.entries staged → IsCommit own received.ledger staged after → IsValid after
-commit_is_valid own received floor staged after valid valid_too is_floor stages commit =
-    join_is_valid own (without_horizon received) after valid without
-    (staging_joins_before own received floor staged after valid valid_too is_floor stages commit)
+commit_is_valid own received floor staged after valid valid_too is_floor stages commit = join_is_valid _ _ _ valid without
+    (staging_joins_before _ _ _ _ _ valid valid_too is_floor stages commit)
   where
     without : IsValid (without_horizon received)
-    without = record { horizon = omega arith; ledger = valid_too.ledger; entries = valid_too.entries; have_lapsed = none_to_lapse received.entries }
+    without = record { horizon = omega arith; ledger = valid_too.ledger; entries = valid_too.entries; have_lapsed = none_to_lapse _ }
 
 -- if all entries of a state are offered for staging to an office that has this state, no entry is
 -- staged

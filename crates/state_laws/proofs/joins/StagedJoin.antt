@@ -1,7 +1,7 @@
 -- All entries of a received state are passed to an office for staging, and the office commits the
 -- staged entries. The result is the join of the office's state with the received state without the
 -- received horizon.
-use Rattle.std.proofs.Common.{◌≡◌, ℕ, List, ◌++◌, ap, sym, ◌∙◌, subst, inl, inr, ◌⊎◌, Some, None, Contains}
+use Rattle.std.proofs.Common.{◌≡◌, ℕ, List, ◌++◌, ap, sym, ◌∙◌, subst, inl, inr, ◌⊎◌, Some, None, Contains, rules}
 use Rattle.std.specs.Prelude.{Option}
 use Rattle.std.specs.declared.cmp.Ordering.TheVariants.{Equal}
 use Rattle.std.specs.Ordering.{ordering_reverse, ordering_then, nat_cmp}
@@ -70,8 +70,8 @@ module _ (own received : State) (valid : IsValid own) (valid_too : IsValid recei
     where
       under : Contains received.entries (key, entry) → IsToStage own commit.floor key entry → (other : Entry) → Contains own.entries (key, other)
           ⊎ Contains received.entries (key, other) → IsAtMost entry_cmp other entry
-      under offered to other (inl here) = at_most_below entry_cmp other entry (to.greater other here)
-      under offered to other (inr here) = subst (λ e. IsAtMost entry_cmp other e) (one_received key other entry here offered) (at_most_itself entry_total other)
+      under offered to other (inl here) = at_most_below entry_cmp _ entry (to.greater other here)
+      under offered to other (inr here) = subst (λ e. IsAtMost entry_cmp other e) (one_received _ other _ here offered) (at_most_itself entry_total other)
 
   -- suppose that an entry of our own state isn't below the floor, and that no entry for its key is
   -- staged. Then it is the greatest entry that the two states have for the key
@@ -104,8 +104,7 @@ module _ (own received : State) (valid : IsValid own) (valid_too : IsValid recei
       under other (inr here) = by other here (at_most_or entry_total other entry)
 
   forth : (key : Key) (entry : Entry) → IsPutIn own staged commit.floor key entry → Best key entry
-  forth key entry (inl here) = staged_best key entry here
-  forth key entry (inr told) = own_best key entry told.0 told.1 told.2
+  forth = search (rules, staged_best, own_best)
 
   -- suppose that the greatest entry that the two states have for a key isn't below the floor. Then
   -- it is staged, or it is in our own state and no entry for the key is staged
@@ -122,26 +121,25 @@ module _ (own received : State) (valid : IsValid own) (valid_too : IsValid recei
           let below = told.1.greater entry here in
           up (entry_total.antisymm other entry ∙ ap ordering_reverse below)
 
-      as_received : Contains received.entries (key, entry) → Found own.entries key ⊎ NotFound own.entries key
-          → IsPutIn own staged commit.floor key entry
+      as_received : Contains received.entries (key, entry) → Found own.entries key ⊎ NotFound own.entries key → IsPutIn own staged commit.floor key entry
       as_received here (inr none) = inl ((stages.members key entry).1 (here, record { kept = best.1; greater = λ other inside. absurd (none.1 other inside) }))
       as_received here (inl found) =
-          pick (best.0.greatest found.0.1 (Contains-append_left own.entries received.entries (key, found.0.1) found.2)) (at_most_or entry_total entry found.0.1)
+          pick (best.0.greatest found.0.1 (Contains-append_left own.entries received.entries (key, found.0.1) found.2)) (at_most_or entry_total _ found.0.1)
         where
           pick : IsAtMost entry_cmp found.0.1 entry → IsAtMost entry_cmp entry found.0.1 ⊎ IsBelow entry_cmp found.0.1 entry
               → IsPutIn own staged commit.floor key entry
           pick low (inl high) =
-              let same = tied_equal key found.0.1 entry found.2 here (level entry_total found.0.1 entry low high) in
+              let same = tied_equal _ found.0.1 _ found.2 here (level entry_total found.0.1 _ low high) in
               let mine = subst (λ e. Contains own.entries (key, e)) same found.2 in
               inr (mine, best.1, none_staged mine)
           pick low (inr below) = inl ((stages.members key entry).1 (
             here,
-            record { kept = best.1; greater = λ other inside. subst (λ e. IsBelow entry_cmp e entry) (one_own key found.0.1 other found.2 inside) below },
+            record { kept = best.1; greater = λ other inside. subst (λ e. IsBelow entry_cmp e entry) (one_own key _ other found.2 inside) below },
           ))
 
       by : Contains own.entries (key, entry) ⊎ Contains received.entries (key, entry) → IsPutIn own staged commit.floor key entry
       by (inl here) = inr (here, best.1, none_staged here)
-      by (inr here) = as_received here (find_in own.entries key)
+      by (inr here) = as_received here (find_in _ key)
 
   -- the state after a commit is the join of `own` with the received state without its horizon
   pub commit_is_join : IsJoin own (without_horizon received) after
@@ -156,9 +154,9 @@ module _ (own received : State) (valid : IsValid own) (valid_too : IsValid recei
     entries = λ key entry. (
       λ among.
           let told = (commit.entries key entry).0 among in
-          let best = forth key told.0 told.1 in
+          let best = forth _ _ told.1 in
           (told.0, best.0, best.1, told.2),
-      λ told. (commit.entries key entry).1 (told.0, back key told.0 (told.1, told.2), told.3),
+      λ told. (commit.entries key entry).1 (told.0, back _ _ (told.1, told.2), told.3),
     );
   }
 
@@ -166,15 +164,14 @@ module _ (own received : State) (valid : IsValid own) (valid_too : IsValid recei
 pub one_commit : (own : State) (items : List LedgerItem) (staged : List (Key × Entry)) (a b : State) → IsCommit own items staged a → IsCommit own items staged b
     → a ≡ b
 one_commit own items staged a b one two =
-    let floors : one.floor ≡ two.floor = floor_unique (own.ledger ++ items) (own.ledger ++ items)
-    (λ item. (λ x. x, λ x. x)) one.floor two.floor one.is_floor two.is_floor in
+    let floors : one.floor ≡ two.floor = floor_unique _ _ (λ item. (λ x. x, λ x. x)) _ _ one.is_floor two.is_floor in
     let horizons : a.horizon ≡ b.horizon = one.horizon ∙ sym two.horizon in
-    let ledgers : a.ledger ≡ b.ledger = same_list ledger_item_total a.ledger b.ledger one.ledger_ascends two.ledger_ascends (λ item. (
+    let ledgers : a.ledger ≡ b.ledger = same_list ledger_item_total _ _ one.ledger_ascends two.ledger_ascends (λ item. (
       λ among. let told = (one.ledger item).0 among in (two.ledger item).1 (told.0, subst (λ floor. IsKept floor item.stamp) floors told.1),
       λ among. let told = (two.ledger item).0 among in (one.ledger item).1 (told.0, subst (λ floor. IsKept floor item.stamp) (sym floors) told.1),
     )) in
     let entries : a.entries ≡ b.entries = same_list
-    (on_total (λ (entry : Key × Entry). entry.0) key_total) a.entries b.entries one.entries_ascend two.entries_ascend (λ entry. (
+    (on_total (λ (entry : Key × Entry). entry.0) key_total) _ _ one.entries_ascend two.entries_ascend (λ entry. (
       λ among. (two.entries entry.0 entry.1).1 (moved entry.0 entry.1 one.floor two.floor a.horizon b.horizon floors horizons
           ((one.entries entry.0 entry.1).0 among)),
       λ among. (one.entries entry.0 entry.1).1 (moved entry.0 entry.1 two.floor one.floor b.horizon a.horizon (sym floors) (sym horizons)
@@ -191,8 +188,7 @@ one_commit own items staged a b one two =
 -- the offered entries uniquely determine the staged entries
 pub one_staged : (own : State) (floor : Option FileStamp) (offered a b : List (Key × Entry)) → IsStaged own floor offered a → IsStaged own floor offered b
     → a ≡ b
-one_staged own floor offered a b one two =
-    same_list (on_total (λ (entry : Key × Entry). entry.0) key_total) a b one.ascending two.ascending (λ entry. (
-      λ among. (two.members entry.0 entry.1).1 ((one.members entry.0 entry.1).0 among),
-      λ among. (one.members entry.0 entry.1).1 ((two.members entry.0 entry.1).0 among),
-    ))
+one_staged own floor offered a b one two = same_list (on_total (λ (entry : Key × Entry). entry.0) key_total) _ _ one.ascending two.ascending (λ entry. (
+  λ among. (two.members entry.0 entry.1).1 ((one.members entry.0 entry.1).0 among),
+  λ among. (one.members entry.0 entry.1).1 ((two.members entry.0 entry.1).0 among),
+))

@@ -27,11 +27,11 @@ staged_is_valid own received floor staged valid stages = record {
   horizon = omega arith;
   ledger = valid.ledger;
   entries = (
-    all_members (IsGoodEntry received.ledger) staged (λ entry among.
+    all_members _ _ (λ entry among.
         All-contains (IsGoodEntry received.ledger) received.entries entry valid.entries.0 ((stages.members entry.0 entry.1).0 among).0),
     stages.ascending,
   );
-  have_lapsed = none_to_lapse staged;
+  have_lapsed = none_to_lapse _;
 }
 
 module _ (own received : State) (floor : Option FileStamp) (staged : List (Key × Entry)) (after : State) (up : AreAscending own.entries)
@@ -52,13 +52,11 @@ module _ (own received : State) (floor : Option FileStamp) (staged : List (Key �
   forth key entry best = by (Contains-append_cases own.entries staged (key, entry) best.0.among)
     where
       by : Contains own.entries (key, entry) ⊎ Contains staged (key, entry) → IsPutIn own staged join.floor key entry
-      by (inl here) =
-          inr (
-            here,
-            best.1,
-            λ other there. above key entry other here there
-                (best.0.greatest other (Contains-append_right own.entries staged (key, other) there)),
-          )
+      by (inl here) = inr (
+        here,
+        best.1,
+        λ other there. above _ _ _ here there (best.0.greatest other (Contains-append_right own.entries staged (key, other) there)),
+      )
       by (inr there) = inl there
 
   back : (key : Key) (entry : Entry) → IsPutIn own staged join.floor key entry → Best key entry

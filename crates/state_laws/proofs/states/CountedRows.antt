@@ -1,10 +1,7 @@
 -- A restricted table has only the keys that pass a test. Its rows are the rows of the whole table
 -- whose keys pass the test.
-use Rattle.std.proofs.Common.{◌≡◌, ℕ, List, refl, ap, sym, ◌∙◌, Bool, true, false, cond, Some, None}
-use Rattle.std.specs.Ordering.{on}
+use Rattle.std.proofs.Common.{◌≡◌, ℕ, List, ap, sym, ◌∙◌, Bool, true, cond, Some, None, rules}
 use Rattle.docker_model.specs.file.Change.{Key, association_key, schedule_key, Body, association_body, schedule_body}
-use Rattle.docker_model.specs.state.Op.{key_cmp}
-use Rattle.docker_model.specs.state.Order.{IsBelow}
 use Rattle.docker_model.specs.state.State.{HasGoodBodies}
 use Rattle.docker_model.specs.state.Table.{Table}
 use Rattle.state_laws.specs.Index.{AreCalling, AreLinked, AreOfUid}
@@ -20,18 +17,12 @@ module _ (counts : Key → Bool) where
 
   -- if rows are in key order, the rows that pass the test are in key order
   counted_ascend : (rows : List Row) → AreInKeyOrder rows → AreInKeyOrder (counted_rows counts rows)
-  counted_ascend rows up =
-      ascending_of (on (λ (row : Row). row.0) key_cmp) (counted_rows counts rows)
-      (later_filter (IsBelow (on (λ (row : Row). row.0) key_cmp)) row_counts rows (later_of (on (λ (row : Row). row.0) key_cmp) rows up))
+  counted_ascend = search (rules, ascending_of, later_filter, later_of)
 
   -- if the restricted table has a body at a key, the whole table has the same body at this key, and
   -- the key passes the test
   pub was_counted : (live : Table) (key : Key) (body : Body) → counted_table counts live key ≡ Some body → (counts key ≡ true) × (live key ≡ Some body)
-  was_counted live key body is = by (counts key) refl is
-    where
-      by : (b : Bool) → counts key ≡ b → cond b (live key) None ≡ Some body → (counts key ≡ true) × (live key ≡ Some body)
-      by true h told = (h, told)
-      by false h none = absurd (let bad : None ≡ Some body = none in cc)
+  was_counted = search rules
 
   -- if the whole table has a body at a key, and the key passes the test, the restricted table has
   -- the same body at this key

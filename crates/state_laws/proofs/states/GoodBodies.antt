@@ -1,12 +1,11 @@
 -- The bodies in the live table of a valid state are well formed. Each of these bodies belongs to an
 -- entry of the state.
-use Rattle.std.proofs.Common.{◌≡◌, refl, ap, sym, ◌∙◌, subst, Some, None, Contains}
+use Rattle.std.proofs.Common.{◌≡◌, refl, ap, sym, ◌∙◌, subst, Some, None, Contains, rules}
 use Rattle.std.specs.Prelude.{Option, find}
 use Rattle.std.specs.Ordering.{is_eq}
-use Rattle.std.proofs.lemmas.List.Elements.{All-contains}
 use Rattle.docker_model.specs.file.Change.{Key, Body}
 use Rattle.docker_model.specs.state.Op.{Op, deleted, lapsed, put_with, Entry, body_of, key_cmp}
-use Rattle.docker_model.specs.state.State.{State, IsValid, IsGoodEntry, IsOpOf, live_table, HasGoodBodies}
+use Rattle.docker_model.specs.state.State.{State, IsValid, live_table, HasGoodBodies}
 use Rattle.state_laws.proofs.states.PlainTable.{Keyed, live_at, live_none}
 use Rattle.cif_laws.proofs.orders.Orders.{same_key}
 use Rattle.cif_laws.proofs.lists.FilteredMembers.{find_some}
@@ -32,7 +31,4 @@ live_entry state key body is = by (find (λ entry. is_eq (key_cmp entry.0 key)) 
 
 -- the bodies in the live table of a valid state are well formed
 pub good_bodies : (state : State) → IsValid state → HasGoodBodies (live_table state)
-good_bodies state valid key body is =
-    let found = live_entry state key body is in
-    let good : IsGoodEntry state.ledger (key, found.0) = All-contains (IsGoodEntry state.ledger) state.entries (key, found.0) valid.entries.0 found.1 in
-    subst (IsOpOf key) found.2 good.op
+good_bodies = search (rules, live_entry)

@@ -1,11 +1,11 @@
 -- Lemmas on how a floor and a horizon affect entries. If an entry isn't below the floor, no greater
 -- entry is below the floor. Lapsing preserves the key order of entries.
-use Rattle.std.proofs.Common.{◌≡◌, ℕ, ◌<◌, ◌≤◌, List, [], ◌∷◌, subst, inl, inr, ◌⊎◌, refl, sym, ◌∙◌, Some, None}
+use Rattle.std.proofs.Common.{◌≡◌, ℕ, ◌<◌, ◌≤◌, List, [], ◌∷◌, subst, inl, inr, ◌⊎◌, refl, sym, ◌∙◌, Some, None, rules}
 use Rattle.std.specs.Prelude.{Option}
 use Rattle.std.specs.List.{AllByRecursion}
 use Rattle.std.specs.declared.cmp.Ordering.{Ordering}
 use Rattle.std.specs.declared.cmp.Ordering.TheVariants.{Less, Equal, Greater}
-use Rattle.std.specs.Ordering.{ordering_then, nat_cmp, on}
+use Rattle.std.specs.Ordering.{ordering_then, on}
 use Rattle.docker_model.specs.state.Order.{IsBelow, IsAtMost}
 use Rattle.docker_model.specs.state.Stamp.{FileStamp, stamp_cmp, IsKept}
 use Rattle.docker_model.specs.state.Op.{key_cmp, body_end, Op, deleted, lapsed, put_with, op_cmp, Entry, entry_cmp}
@@ -19,9 +19,7 @@ use Rattle.state_laws.proofs.states.Lapse.{below_or, put_lapses, put_stays, entr
 -- if the lower of two entries isn't below the floor, the greater entry isn't below the floor either
 pub kept_up : (floor : Option FileStamp) (low high : Entry) → IsAtMost entry_cmp low high → IsKept floor low.stamp.file → IsKept floor high.stamp.file
 kept_up None low high most kept = tt
-kept_up (Some floor) low high most kept =
-    at_most_trans file_stamp_total floor low.stamp.file high.stamp.file kept
-    (λ greater. most (λ i. ordering_then (ordering_then (greater i) (nat_cmp low.stamp.number high.stamp.number)) (op_cmp low.op high.op)))
+kept_up (Some floor) low high most kept = search (rules, at_most_trans, file_stamp_total)
 
 -- an op is never greater after lapsing than before
 op_lapse_below : (horizon : ℕ) (op : Op) → IsAtMost op_cmp (lapse horizon op) op

@@ -38,8 +38,8 @@ pub greatest_op_lapses : (horizon : ℕ) (ops : List Op) (op : Op) → Contains 
     → Contains (map (lapse horizon) ops) (lapse horizon op) × ((other : Op) → Contains (map (lapse horizon) ops) other
     → IsAtMost op_cmp other (lapse horizon op))
 greatest_op_lapses horizon ops op among greatest = (
-  map-Contains (lapse horizon) ops op among,
+  map-Contains _ ops _ among,
   λ other inside.
-      let found = Contains-map (lapse horizon) ops other inside in
-      subst (λ o. IsAtMost op_cmp o (lapse horizon op)) found.2 (lapse_keeps_order horizon found.0 op (greatest found.0 found.1)),
+      let found = Contains-map (lapse horizon) _ other inside in
+      subst (λ o. IsAtMost op_cmp o (lapse horizon op)) found.2 (lapse_keeps_order _ found.0 _ (greatest found.0 found.1)),
 )

@@ -1,15 +1,12 @@
 -- Suppose that the files of a set have distinct moments, and that the bodies which ended before a
 -- horizon are dropped from their plain table. The result is the live table of the files' summary
 -- under this horizon.
-use Rattle.std.proofs.Common.{◌≡◌, ℕ, List, Contains, subst, inl, inr, ◌⊎◌, ap, sym, ◌∙◌, None}
+use Rattle.std.proofs.Common.{◌≡◌, ℕ, List, Contains, inl, inr, ◌⊎◌, ap, sym, ◌∙◌, None, rules}
 use Rattle.std.specs.Prelude.{fold, option_and_then}
-use Rattle.std.specs.declared.cmp.Ordering.TheVariants.{Less, Greater}
-use Rattle.std.specs.Ordering.{ordering_then}
-use Rattle.std.specs.Cmp.{tied_itself}
 use Rattle.docker_model.specs.file.Change.{Key}
 use Rattle.docker_model.specs.state.Order.{IsBelow, IsAtMost}
 use Rattle.docker_model.specs.state.Stamp.{stamp_cmp}
-use Rattle.docker_model.specs.state.Op.{Entry, entry_cmp, op_cmp, body_of}
+use Rattle.docker_model.specs.state.Op.{Entry, entry_cmp, body_of}
 use Rattle.docker_model.specs.state.Table.{Table, empty_table, from_last_full, IsPlainTable}
 use Rattle.docker_model.specs.state.Lapse.{lapse_entry, unlapsed, lapse_table}
 use Rattle.docker_model.specs.state.State.{State, live_table}
@@ -25,11 +22,7 @@ module _ (files : List (List (List ℕ))) (horizon : ℕ) (state : State) (table
   entries = entries_along (from_last_full plain.ordered)
 
   at_least : (entry other : Entry) → (other ≡ entry) ⊎ IsBelow stamp_cmp other.stamp entry.stamp → IsAtMost entry_cmp other entry
-  at_least entry other (inl same) greater =
-      let self : entry_cmp entry entry ≡ Greater = subst (λ e. entry_cmp e entry ≡ Greater) same greater in
-      let tied = tied_itself entry_total entry in cc
-  at_least entry other (inr below) greater =
-      let less : entry_cmp other entry ≡ Less = (λ i. ordering_then (below i) (op_cmp other.op entry.op)) in cc
+  at_least = search (rules, entry_total)
 
   -- at each key, the live table of the summary equals the lapsed plain table
   pub live_is_plain : live_table state key ≡ lapse_table horizon table key

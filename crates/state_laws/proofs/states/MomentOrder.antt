@@ -1,6 +1,6 @@
 -- A set of files with distinct moments can be put in the order of moments, so it has a plain table.
 -- Without a horizon, the plain table is the live table of the set's summary.
-use Rattle.std.proofs.Common.{◌≡◌, ℕ, List, [], ◌∷◌, Contains, subst, inl, inr, ◌⊎◌, refl, ap, sym, ◌∙◌}
+use Rattle.std.proofs.Common.{◌≡◌, ℕ, List, [], ◌∷◌, Contains, subst, inl, inr, ◌⊎◌, refl, ap, sym, ◌∙◌, arith}
 use Rattle.std.specs.List.{AllByRecursion}
 use Rattle.std.specs.declared.cmp.Ordering.{Ordering}
 use Rattle.std.specs.declared.cmp.Ordering.TheVariants.{Less, Equal, Greater}
@@ -35,12 +35,7 @@ above_weaker low high (file ∷ files) below all =
 
 insert_above : (low file : File) (files : List File) → IsBelow (on moment_of moment_cmp) low file → Above low files → Above low (insert_file file files)
 insert_above low file [] below all = (below, tt)
-insert_above low file (first ∷ rest) below all = by (moment_cmp (moment_of file) (moment_of first)) (insert_above low file rest below all.1)
-  where
-    by : (o : Ordering) → Above low (insert_file file rest) → Above low (put_in_place o file first rest (insert_file file rest))
-    by Less inside = (below, all)
-    by Equal inside = all
-    by Greater inside = (all.0, inside)
+insert_above low file (first ∷ rest) below all = grind (arith, (insert_above low file rest below all.1))
 
 insert_ascends : (file : File) (files : List File) → IsStrictlyAscending (on moment_of moment_cmp) files → IsStrictlyAscending (on moment_of moment_cmp)
     (insert_file file files)
@@ -75,15 +70,14 @@ insert_has file (first ∷ rest) other among = by (moment_cmp (moment_of file) (
 
 insert_keeps : (file : File) (files : List File) (other : File) → Contains files other → Contains (insert_file file files) other
 insert_keeps file [] other among = absurd (nil-Contains other among)
-insert_keeps file (first ∷ rest) other among =
-    by (moment_cmp (moment_of file) (moment_of first)) (insert_keeps file rest other) (Contains-cons first rest other among)
+insert_keeps file (first ∷ rest) other among = by (moment_cmp (moment_of file) (moment_of first)) (insert_keeps _ rest _) (Contains-cons first _ other among)
   where
     by : (o : Ordering) → (Contains rest other → Contains (insert_file file rest) other) → (first ≡ other) ⊎ Contains rest other
         → Contains (put_in_place o file first rest (insert_file file rest)) other
-    by Less inner here = cons-Contains file (first ∷ rest) other among
+    by Less inner here = cons-Contains _ (first ∷ rest) _ among
     by Equal inner here = among
-    by Greater inner (inl same) = subst (Contains (first ∷ insert_file file rest)) same (cons-Contains-first first (insert_file file rest))
-    by Greater inner (inr inside) = cons-Contains first (insert_file file rest) other (inner inside)
+    by Greater inner (inl same) = subst (Contains (first ∷ insert_file file rest)) same (cons-Contains-first first _)
+    by Greater inner (inr inside) = cons-Contains first _ other (inner inside)
 
 insert_puts : (file : File) (files : List File) → ((other : File) → Contains files other → moment_of file ≡ moment_of other → file ≡ other)
     → Contains (insert_file file files) file
@@ -102,28 +96,26 @@ insert_puts file (first ∷ rest) distinct =
 -- files with distinct moments can be put in moment order
 pub moment_order : (files : List File) → HaveDistinctMoments files → (ordered : List File) × IsInMomentOrder files ordered
 moment_order [] distinct = ([], record { same = λ file. (λ among. among, λ among. among); ascending = tt })
-moment_order (file ∷ files) distinct =
-    put_in (moment_order files (λ first second in_first in_second. distinct first second (cons-Contains file files first in_first)
-    (cons-Contains file files second in_second)))
+moment_order (file ∷ files) distinct = put_in (moment_order files (λ first second in_first in_second. distinct first second (cons-Contains _ files _ in_first)
+    (cons-Contains file _ second in_second)))
   where
     put_in : (ordered : List File) × IsInMomentOrder files ordered → (ordered : List File) × IsInMomentOrder (file ∷ files) ordered
     put_in told = (
       insert_file file told.0,
       record {
         same = λ other. (
-          λ among. back other (insert_has file told.0 other among),
-          λ among. there other (Contains-cons file files other among),
+          λ among. back other (insert_has _ told.0 _ among),
+          λ among. there other (Contains-cons file _ other among),
         );
-        ascending = insert_ascends file told.0 told.1.ascending;
+        ascending = insert_ascends _ told.0 told.1.ascending;
       },
     )
       where
         back : (other : File) → (file ≡ other) ⊎ Contains told.0 other → Contains (file ∷ files) other
-        back other (inl same) = subst (Contains (file ∷ files)) same (cons-Contains-first file files)
-        back other (inr inside) = cons-Contains file files other ((told.1.same other).0 inside)
+        back other (inl same) = subst (Contains (file ∷ files)) same (cons-Contains-first _ files)
+        back other (inr inside) = cons-Contains _ files _ ((told.1.same other).0 inside)
 
         there : (other : File) → (file ≡ other) ⊎ Contains files other → Contains (insert_file file told.0) other
-        there other (inl same) =
-            subst (Contains (insert_file file told.0)) same (insert_puts file told.0 (λ third inside.
-            distinct file third (cons-Contains-first file files) (cons-Contains file files third ((told.1.same third).0 inside))))
-        there other (inr inside) = insert_keeps file told.0 other ((told.1.same other).1 inside)
+        there other (inl same) = subst (Contains (insert_file file told.0)) same (insert_puts file _ (λ third inside.
+            distinct file third (cons-Contains-first file _) (cons-Contains file _ third ((told.1.same third).0 inside))))
+        there other (inr inside) = insert_keeps _ told.0 _ ((told.1.same other).1 inside)

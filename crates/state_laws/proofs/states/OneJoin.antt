@@ -23,6 +23,5 @@ floor_unique first second same (Some s) (Some t) f g =
 
 -- two docker lists with the same lines are equal
 pub docker_unique : (IsLine : DockerLine → Type 0) (xs ys : List DockerLine) → Lists IsLine xs → Lists IsLine ys → xs ≡ ys
-docker_unique IsLine xs ys is_x is_y =
-    same_list docker_line_total xs ys is_x.ascending is_y.ascending (λ line.
+docker_unique IsLine xs ys is_x is_y = same_list docker_line_total _ _ is_x.ascending is_y.ascending (λ line.
     (λ among. (is_y.members line).1 ((is_x.members line).0 among), λ among. (is_x.members line).1 ((is_y.members line).0 among)))

@@ -1,10 +1,9 @@
 -- If the files of a set have distinct moments, lapsing their plain table with a horizon gives the
 -- live table of their summary with this horizon.
-use Rattle.std.proofs.Common.{◌≡◌, ℕ, List, refl, ◌∙◌, Some, None, arith}
-use Rattle.std.specs.Prelude.{Option, option_and_then}
-use Rattle.docker_model.specs.file.Change.{Key, Body}
+use Rattle.std.proofs.Common.{◌≡◌, ℕ, List, refl, ◌∙◌, rules}
+use Rattle.docker_model.specs.file.Change.{Key}
 use Rattle.docker_model.specs.state.Table.{Table, empty_table, after_files, from_last_full, IsPlainTable}
-use Rattle.docker_model.specs.state.Lapse.{unlapsed, lapse_table}
+use Rattle.docker_model.specs.state.Lapse.{lapse_table}
 use Rattle.docker_model.specs.state.State.{State, live_table}
 use Rattle.docker_model.specs.state.Summary.{HaveDistinctMoments, IsSummary}
 use Rattle.state_laws.proofs.states.MomentOrder.{moment_order}
@@ -13,11 +12,7 @@ use Rattle.state_laws.proofs.states.LapsedPlainTable.{live_is_plain}
 
 -- with the horizon 0, lapsing leaves each table unchanged
 pub lapse_table_none : (table : Table) (key : Key) → lapse_table 0 table key ≡ table key
-lapse_table_none table key = by (table key)
-  where
-    by : (found : Option Body) → option_and_then (unlapsed 0) found ≡ found
-    by None = refl
-    by (Some body) = body_stays 0 body (omega arith)
+lapse_table_none = search (rules, body_stays)
 
 -- the live table of a summary is the plain table, lapsed with the summary's horizon
 pub live_is_lapsed_plain : (files : List (List (List ℕ))) (horizon : ℕ) (state : State) (table : Table) → IsSummary files horizon state
@@ -34,7 +29,6 @@ live_table_is_plain files state summary distinct =
     record {
       ordered = order.0;
       order = order.1;
-      is = λ key.
-          live_is_plain files 0 state (after_files empty_table (from_last_full order.0)) summary plain key
-          ∙ lapse_table_none (after_files empty_table (from_last_full order.0)) key;
+      is = λ key. live_is_plain _ 0 _ (after_files empty_table (from_last_full order.0)) summary plain _
+          ∙ lapse_table_none (after_files empty_table (from_last_full order.0)) _;
     }

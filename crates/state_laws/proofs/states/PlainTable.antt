@@ -2,6 +2,8 @@
 -- body of the last entry that the files' changes make. Only the last full extract and the files
 -- after it count.
 use Rattle.std.proofs.Common.{cond, ◌≡◌, List, Contains, ◌⊎◌, ◌∷◌, subst, inl, inr, ap, sym, ◌∙◌, Bool, true, false, [], refl, ℕ, map, ◌++◌, ◌<◌, Some, None}
+use Rattle.std.proofs.lemmas.Grind.{common_steps}
+use Rattle.std.proofs.Common.{arith, rules}
 use Rattle.std.specs.Prelude.{fold, ◌==◌, ◌||◌, Option, ◌↔◌, find, option_and_then}
 use Rattle.std.specs.List.{AllByRecursion, flat_map, list_any}
 use Rattle.std.specs.declared.cmp.Ordering.{Ordering}
@@ -55,32 +57,31 @@ LastThere entries table key =
 first_alone : (entry : Keyed) (entries : List Keyed) (table : Table) (key : Key) (b : Bool) → is_eq (key_cmp entry.0 key) ≡ b
     → NoneThere entries (step table entry) key → NoneThere (entry ∷ entries) table key ⊎ LastThere (entry ∷ entries) table key
 first_alone entry entries table key true h none =
-    let same : entry ≡ (key, entry.1) = (λ i. (same_key entry.0 key h i, entry.1)) in
+    let same : entry ≡ (key, entry.1) = (λ i. (same_key _ key h i, entry.1)) in
     inr (
       entry.1,
-      subst (Contains (entry ∷ entries)) same (cons-Contains-first entry entries),
+      subst (Contains (entry ∷ entries)) same (cons-Contains-first _ entries),
       none.1 ∙ (λ i. cond (h i) (body_of entry.1.op) (table key)),
-      λ other among. only other (Contains-cons entry entries (key, other) among),
+      λ other among. only other (Contains-cons _ entries _ among),
     )
   where
     only : (other : Entry) → (entry ≡ (key, other)) ⊎ Contains entries (key, other) → (other ≡ entry.1) ⊎ IsBelow stamp_cmp other.stamp entry.1.stamp
     only other (inl e) = inl (sym (ap (λ (pair : Keyed). pair.1) e))
     only other (inr inside) = absurd (none.0 other inside)
 first_alone entry entries table key false h none =
-    inl (λ other among. no other (Contains-cons entry entries (key, other) among), none.1 ∙ (λ i. cond (h i) (body_of entry.1.op) (table key)))
+    inl (λ other among. no other (Contains-cons entry _ (key, other) among), none.1 ∙ (λ i. cond (h i) (body_of entry.1.op) (table key)))
   where
     no : (other : Entry) → (entry ≡ (key, other)) ⊎ Contains entries (key, other) → ⊥
-    no other (inl e) = other_key entry.0 key h (ap (λ (pair : Keyed). pair.0) e)
+    no other (inl e) = other_key _ key h (ap (λ (pair : Keyed). pair.0) e)
     no other (inr inside) = none.0 other inside
 
 not_first : (entry : Keyed) (entries : List Keyed) (table : Table) (key : Key) → AllByRecursion (Ascends entry) entries
     → LastThere entries (step table entry) key → LastThere (entry ∷ entries) table key
-not_first entry entries table key above last =
-    (last.0, cons-Contains entry entries (key, last.0) last.1, last.2, λ other among. by other (Contains-cons entry entries (key, other) among))
+not_first entry entries table key above last = (last.0, cons-Contains _ _ _ last.1, last.2, λ other among. by other (Contains-cons _ _ _ among))
   where
     by : (other : Entry) → (entry ≡ (key, other)) ⊎ Contains entries (key, other) → (other ≡ last.0) ⊎ IsBelow stamp_cmp other.stamp last.0.stamp
     by other (inl e) =
-        let below = below_by_recursion (Ascends entry) entries (key, last.0) above last.1 (ap (λ (pair : Keyed). pair.0) e) in
+        let below = below_by_recursion _ _ _ above last.1 (ap (λ (pair : Keyed). pair.0) e) in
         inr (subst (λ (pair : Keyed). IsBelow stamp_cmp pair.1.stamp last.0.stamp) e below)
     by other (inr inside) = last.3 other inside
 
@@ -88,12 +89,7 @@ not_first entry entries table key above last =
 -- key's last entry. This entry has the greatest stamp of the key's entries
 pub last_there : (entries : List Keyed) (table : Table) (key : Key) → AllLater Ascends entries → NoneThere entries table key ⊎ LastThere entries table key
 last_there [] table key up = inl (λ entry among. nil-Contains (key, entry) among, refl)
-last_there (entry ∷ entries) table key up = by (last_there entries (step table entry) key up.1)
-  where
-    by : NoneThere entries (step table entry) key ⊎ LastThere entries (step table entry) key → NoneThere (entry ∷ entries) table key ⊎ LastThere
-        (entry ∷ entries) table key
-    by (inl none) = first_alone entry entries table key (is_eq (key_cmp entry.0 key)) refl none
-    by (inr last) = inr (not_first entry entries table key up.0 last)
+last_there (entry ∷ entries) table key up = grind (arith, first_alone, not_first, (last_there entries (step table entry) key up.1))
 
 -- ---- applying changes of files to a table equals applying the entries that the changes make
 
@@ -111,12 +107,10 @@ entries_along files = flat_map entries_of files
 
 -- applying changes of a file to a table equals applying the entries that these changes make
 pub fold_entries : (file : List (List ℕ)) (table : Table) (cs : List Change) → fold after_change table cs ≡ fold step table (map (entry_of_change file) cs)
-fold_entries file table [] = refl
-fold_entries file table (change ∷ cs) = fold_entries file (after_change table change) cs
+fold_entries = grind (common_steps, arith)
 
 fold_append : (table : Table) (xs ys : List Keyed) → fold step table (xs ++ ys) ≡ fold step (fold step table xs) ys
-fold_append table [] ys = refl
-fold_append table (x ∷ xs) ys = fold_append (step table x) xs ys
+fold_append = grind (common_steps, arith)
 
 -- applying the changes of files to a table equals applying the entries that these changes make
 pub after_files_is : (table : Table) (files : List (List (List ℕ))) → after_files table files ≡ fold step table (entries_along files)
@@ -131,8 +125,7 @@ number_below m n below = λ i. cond (lt-ltb m n below i) Less (cond (m == n) Equ
 
 -- if two entries come from one file and have the same key, the later entry has the greater stamp
 pub within_file : (file : List (List ℕ)) (first second : Change) → Apart first second → Ascends (entry_of_change file first) (entry_of_change file second)
-within_file file first second (inl below) same =
-    (λ i. ordering_then (tied_itself file_stamp_total (file_stamp_of file) i) (number_below first.number second.number below i))
+within_file file first second (inl below) same = (λ i. ordering_then (tied_itself file_stamp_total (file_stamp_of file) i) (number_below _ _ below i))
 within_file file first second (inr apart) same = absurd (apart same)
 
 -- the moment of the entry's file is after the moment of this file
@@ -147,13 +140,10 @@ later_entries file later below (change ∷ cs) = (below, later_entries file late
 later_along : (file : List (List ℕ)) (files : List (List (List ℕ))) → AllByRecursion (IsBelow (on moment_of moment_cmp) file) files
     → AllByRecursion (IsLaterThan file) (entries_along files)
 later_along file [] all = tt
-later_along file (later ∷ files) all =
-    all_append (IsLaterThan file) (entries_of later) (entries_along files) (later_entries file later all.0 (changes later)) (later_along file files all.1)
+later_along file (later ∷ files) all = grind (arith, all_append, later_entries, (later_along file files all.1))
 
 across_files : (file : List (List ℕ)) (change : Change) (second : Keyed) → IsLaterThan file second → Ascends (entry_of_change file change) second
-across_files file change second below same =
-    λ i. ordering_then (ordering_then (below i) (bytes_cmp (file_stamp_of file).reference second.1.stamp.file.reference))
-    (nat_cmp change.number second.1.stamp.number)
+across_files = search rules
 
 -- if files are in moment order, then of two entries for the same key, the later entry has the
 -- greater stamp
@@ -185,18 +175,10 @@ stamp_below first second below = λ i. ordering_then (below i) (bytes_cmp (file_
 
 any_is : (files : List (List (List ℕ))) → list_any is_full files ≡ true → (file : List (List ℕ)) × Contains files file × (is_full file ≡ true)
 any_is [] h = cc
-any_is (file ∷ files) h = by (is_full file) refl (any_is files)
-  where
-    by : (b : Bool) → is_full file ≡ b → (list_any is_full files ≡ true → (found : List (List ℕ)) × Contains files found × (is_full found ≡ true))
-        → (found : List (List ℕ)) × Contains (file ∷ files) found × (is_full found ≡ true)
-    by true full rest = (file, cons-Contains-first file files, full)
-    by false full rest =
-        let found = rest (sym (λ i. full i || list_any is_full files) ∙ h) in
-        (found.0, cons-Contains file files found.0 found.1, found.2)
+any_is (file ∷ files) h = grind (arith, cons-Contains-first, cons-Contains, (any_is files))
 
 or_false : (a b : Bool) → (a || b) ≡ false → (a ≡ false) × (b ≡ false)
-or_false true b h = cc
-or_false false b h = (refl, h)
+or_false = search rules
 
 none_is : (files : List (List (List ℕ))) → list_any is_full files ≡ false → (file : List (List ℕ)) → Contains files file → is_full file ≡ false
 none_is [] h file among = absurd (nil-Contains file among)
@@ -289,11 +271,7 @@ kept_or_dropped (first ∷ files) up file among = by (list_any is_full files) re
 -- if files are in moment order, the last full extract and the files after it are in moment order
 pub suffix_ascends : (files : List (List (List ℕ))) → Ascending files → Ascending (from_last_full files)
 suffix_ascends [] up = tt
-suffix_ascends (first ∷ files) up = by (list_any is_full files) (suffix_ascends files up.1)
-  where
-    by : (b : Bool) → Ascending (from_last_full files) → Ascending (cond b (from_last_full files) (first ∷ files))
-    by true rest = rest
-    by false rest = up
+suffix_ascends (first ∷ files) up = grind (arith, (suffix_ascends files up.1))
 
 -- ---- a file isn't below the floor if and only if no full extract is newer than the file
 
@@ -314,11 +292,10 @@ not_dropped : (files ordered : List (List (List ℕ))) → ((file : List (List �
     → (floor : Option FileStamp) → IsFloor (map ledger_item_of files) floor → (file : List (List ℕ)) → IsKept floor (file_stamp_of file)
     → ¬ SomeAbove ordered file
 not_dropped files ordered same None is file kept above =
-    is (ledger_item_of above.0) (map-Contains ledger_item_of files above.0 ((same above.0).0 above.1)) (full_item above.0 above.2)
+    is (ledger_item_of above.0) (map-Contains _ files _ ((same above.0).0 above.1)) (full_item above.0 above.2)
 not_dropped files ordered same (Some stamp) is file kept above =
-    let high = is.greatest (ledger_item_of above.0) (map-Contains ledger_item_of files above.0 ((same above.0).0 above.1)) (full_item above.0 above.2) in
-    at_most_trans file_stamp_total (file_stamp_of above.0) stamp (file_stamp_of file) high kept
-    (file_stamp_total.antisymm (file_stamp_of above.0) (file_stamp_of file) ∙ ap ordering_reverse above.3)
+    let high = is.greatest (ledger_item_of above.0) (map-Contains _ files _ ((same above.0).0 above.1)) (full_item above.0 above.2) in
+    at_most_trans file_stamp_total _ stamp _ high kept (file_stamp_total.antisymm (file_stamp_of above.0) (file_stamp_of file) ∙ ap ordering_reverse above.3)
 
 -- ---- the files that count have the entries of the last full extract and the files after it
 
@@ -365,37 +342,32 @@ NotFound entries key = (find (λ entry. is_eq (key_cmp entry.0 key)) entries ≡
 
 -- a search finds an entry for the key, or the list has no entry for the key
 pub find_in : (entries : List Keyed) (key : Key) → Found entries key ⊎ NotFound entries key
-find_in [] key = inr (refl, λ entry among. nil-Contains (key, entry) among)
-find_in (first ∷ entries) key = by (is_eq (key_cmp first.0 key)) refl (find_in entries key)
+find_in [] key = inr (refl, λ entry among. nil-Contains _ among)
+find_in (first ∷ entries) key = by (is_eq (key_cmp first.0 key)) refl (find_in entries _)
   where
     test : Keyed → Bool
     test entry = is_eq (key_cmp entry.0 key)
 
     by : (b : Bool) → is_eq (key_cmp first.0 key) ≡ b → Found entries key ⊎ NotFound entries key → Found (first ∷ entries) key ⊎ NotFound (first ∷ entries) key
     by true h rest =
-        let same : first ≡ (key, first.1) = (λ i. (same_key first.0 key h i, first.1)) in
+        let same : first ≡ (key, first.1) = (λ i. (same_key first.0 _ h i, first.1)) in
         inl (
           first,
           (λ i. cond (h i) (Some first) (find (λ entry. is_eq (key_cmp entry.0 key)) entries)),
-          subst (Contains (first ∷ entries)) same
-              (cons-Contains-first first entries),
+          subst (Contains (first ∷ entries)) same (cons-Contains-first first _),
         )
-    by false h (inl found) =
-        inl (
-          found.0,
-          (λ i. cond (h i) (Some first) (find (λ entry. is_eq (key_cmp entry.0 key)) entries)) ∙ found.1,
-          cons-Contains first entries
-              (key, found.0.1) found.2,
-        )
-    by false h (inr none) =
-        inr (
-          (λ i. cond (h i) (Some first) (find (λ entry. is_eq (key_cmp entry.0 key)) entries)) ∙ none.0,
-          λ entry among.
-              no entry (Contains-cons first entries (key, entry) among),
-        )
+    by false h (inl found) = inl (
+      found.0,
+      (λ i. cond (h i) (Some first) (find (λ entry. is_eq (key_cmp entry.0 key)) entries)) ∙ found.1,
+      cons-Contains first _ (key, found.0.1) found.2,
+    )
+    by false h (inr none) = inr (
+      (λ i. cond (h i) (Some first) (find (λ entry. is_eq (key_cmp entry.0 key)) entries)) ∙ none.0,
+      λ entry among. no entry (Contains-cons _ entries _ among),
+    )
       where
         no : (entry : Entry) → (first ≡ (key, entry)) ⊎ Contains entries (key, entry) → ⊥
-        no entry (inl e) = other_key first.0 key h (ap (λ (pair : Keyed). pair.0) e)
+        no entry (inl e) = other_key first.0 _ h (ap (λ (pair : Keyed). pair.0) e)
         no entry (inr inside) = none.1 entry inside
 
 -- a list of entries in key order has at most one entry for each key
@@ -403,19 +375,7 @@ pub one_per_key : (entries : List Keyed) → IsStrictlyAscending (on (λ (entry 
     → Contains entries (key, first) → Contains entries (key, second) → first ≡ second
 one_per_key [] up key first second in_first in_second = absurd (nil-Contains (key, first) in_first)
 one_per_key (entry ∷ entries) up key first second in_first in_second =
-    by (one_per_key entries up.1 key first second) (Contains-cons entry entries (key, first) in_first) (Contains-cons entry entries (key, second) in_second)
-  where
-    not_both_here : (other third : Entry) → entry ≡ (key, third) → ¬ Contains entries (key, other)
-    not_both_here other third e inside =
-        let below : key_cmp entry.0 key ≡ Less = below_by_recursion (λ later. key_cmp entry.0 later.0 ≡ Less) entries (key, other) up.0 inside in
-        irreflexive key_total key (subst (λ k. key_cmp k key ≡ Less) (ap (λ (pair : Keyed). pair.0) e) below)
-
-    by : (Contains entries (key, first) → Contains entries (key, second) → first ≡ second) → (entry ≡ (key, first)) ⊎ Contains entries (key, first)
-        → (entry ≡ (key, second)) ⊎ Contains entries (key, second) → first ≡ second
-    by rest (inl e) (inl f) = sym (ap (λ (pair : Keyed). pair.1) e) ∙ ap (λ (pair : Keyed). pair.1) f
-    by rest (inl e) (inr inside) = absurd (not_both_here second first e inside)
-    by rest (inr inside) (inl f) = absurd (not_both_here first second f inside)
-    by rest (inr inside) (inr within) = rest inside within
+    grind (common_steps, arith, below_by_recursion, irreflexive, key_total, (one_per_key entries up.1 key first second))
 
 -- at a key with an entry, the live table has the body that the entry puts, if any
 pub live_at : (state : State) (key : Key) (pair : Keyed) → find (λ entry. is_eq (key_cmp entry.0 key)) state.entries ≡ Some pair

@@ -73,22 +73,20 @@ module _ (items more : List LedgerItem) (entries others : List Keyed) (once twic
 
   whole_floor : (floor : Option FileStamp) → IsFloor (once.ledger ++ more) floor → IsFloor (items ++ more) floor
   unfolding Top
-  whole_floor None none = λ item among full. let top = top_of item among full in none top.0 top.1 top.2
+  whole_floor None none = λ item among full. let top = top_of _ among full in none top.0 top.1 top.2
   whole_floor (Some stamp) greatest = record {
     full = greatest.full;
     among = back_to greatest.full greatest.among;
     is_full = greatest.is_full;
     stamped = greatest.stamped;
     greatest =
-        λ item among full. let top = top_of item among full in at_most_trans file_stamp_total item.stamp top.0.stamp stamp top.3
-        (greatest.greatest top.0 top.1 top.2);
+        λ item among full. let top = top_of _ among full in at_most_trans file_stamp_total item.stamp _ stamp top.3 (greatest.greatest top.0 top.1 top.2);
   }
 
   kept_down : (low high : Option FileStamp) → IsFloor items low → IsFloor (items ++ more) high → (stamp : FileStamp) → IsKept high stamp → IsKept low stamp
   kept_down None high one whole stamp kept = tt
   kept_down (Some low) None one whole stamp kept = absurd (whole one.full (Contains-append_left items more one.full one.among) one.is_full)
-  kept_down (Some low) (Some high) one whole stamp kept =
-      at_most_trans file_stamp_total low high stamp
+  kept_down (Some low) (Some high) one whole stamp kept = at_most_trans file_stamp_total _ high _
       (subst (λ s. IsAtMost file_stamp_cmp s high) one.stamped (whole.greatest one.full (Contains-append_left items more one.full one.among) one.is_full)) kept
 
   kept_first : (stamp : FileStamp) → IsKept second.floor stamp → IsKept first.floor stamp
@@ -116,8 +114,7 @@ module _ (items more : List LedgerItem) (entries others : List Keyed) (once twic
         by (inr here) = is.greatest other (Contains-append_right entries others (key, other) here)
         by (inl here) =
             let told = (first.of_keys key other).0 here in
-            at_most_trans entry_total other told.0 best
-            (subst (λ e. IsAtMost entry_cmp e told.0) told.3 (lapse_below once.horizon told.0))
+            at_most_trans entry_total other _ best (subst (λ e. IsAtMost entry_cmp e told.0) told.3 (lapse_below _ told.0))
             (is.greatest told.0 (Contains-append_left entries others (key, told.0) told.1.among))
 
     -- suppose that the greatest of all entries for a key isn't below the floor. Either it is in
@@ -132,7 +129,7 @@ module _ (items more : List LedgerItem) (entries others : List Keyed) (once twic
         by (inl here) = inl ((first.of_keys key (lapse_entry once.horizon best)).1 (
           best,
           record { among = here; greatest = λ other inside. is.greatest other (Contains-append_left entries others (key, other) inside) },
-          kept_first best.stamp.file kept,
+          kept_first _ kept,
           λ i. lapse_entry once.horizon best,
         ))
 
@@ -140,47 +137,42 @@ module _ (items more : List LedgerItem) (entries others : List Keyed) (once twic
     -- the entries that the second step of the reduction receives. Lapsing makes them equal
     same_lapse : (best top : Entry) → IsGreatestAmong (entries ++ others) key best → IsGreatestAmong (once.entries ++ others) key top
         → IsKept second.floor best.stamp.file → IsKept second.floor top.stamp.file → lapse_entry twice.horizon best ≡ lapse_entry twice.horizon top
-    same_lapse best top is_best is_top kept_best kept_top = by (stands best is_best kept_best)
+    same_lapse best top is_best is_top kept_best kept_top = by (stands _ is_best kept_best)
       where
         -- lapsing makes `best` and `top` equal, if the second step of the reduction receives `best`
         -- itself
         itself : Contains (once.entries ++ others) (key, best) → lapse_entry twice.horizon best ≡ lapse_entry twice.horizon top
-        itself there =
-            one_per_key twice.entries second.entries_ascend key (lapse_entry twice.horizon best) (lapse_entry twice.horizon top)
+        itself there = one_per_key twice.entries second.entries_ascend _ (lapse_entry twice.horizon best) _
             ((second.of_keys key (lapse_entry twice.horizon best)).1 (
               best,
               record { among = there; greatest = under_best best is_best },
               kept_best,
-              λ i.
-                  lapse_entry twice.horizon best,
-            ))
-            ((second.of_keys key (lapse_entry twice.horizon top)).1 (top, is_top, kept_top, λ i. lapse_entry twice.horizon top))
+              λ i. lapse_entry twice.horizon best,
+            )) ((second.of_keys key (lapse_entry twice.horizon top)).1 (top, is_top, kept_top, λ i. lapse_entry twice.horizon top))
 
         -- lapsing makes `best` and `top` equal, if the first step of the reduction lapses `best`
         between : lapse once.horizon best.op ≡ lapsed → Contains once.entries (key, lapse_entry once.horizon best)
             → lapse_entry twice.horizon best ≡ lapse_entry twice.horizon top
         between has there =
             let twofold : lapse_entry twice.horizon (lapse_entry once.horizon best) ≡ lapse_entry twice.horizon best =
-            entry_twice twice.horizon once.horizon best ∙ ap (λ h. lapse_entry h best) (max-eq_left rises) in
+            entry_twice _ once.horizon _ ∙ ap (λ h. lapse_entry h best) (max-eq_left rises) in
             let gone : lapse twice.horizon best.op ≡ lapsed = sym (ap (λ (e : Entry). e.op) twofold) ∙ ap (lapse twice.horizon) has in
             let low : IsAtMost entry_cmp (lapse_entry twice.horizon best) (lapse_entry twice.horizon top) =
-            subst (λ e. IsAtMost entry_cmp e (lapse_entry twice.horizon top)) twofold
-            (lapse_entry_keeps_order twice.horizon (lapse_entry once.horizon best) top
+            subst (λ e. IsAtMost entry_cmp e (lapse_entry twice.horizon top)) twofold (lapse_entry_keeps_order twice.horizon _ top
             (is_top.greatest (lapse_entry once.horizon best) (Contains-append_left once.entries others (key, lapse_entry once.horizon best) there))) in
             let high : IsAtMost entry_cmp (lapse_entry twice.horizon top) (lapse_entry twice.horizon best) =
-            lapse_entry_keeps_order twice.horizon top best (under_best best is_best top is_top.among) in
-            sym (level_lapsed (lapse_entry twice.horizon top) (lapse_entry twice.horizon best) gone high low)
+            lapse_entry_keeps_order _ top _ (under_best best is_best _ is_top.among) in
+            sym (level_lapsed (lapse_entry twice.horizon top) _ gone high low)
 
         stayed : (lapse once.horizon best.op ≡ lapsed) ⊎ HasNotToLapse once.horizon best.op → Contains once.entries (key, lapse_entry once.horizon best)
             → lapse_entry twice.horizon best ≡ lapse_entry twice.horizon top
         stayed (inl has) there = between has there
-        stayed (inr has_not) there =
-            itself (Contains-append_left once.entries others (key, best)
-            (subst (λ e. Contains once.entries (key, e)) (entry_stays once.horizon best has_not) there))
+        stayed (inr has_not) there = itself (Contains-append_left once.entries others (key, best)
+            (subst (λ e. Contains once.entries (key, e)) (entry_stays once.horizon _ has_not) there))
 
         by : Contains once.entries (key, lapse_entry once.horizon best) ⊎ Contains others (key, best)
             → lapse_entry twice.horizon best ≡ lapse_entry twice.horizon top
-        by (inl there) = stayed (lapses_or_not once.horizon best.op) there
+        by (inl there) = stayed (lapses_or_not once.horizon _) there
         by (inr there) = itself (Contains-append_right once.entries others (key, best) there)
 
     forth : (entry : Entry) → KeptOf (once.entries ++ others) second.floor twice.horizon key entry
@@ -203,18 +195,17 @@ module _ (items more : List LedgerItem) (entries others : List Keyed) (once twic
 
     back : (entry : Entry) → KeptOf (entries ++ others) second.floor twice.horizon key entry
         → KeptOf (once.entries ++ others) second.floor twice.horizon key entry
-    back entry told = by (greatest_in (once.entries ++ others) key) (stands told.0 told.1 told.2)
+    back entry told = by (greatest_in _ key) (stands _ told.1 told.2)
       where
         with_top : (below : Entry) → IsKept second.floor below.stamp.file → Contains (once.entries ++ others) (key, below)
             → GreatestEntry (once.entries ++ others) key → KeptOf (once.entries ++ others) second.floor twice.horizon key entry
         with_top below kept there top =
             let is : IsGreatestAmong (once.entries ++ others) key top.0 = record { among = top.1; greatest = top.2 } in
-            let kept_top = kept_up second.floor below top.0 (top.2 below there) kept in
-            (top.0, is, kept_top, sym (same_lapse told.0 top.0 told.1 is told.2 kept_top) ∙ told.3)
+            let kept_top = kept_up second.floor _ top.0 (top.2 below there) kept in
+            (top.0, is, kept_top, sym (same_lapse _ top.0 told.1 is told.2 kept_top) ∙ told.3)
 
         by : NoEntry (once.entries ++ others) key ⊎ GreatestEntry (once.entries ++ others) key → Contains once.entries (key, lapse_entry once.horizon told.0)
-            ⊎ Contains others (key, told.0)
-            → KeptOf (once.entries ++ others) second.floor twice.horizon key entry
+            ⊎ Contains others (key, told.0) → KeptOf (once.entries ++ others) second.floor twice.horizon key entry
         by (inl none) (inl there) =
             absurd (none (lapse_entry once.horizon told.0) (Contains-append_left once.entries others (key, lapse_entry once.horizon told.0) there))
         by (inl none) (inr there) = absurd (none told.0 (Contains-append_right once.entries others (key, told.0) there))
@@ -226,15 +217,15 @@ module _ (items more : List LedgerItem) (entries others : List Keyed) (once twic
   pub reduced_twice : IsReduced (items ++ more) (entries ++ others) twice
   reduced_twice = record {
     floor = second.floor;
-    is_floor = whole_floor second.floor second.is_floor;
+    is_floor = whole_floor _ second.is_floor;
     ledger_ascends = second.ledger_ascends;
     ledger = λ item. (
-      λ among. let told = (second.ledger item).0 among in (back_to item told.0, told.1),
-      λ told. (second.ledger item).1 (ledger_in item told.0 told.1, told.1),
+      λ among. let told = (second.ledger item).0 among in (back_to _ told.0, told.1),
+      λ told. (second.ledger item).1 (ledger_in _ told.0 told.1, told.1),
     );
     entries_ascend = second.entries_ascend;
     of_keys = λ key entry. (
-      λ among. forth key entry ((second.of_keys key entry).0 among),
-      λ told. (second.of_keys key entry).1 (back key entry told),
+      λ among. forth _ entry ((second.of_keys key entry).0 among),
+      λ told. (second.of_keys key entry).1 (back _ entry told),
     );
   }

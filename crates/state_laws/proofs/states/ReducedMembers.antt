@@ -43,7 +43,7 @@ pub reduced_along : (items more : List LedgerItem) (entries others : List Keyed)
     → (state : State) → IsReduced items entries state → IsReduced more others state
 reduced_along items more entries others same same_entries state is = record {
   floor = is.floor;
-  is_floor = floor_along items more same is.floor is.is_floor;
+  is_floor = floor_along _ _ same _ is.is_floor;
   ledger_ascends = is.ledger_ascends;
   ledger = λ item. (
     λ among. let told = (is.ledger item).0 among in ((same item).0 told.0, told.1),
@@ -51,9 +51,8 @@ reduced_along items more entries others same same_entries state is = record {
   );
   entries_ascend = is.entries_ascend;
   of_keys = λ key entry. (
-    λ among. kept_of_along entries others same_entries is.floor is.floor (λ i. is.floor) state.horizon key entry ((is.of_keys key entry).0 among),
-    λ told. (is.of_keys key entry).1 (kept_of_along others entries (same_members_back entries others same_entries) is.floor is.floor
-        (λ i. is.floor) state.horizon key entry told),
+    λ among. kept_of_along _ _ same_entries _ _ (λ i. is.floor) _ _ _ ((is.of_keys key entry).0 among),
+    λ told. (is.of_keys key entry).1 (kept_of_along _ _ (same_members_back _ _ same_entries) _ _ (λ i. is.floor) _ _ _ told),
   );
 }
 
@@ -61,13 +60,12 @@ reduced_along items more entries others same same_entries state is = record {
 pub reduced_unique : (items : List LedgerItem) (entries : List Keyed) (s t : State) → s.horizon ≡ t.horizon → IsReduced items entries s
     → IsReduced items entries t → s ≡ t
 reduced_unique items entries s t horizons is_s is_t =
-    let floors : is_s.floor ≡ is_t.floor = floor_unique items items (λ item. (λ x. x, λ x. x)) is_s.floor is_t.floor is_s.is_floor is_t.is_floor in
-    let ledgers : s.ledger ≡ t.ledger = same_list ledger_item_total s.ledger t.ledger is_s.ledger_ascends is_t.ledger_ascends (λ item. (
+    let floors : is_s.floor ≡ is_t.floor = floor_unique _ _ (λ item. (λ x. x, λ x. x)) _ _ is_s.is_floor is_t.is_floor in
+    let ledgers : s.ledger ≡ t.ledger = same_list ledger_item_total _ _ is_s.ledger_ascends is_t.ledger_ascends (λ item. (
       λ among. let told = (is_s.ledger item).0 among in (is_t.ledger item).1 (told.0, subst (λ floor. IsKept floor item.stamp) floors told.1),
       λ among. let told = (is_t.ledger item).0 among in (is_s.ledger item).1 (told.0, subst (λ floor. IsKept floor item.stamp) (sym floors) told.1),
     )) in
-    let pairs : s.entries ≡ t.entries = same_list (on_total (λ (entry : Keyed). entry.0) key_total) s.entries t.entries is_s.entries_ascend is_t.entries_ascend
-    (λ entry. (
+    let pairs : s.entries ≡ t.entries = same_list (on_total (λ (entry : Keyed). entry.0) key_total) _ _ is_s.entries_ascend is_t.entries_ascend (λ entry. (
       λ among. (is_t.of_keys entry.0 entry.1).1 (moved is_s.floor is_t.floor floors s.horizon t.horizon horizons entry.0 entry.1
           ((is_s.of_keys entry.0 entry.1).0 among)),
       λ among. (is_s.of_keys entry.0 entry.1).1 (moved is_t.floor is_s.floor (sym floors) t.horizon s.horizon (sym horizons) entry.0 entry.1

@@ -1,7 +1,7 @@
 -- A set of files has at most one summary for each horizon. The join of two summaries is the summary
 -- of both sets of files together, with the greater of their two horizons. Setting a horizon on a
 -- summary gives the summary with the greater of the two horizons.
-use Rattle.std.proofs.Common.{◌≡◌, ℕ, ◌≤◌, List, ◌++◌, map, Contains, subst, inl, inr, ◌⊎◌, ap, sym, ◌∙◌}
+use Rattle.std.proofs.Common.{◌≡◌, ℕ, ◌≤◌, List, ◌++◌, map, Contains, subst, inl, inr, ◌⊎◌, ap, sym, ◌∙◌, rules}
 use Rattle.std.specs.Prelude.{max}
 use Rattle.std.specs.List.{flat_map}
 use Rattle.std.proofs.Math.Nat.{le-max_left, max-eq_left}
@@ -36,12 +36,10 @@ members_of_flat_map f xs ys to y among =
     flat_map-Contains f ys found.0 y (to found.0 found.1) found.2
 
 same_items : (files others : List File) → SameMembers files others → SameMembers (map ledger_item_of files) (map ledger_item_of others)
-same_items files others same item =
-    (members_of_map ledger_item_of files others (λ file. (same file).0) item, members_of_map ledger_item_of others files (λ file. (same file).1) item)
+same_items files others same item = (members_of_map _ _ _ (λ file. (same file).0) _, members_of_map _ _ _ (λ file. (same file).1) _)
 
 same_entries : (files others : List File) → SameMembers files others → SameMembers (entries_along files) (entries_along others)
-same_entries files others same entry =
-    (members_of_flat_map entries_of files others (λ file. (same file).0) entry, members_of_flat_map entries_of others files (λ file. (same file).1) entry)
+same_entries files others same entry = (members_of_flat_map _ _ _ (λ file. (same file).0) _, members_of_flat_map _ _ _ (λ file. (same file).1) _)
 
 members_of_append : {A : Type 0} (xs ys zs : List A) → ((x : A) → Contains xs x → Contains zs x) → ((x : A) → Contains ys x → Contains zs x) → (x : A)
     → Contains (xs ++ ys) x → Contains zs x
@@ -55,36 +53,30 @@ members_of_append xs ys zs left right x among = by (Contains-append_cases xs ys 
 -- sets
 items_of_union : (files others : List File) → SameMembers (map ledger_item_of others ++ map ledger_item_of files) (map ledger_item_of (files ++ others))
 items_of_union files others item = (
-  members_of_append (map ledger_item_of others) (map ledger_item_of files) (map ledger_item_of (files ++ others))
-      (members_of_map ledger_item_of others (files ++ others) (λ file here. Contains-append_right files others file here))
-      (members_of_map ledger_item_of files (files ++ others) (λ file here. Contains-append_left files others file here)) item,
+  members_of_append _ _ _ (members_of_map _ _ _ (λ file here. Contains-append_right files others file here))
+      (members_of_map _ _ _ (λ file here. Contains-append_left files others file here)) _,
   λ among.
-      let found = Contains-map ledger_item_of (files ++ others) item among in
+      let found = Contains-map _ _ _ among in
       subst (Contains (map ledger_item_of others ++ map ledger_item_of files)) found.2 (by found.0 (Contains-append_cases files others found.0 found.1)),
 )
   where
     by : (file : File) → Contains files file ⊎ Contains others file → Contains (map ledger_item_of others ++ map ledger_item_of files) (ledger_item_of file)
-    by file (inl here) =
-        Contains-append_right (map ledger_item_of others) (map ledger_item_of files) (ledger_item_of file) (map-Contains ledger_item_of files file here)
-    by file (inr here) =
-        Contains-append_left (map ledger_item_of others) (map ledger_item_of files) (ledger_item_of file) (map-Contains ledger_item_of others file here)
+    by file (inl here) = Contains-append_right (map ledger_item_of others) (map ledger_item_of files) (ledger_item_of file) (map-Contains _ _ _ here)
+    by file (inr here) = Contains-append_left (map ledger_item_of others) (map ledger_item_of files) (ledger_item_of file) (map-Contains _ _ _ here)
 
 entries_of_union : (files others : List File) → SameMembers (entries_along others ++ entries_along files) (entries_along (files ++ others))
 entries_of_union files others entry = (
-  members_of_append (entries_along others) (entries_along files) (entries_along (files ++ others))
-      (members_of_flat_map entries_of others (files ++ others) (λ file here. Contains-append_right files others file here))
-      (members_of_flat_map entries_of files (files ++ others) (λ file here. Contains-append_left files others file here)) entry,
+  members_of_append _ _ _ (members_of_flat_map _ _ _ (λ file here. Contains-append_right files others file here))
+      (members_of_flat_map _ _ _ (λ file here. Contains-append_left files others file here)) _,
   λ among.
-      let found = Contains-flat_map entries_of (files ++ others) entry among in
+      let found = Contains-flat_map _ _ _ among in
       by found.0 found.2 (Contains-append_cases files others found.0 found.1),
 )
   where
     by : (file : File) → Contains (entries_of file) entry → Contains files file ⊎ Contains others file
         → Contains (entries_along others ++ entries_along files) entry
-    by file inside (inl here) =
-        Contains-append_right (entries_along others) (entries_along files) entry (flat_map-Contains entries_of files file entry here inside)
-    by file inside (inr here) =
-        Contains-append_left (entries_along others) (entries_along files) entry (flat_map-Contains entries_of others file entry here inside)
+    by file inside (inl here) = Contains-append_right (entries_along others) (entries_along files) entry (flat_map-Contains _ _ _ _ here inside)
+    by file inside (inr here) = Contains-append_left (entries_along others) (entries_along files) entry (flat_map-Contains _ _ _ _ here inside)
 
 -- ---- the laws of summaries
 
@@ -92,29 +84,22 @@ entries_of_union files others entry = (
 -- are listed
 pub summary_unique : (files others : List File) → SameMembers files others → (horizon : ℕ) (s t : State) → IsSummary files horizon s
     → IsSummary others horizon t → s ≡ t
-summary_unique files others same horizon s t is_s is_t =
-    reduced_unique (map ledger_item_of others) (entries_along others) s t (is_s.horizon_is ∙ sym is_t.horizon_is)
-    (reduced_along (map ledger_item_of files) (map ledger_item_of others) (entries_along files) (entries_along others) (same_items files others same)
-    (same_entries files others same) s
-    (summary_reduced files horizon s is_s))
-    (summary_reduced others horizon t is_t)
+summary_unique files others same horizon s t is_s is_t = reduced_unique _ _ _ _ (is_s.horizon_is ∙ sym is_t.horizon_is)
+    (reduced_along _ _ _ _ (same_items _ _ same) (same_entries _ _ same) _ (summary_reduced _ _ _ is_s)) (summary_reduced _ _ _ is_t)
 
 -- the join of two summaries is the summary of both sets of files together, with the greater of the
 -- two horizons
 pub join_is_summary : (files others : List File) (g h : ℕ) (one two joined : State) → IsSummary files g one → IsSummary others h two → IsJoin one two joined
     → IsSummary (files ++ others) (max g h) joined
 join_is_summary files others g h one two joined of_files of_others is =
-    let first = reduced_twice (map ledger_item_of files) two.ledger (entries_along files) two.entries one joined (summary_reduced files g one of_files)
-    (join_reduced one two joined is) (horizon_left one two joined is) in
-    let turn = reduced_along (map ledger_item_of files ++ two.ledger) (two.ledger ++ map ledger_item_of files) (entries_along files ++ two.entries)
-    (two.entries ++ entries_along files)
-    (same_members_turned (map ledger_item_of files) two.ledger) (same_members_turned (entries_along files) two.entries) joined first in
-    let second = reduced_twice (map ledger_item_of others) (map ledger_item_of files) (entries_along others) (entries_along files) two joined
-    (summary_reduced others h two of_others) turn (horizon_right one two joined is) in
-    reduced_summary (files ++ others) (max g h) joined (is.horizon ∙ (λ i. max (of_files.horizon_is i) (of_others.horizon_is i)))
-    (reduced_along (map ledger_item_of others ++ map ledger_item_of files) (map ledger_item_of (files ++ others)) (entries_along others ++ entries_along files)
-    (entries_along (files ++ others))
-    (items_of_union files others) (entries_of_union files others) joined second)
+    let first = reduced_twice _ two.ledger _ two.entries _ joined (summary_reduced _ g _ of_files) (join_reduced one _ joined is) (horizon_left _ two _ is) in
+    let turn = reduced_along (map ledger_item_of files ++ two.ledger) _ (entries_along files ++ two.entries) _
+    (same_members_turned (map ledger_item_of files) _) (same_members_turned (entries_along files) _) joined first in
+    let second = reduced_twice _ (map ledger_item_of files) _ (entries_along files) _ joined
+    (summary_reduced _ h _ of_others) turn (horizon_right one _ joined is) in
+    reduced_summary _ (max g h) _ (is.horizon ∙ (λ i. max (of_files.horizon_is i) (of_others.horizon_is i)))
+    (reduced_along (map ledger_item_of others ++ map ledger_item_of files) _ (entries_along others ++ entries_along files) _
+    (items_of_union files _) (entries_of_union files _) joined second)
 
 -- lapsing a summary with a horizon that is at least the summary's horizon gives the summary with
 -- the new horizon
@@ -125,24 +110,22 @@ lapsed_summary files low high state rises is = record {
   is_floor = is.is_floor;
   ledger_ascends = is.ledger_ascends;
   ledger = is.ledger;
-  entries_ascend = lapse_ascends high state.entries is.entries_ascend;
+  entries_ascend = lapse_ascends _ state.entries is.entries_ascend;
   entries = λ key entry. (
     λ among.
-        let before = lapsed_from high state.entries key entry among in
+        let before = lapsed_from _ state.entries _ entry among in
         let told = (is.entries key before.0).0 before.1 in
         (told.0, told.1, sym (twofold told.0) ∙ ap (lapse_entry high) told.2 ∙ before.2),
     λ told.
         let there = (is.entries key (lapse_entry low told.0)).1 (told.0, told.1, λ i. lapse_entry low told.0) in
         subst (λ e. Contains (lapse_state high state).entries (key, e)) (twofold told.0 ∙ told.2)
-        (lapsed_to high state.entries key (lapse_entry low told.0) there),
+        (lapsed_to _ state.entries _ (lapse_entry low told.0) there),
   );
 }
   where
     twofold : (entry : Entry) → lapse_entry high (lapse_entry low entry) ≡ lapse_entry high entry
-    twofold entry = entry_twice high low entry ∙ ap (λ h. lapse_entry h entry) (max-eq_left rises)
+    twofold entry = entry_twice _ low _ ∙ ap (λ h. lapse_entry h entry) (max-eq_left rises)
 
 -- setting a horizon on a summary gives the summary with the greater of the two horizons
 pub raised_summary : (files : List File) (g h : ℕ) (state : State) → IsSummary files g state → IsSummary files (max g h) (raise_horizon h state)
-raised_summary files g h state is =
-    let same : max state.horizon h ≡ max g h = ap (λ n. max n h) is.horizon_is in
-    subst (λ n. IsSummary files (max g h) (lapse_state n state)) (sym same) (lapsed_summary files g (max g h) state (le-max_left g h) is)
+raised_summary = search (rules, lapsed_summary, le-max_left)

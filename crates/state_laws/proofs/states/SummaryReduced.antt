@@ -1,12 +1,11 @@
 -- A summary is the result of reducing its files' ledger items and the entries that the files'
 -- changes make.
-use Rattle.std.proofs.Common.{◌≡◌, ℕ, List, map, Contains, subst, inl, inr, ◌⊎◌, ap, sym, ◌∙◌, Some, None}
+use Rattle.std.proofs.Common.{◌≡◌, ℕ, List, map, Contains, subst, inl, inr, ◌⊎◌, ap, sym, Some, None, rules}
 use Rattle.std.specs.Prelude.{Option}
-use Rattle.std.specs.Ordering.{ordering_reverse, ordering_then, nat_cmp}
 use Rattle.docker_model.specs.file.Change.{Key, changes}
-use Rattle.docker_model.specs.state.Order.{IsBelow, IsAtMost}
-use Rattle.docker_model.specs.state.Stamp.{FileStamp, LedgerItem, file_stamp_cmp, ledger_item_of, IsKept}
-use Rattle.docker_model.specs.state.Op.{Entry, entry_cmp, op_cmp}
+use Rattle.docker_model.specs.state.Order.{IsAtMost}
+use Rattle.docker_model.specs.state.Stamp.{FileStamp, LedgerItem, ledger_item_of, IsKept}
+use Rattle.docker_model.specs.state.Op.{Entry, entry_cmp}
 use Rattle.docker_model.specs.state.Lapse.{lapse_entry}
 use Rattle.docker_model.specs.state.State.{State, IsGreatestAmong}
 use Rattle.docker_model.specs.state.Summary.{IsSummary, IsEntryOf, IsGreatestEntryOf, entry_of}
@@ -24,22 +23,7 @@ File = List (List ℕ)
 -- entry
 pub below_kept : (floor : Option FileStamp) (low high : Entry) → IsKept floor high.stamp.file → IsKept floor low.stamp.file ⊎ IsAtMost entry_cmp low high
 below_kept None low high kept = inl tt
-below_kept (Some floor) low high kept = by (at_most_or file_stamp_total floor low.stamp.file)
-  where
-    strictly : IsBelow file_stamp_cmp low.stamp.file floor → IsAtMost file_stamp_cmp high.stamp.file low.stamp.file
-        ⊎ IsBelow file_stamp_cmp low.stamp.file high.stamp.file → IsBelow file_stamp_cmp low.stamp.file high.stamp.file
-    strictly below (inl over) =
-        absurd (at_most_trans file_stamp_total floor high.stamp.file low.stamp.file kept over (file_stamp_total.antisymm floor low.stamp.file
-        ∙ ap ordering_reverse below))
-    strictly below (inr strict) = strict
-
-    by : IsAtMost file_stamp_cmp floor low.stamp.file ⊎ IsBelow file_stamp_cmp low.stamp.file floor → IsKept (Some floor) low.stamp.file
-        ⊎ IsAtMost entry_cmp low high
-    by (inl up) = inl up
-    by (inr down) =
-        let below = strictly down (at_most_or file_stamp_total high.stamp.file low.stamp.file) in
-        inr (at_most_below entry_cmp low high (λ i. ordering_then (ordering_then (below i) (nat_cmp low.stamp.number high.stamp.number))
-        (op_cmp low.op high.op)))
+below_kept (Some floor) low high kept = search (rules, at_most_or, file_stamp_total, at_most_trans, at_most_below)
 
 module _ (files : List File) (floor : Option FileStamp) (key : Key) where
   -- if a file isn't below the floor, each entry that the file's changes make is among the entries
@@ -47,8 +31,8 @@ module _ (files : List File) (floor : Option FileStamp) (key : Key) where
   pub entry_in : (entry : Entry) → IsEntryOf files floor key entry → Contains (entries_along files) (key, entry) × IsKept floor entry.stamp.file
   entry_in entry made =
       let pair : entry_of_change made.file made.change ≡ (key, entry) = (λ i. (made.key_is i, made.entry_is i)) in (
-        flat_map-Contains entries_of files made.file (key, entry) made.kept.among
-            (subst (Contains (entries_of made.file)) pair (map-Contains (entry_of_change made.file) (changes made.file) made.change made.among)),
+        flat_map-Contains _ _ _ _ made.kept.among
+            (subst (Contains (entries_of made.file)) pair (map-Contains _ _ _ made.among)),
         subst (λ (e : Entry). IsKept floor e.stamp.file) made.entry_is made.kept.kept,
       )
 
@@ -84,12 +68,8 @@ module _ (files : List File) (floor : Option FileStamp) (key : Key) where
   -- from the files that aren't below the floor
   pub greatest_back : (entry : Entry) → IsGreatestAmong (entries_along files) key entry → IsKept floor entry.stamp.file
       → IsGreatestEntryOf files floor key entry
-  greatest_back entry best kept = record {
-    is = entry_out entry best.among kept;
-    greatest = λ other made. best.greatest other (entry_in other made).0;
-  }
+  greatest_back = search (rules, entry_out, entry_in)
 
--- a summary satisfies `IsReduced` for the ledger items and the entries of its files
 pub summary_reduced : (files : List File) (horizon : ℕ) (state : State) → IsSummary files horizon state → IsReduced (map ledger_item_of files)
     (entries_along files) state
 summary_reduced files horizon state summary = record {
@@ -99,11 +79,11 @@ summary_reduced files horizon state summary = record {
   ledger = λ item. (
     λ among.
         let found = (summary.ledger item).0 among in (
-          subst (Contains (map ledger_item_of files)) found.2 (map-Contains ledger_item_of files found.0 found.1.among),
+          subst (Contains (map ledger_item_of files)) found.2 (map-Contains _ _ _ found.1.among),
           subst (λ (i : LedgerItem). IsKept summary.floor i.stamp) found.2 found.1.kept,
         ),
     λ told.
-        let found = Contains-map ledger_item_of files item told.0 in
+        let found = Contains-map _ _ _ told.0 in
         (summary.ledger item).1 (
           found.0,
           record { among = found.1; kept = subst (λ (i : LedgerItem). IsKept summary.floor i.stamp) (sym found.2) told.1 },
@@ -114,11 +94,11 @@ summary_reduced files horizon state summary = record {
   of_keys = λ key entry. (
     λ among.
         let told = (summary.entries key entry).0 among in
-        let best = greatest_forth files summary.floor key told.0 told.1 in
+        let best = greatest_forth _ summary.floor key told.0 told.1 in
         (told.0, best.0, best.1, subst (λ h. lapse_entry h told.0 ≡ entry) (sym summary.horizon_is) told.2),
     λ told. (summary.entries key entry).1 (
       told.0,
-      greatest_back files summary.floor key told.0 told.1 told.2,
+      greatest_back _ summary.floor key told.0 told.1 told.2,
       subst (λ h. lapse_entry h told.0 ≡ entry) summary.horizon_is told.3,
     ),
   );
@@ -136,10 +116,10 @@ reduced_summary files horizon state horizon_is is = record {
   ledger = λ item. (
     λ among.
         let told = (is.ledger item).0 among in
-        let found = Contains-map ledger_item_of files item told.0 in
+        let found = Contains-map _ _ _ told.0 in
         (found.0, record { among = found.1; kept = subst (λ (i : LedgerItem). IsKept is.floor i.stamp) (sym found.2) told.1 }, found.2),
     λ found. (is.ledger item).1 (
-      subst (Contains (map ledger_item_of files)) found.2 (map-Contains ledger_item_of files found.0 found.1.among),
+      subst (Contains (map ledger_item_of files)) found.2 (map-Contains _ _ _ found.1.among),
       subst (λ (i : LedgerItem). IsKept is.floor i.stamp) found.2 found.1.kept,
     ),
   );
@@ -147,9 +127,9 @@ reduced_summary files horizon state horizon_is is = record {
   entries = λ key entry. (
     λ among.
         let told = (is.of_keys key entry).0 among in
-        (told.0, greatest_back files is.floor key told.0 told.1 told.2, subst (λ h. lapse_entry h told.0 ≡ entry) horizon_is told.3),
+        (told.0, greatest_back _ is.floor key told.0 told.1 told.2, subst (λ h. lapse_entry h told.0 ≡ entry) horizon_is told.3),
     λ told.
-        let best = greatest_forth files is.floor key told.0 told.1 in
+        let best = greatest_forth _ is.floor key told.0 told.1 in
         (is.of_keys key entry).1 (told.0, best.0, best.1, subst (λ h. lapse_entry h told.0 ≡ entry) (sym horizon_is) told.2),
   );
 }

@@ -1,13 +1,14 @@
 -- Lapsing a table with a horizon keeps exactly the bodies that didn't end before the horizon.
 -- Lapsing a state lapses its live table.
-use Rattle.std.proofs.Common.{◌≡◌, ℕ, ◌<◌, ◌≤◌, List, [], ◌∷◌, inl, inr, ◌⊎◌, refl, ap, sym, ◌∙◌, Bool, true, false, cond, Some, None}
+use Rattle.std.proofs.Common.{◌≡◌, ℕ, ◌<◌, ◌≤◌, List, [], ◌∷◌, refl, ap, ◌∙◌, cond, Some, None, arith}
+use Rattle.std.proofs.Common.{rules}
 use Rattle.std.specs.Prelude.{Option, find, option_and_then}
 use Rattle.std.specs.Ordering.{is_eq}
 use Rattle.std.proofs.lemmas.Bool.{lt-ltb, le-ltb}
 use Rattle.docker_model.specs.file.Change.{Key, Body}
-use Rattle.docker_model.specs.state.Op.{key_cmp, body_end, Op, deleted, lapsed, put_with, body_of, Entry}
+use Rattle.docker_model.specs.state.Op.{key_cmp, body_end, Op, body_of, Entry}
 use Rattle.docker_model.specs.state.Table.{Table}
-use Rattle.docker_model.specs.state.Lapse.{lapse, lapse_keyed, lapse_entries, unlapsed, lapse_table}
+use Rattle.docker_model.specs.state.Lapse.{lapse, lapse_entries, unlapsed, lapse_table}
 use Rattle.docker_model.specs.state.State.{State, live_table, lapse_state}
 use Rattle.state_laws.proofs.states.Lapse.{below_or, put_lapses, put_stays}
 use Rattle.state_laws.proofs.states.PlainTable.{Keyed}
@@ -29,27 +30,13 @@ live_stays horizon table key body is above = ap (option_and_then (unlapsed horiz
 
 -- each body in a lapsed table was in the table before lapsing
 pub was_live : (horizon : ℕ) (table : Table) (key : Key) (body : Body) → lapse_table horizon table key ≡ Some body → table key ≡ Some body
-was_live horizon table key body is = by (table key) is
-  where
-    by : (found : Option Body) → option_and_then (unlapsed horizon) found ≡ Some body → found ≡ Some body
-    by None none = cc
-    by (Some here) some = which (below_or horizon here)
-      where
-        which : (body_end here < horizon) ⊎ (horizon ≤ body_end here) → Some here ≡ Some body
-        which (inl below) = let gone = body_gone horizon here below in cc
-        which (inr above) = sym (body_stays horizon here above) ∙ some
+was_live = search (rules, below_or, body_gone, body_stays)
 
 -- ---- lapsing a state lapses its live table
 
 -- a lapsed op has the body that the op had before, unless this body ended before the horizon
 pub body_lapses : (horizon : ℕ) (op : Op) → body_of (lapse horizon op) ≡ option_and_then (unlapsed horizon) (body_of op)
-body_lapses horizon deleted = refl
-body_lapses horizon lapsed = refl
-body_lapses horizon (put_with body) = by (below_or horizon body)
-  where
-    by : (body_end body < horizon) ⊎ (horizon ≤ body_end body) → body_of (lapse horizon (put_with body)) ≡ unlapsed horizon body
-    by (inl below) = ap body_of (put_lapses horizon body below) ∙ sym (body_gone horizon body below)
-    by (inr above) = ap body_of (put_stays horizon body above) ∙ sym (body_stays horizon body above)
+body_lapses = search (rules, below_or, put_lapses, body_gone, put_stays, body_stays)
 
 -- the body of the entry that a search found, or `None` if the search found no entry
 abbrev pub body_in : Option Keyed → Option Body
@@ -59,15 +46,7 @@ found_lapsed : (horizon : ℕ) (entries : List Keyed) (key : Key)
     → body_in (find (λ entry. is_eq (key_cmp entry.0 key)) (lapse_entries horizon entries)) ≡ option_and_then (unlapsed horizon)
     (body_in (find (λ entry. is_eq (key_cmp entry.0 key)) entries))
 found_lapsed horizon [] key = refl
-found_lapsed horizon (first ∷ entries) key = by (is_eq (key_cmp first.0 key)) (found_lapsed horizon entries key)
-  where
-    by : (b : Bool)
-        → body_in (find (λ entry. is_eq (key_cmp entry.0 key)) (lapse_entries horizon entries)) ≡ option_and_then (unlapsed horizon)
-        (body_in (find (λ entry. is_eq (key_cmp entry.0 key)) entries))
-        → body_in (cond b (Some (lapse_keyed horizon first)) (find (λ entry. is_eq (key_cmp entry.0 key)) (lapse_entries horizon entries)))
-        ≡ option_and_then (unlapsed horizon) (body_in (cond b (Some first) (find (λ entry. is_eq (key_cmp entry.0 key)) entries)))
-    by true rest = body_lapses horizon first.1.op
-    by false rest = rest
+found_lapsed horizon (first ∷ entries) key = grind (arith, body_lapses, (found_lapsed horizon entries key))
 
 -- at each key, the live table of a lapsed state equals the lapsed live table of the state
 pub live_lapsed_at : (horizon : ℕ) (state : State) (key : Key) → live_table (lapse_state horizon state) key ≡ lapse_table horizon (live_table state) key

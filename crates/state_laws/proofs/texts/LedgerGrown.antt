@@ -1,13 +1,10 @@
 -- A ledger with a good item appended is still a ledger. An item is good if it is well formed, is
 -- above all items of the ledger, and doesn't raise the floor.
-use Rattle.std.proofs.Common.{◌≡◌, subst, List, [], ◌∷◌, ◌++◌, refl, sym, inl, inr, ◌⊎◌, arith, All, Contains, Some, None}
+use Rattle.std.proofs.Common.{◌≡◌, subst, List, [], ◌∷◌, ◌++◌, refl, sym, inl, inr, ◌⊎◌, arith, All, Contains, Some, None, rules}
 use Rattle.std.specs.Prelude.{Option}
 use Rattle.std.specs.List.{AllByRecursion}
-use Rattle.std.specs.Ordering.{ordering_then, nat_cmp}
-use Rattle.std.specs.declared.cmp.Ordering.{Ordering}
-use Rattle.std.specs.declared.cmp.Ordering.TheVariants.{Less, Greater}
 use Rattle.std.proofs.lemmas.List.Elements.{All-from_recursion, recursion_from_All, Contains-append_cases, Contains-append_left, Contains-append_right}
-use Rattle.docker_model.specs.state.Order.{IsBelow, IsAtMost, bytes_cmp, IsStrictlyAscending}
+use Rattle.docker_model.specs.state.Order.{IsBelow, IsAtMost, IsStrictlyAscending}
 use Rattle.docker_model.specs.state.Stamp.{LedgerItem, file_stamp_cmp, ledger_item_cmp, FileStamp, IsFloor, IsKept, IsFull}
 use Rattle.docker_model.specs.state.State.{IsGoodItem, IsLedger}
 use Rattle.docker_model.specs.state.StatePart.{IsAboveItems, RaisesFloor}
@@ -20,13 +17,7 @@ use Rattle.cif_laws.proofs.orders.Ascending.{ascending_last}
 
 -- if one item is below another, its file stamp is at most the other item's file stamp
 pub stamps_below : (first second : LedgerItem) → IsBelow ledger_item_cmp first second → IsAtMost file_stamp_cmp first.stamp second.stamp
-stamps_below first second below above =
-    by (ordering_then (nat_cmp first.indicator second.indicator) (bytes_cmp first.last_reference second.last_reference))
-    (subst (λ o. ordering_then o (ordering_then (nat_cmp first.indicator second.indicator) (bytes_cmp first.last_reference second.last_reference))
-    ≡ Less) above below)
-  where
-    by : (o : Ordering) → ordering_then Greater o ≡ Less → ⊥
-    by o e = cc
+stamps_below = search rules
 
 -- in this module, `item` is a well-formed item that is above all items of the ledger and doesn't
 -- raise the floor
@@ -39,8 +30,7 @@ module _ (ledger : List LedgerItem) (item : LedgerItem) (is : IsLedger ledger) (
   at_most_last other among = stamps_below other item (below_by_recursion (λ earlier. IsBelow ledger_item_cmp earlier item) ledger other above_each among)
 
   each_good : All IsGoodItem (ledger ++ item ∷ [])
-  each_good =
-      All-from_recursion IsGoodItem (ledger ++ item ∷ []) (all_append IsGoodItem ledger (item ∷ []) (recursion_from_All IsGoodItem ledger is.each) (good, tt))
+  each_good = All-from_recursion IsGoodItem (ledger ++ item ∷ []) (all_append _ _ _ (recursion_from_All IsGoodItem ledger is.each) (good, tt))
 
   each_ascends : IsStrictlyAscending ledger_item_cmp (ledger ++ item ∷ [])
   each_ascends = ascending_last ledger_item_cmp ledger item is.ascending above_each
@@ -65,8 +55,7 @@ module _ (ledger : List LedgerItem) (item : LedgerItem) (is : IsLedger ledger) (
       by it full (inr last) = absurd (other (subst IsFull (sym (in_single item it last)) full))
 
   kept_last : (at : Option FileStamp) → IsFloor ledger at → IsKept at item.stamp
-  kept_last None none = tt
-  kept_last (Some stamp) greatest = subst (λ s. IsAtMost file_stamp_cmp s item.stamp) greatest.stamped (at_most_last greatest.full greatest.among)
+  kept_last = search (rules, at_most_last)
 
   -- if the item is for a full extract, the floor after the item is appended is the item's file
   -- stamp
@@ -88,8 +77,8 @@ kept_each : (ledger : List LedgerItem) (item : LedgerItem) → IsStrictlyAscendi
 kept_each [] item up floor full = tt
 kept_each (first ∷ ledger) item up floor full = (
   low,
-  all_weaker (IsBelow ledger_item_cmp first) (λ (it : LedgerItem). IsAtMost file_stamp_cmp item.stamp it.stamp)
-      (λ it below. at_most_trans file_stamp_total item.stamp first.stamp it.stamp low (stamps_below first it below)) ledger up.0,
+  all_weaker _ (λ (it : LedgerItem). IsAtMost file_stamp_cmp item.stamp it.stamp)
+      (λ it below. at_most_trans file_stamp_total _ first.stamp _ low (stamps_below first _ below)) ledger up.0,
 )
   where
     by : IsAtMost file_stamp_cmp item.stamp first.stamp ⊎ IsBelow file_stamp_cmp first.stamp item.stamp → IsAtMost file_stamp_cmp item.stamp first.stamp
@@ -97,12 +86,12 @@ kept_each (first ∷ ledger) item up floor full = (
     by (inr below) = absurd (floor (full, below))
 
     low : IsAtMost file_stamp_cmp item.stamp first.stamp
-    low = by (at_most_or file_stamp_total item.stamp first.stamp)
+    low = by (at_most_or file_stamp_total _ first.stamp)
 
 -- a ledger with a good item appended is still a ledger
 pub one_item_more : (ledger : List LedgerItem) (item : LedgerItem) → IsLedger ledger → IsGoodItem item → IsAboveItems ledger item → ¬ RaisesFloor ledger item
     → IsLedger (ledger ++ item ∷ [])
-one_item_more ledger item is good above floor = by (nat_decided item.indicator 70)
+one_item_more ledger item is good above floor = by (nat_decided _ 70)
   where
     by : Decided (item.indicator ≡ 70) → IsLedger (ledger ++ item ∷ [])
     by (inl full) = record {
@@ -111,18 +100,17 @@ one_item_more ledger item is good above floor = by (nat_decided item.indicator 7
       floor = Some item.stamp;
       is_floor = floor_at_last ledger item is good above floor full;
       kept = All-from_recursion (λ (it : LedgerItem). IsAtMost file_stamp_cmp item.stamp it.stamp) (ledger ++ item ∷ [])
-          (all_append (λ (it : LedgerItem). IsAtMost file_stamp_cmp item.stamp it.stamp) ledger (item ∷ []) (kept_each ledger item is.ascending floor full)
-          (at_most_itself file_stamp_total item.stamp, tt));
+          (all_append _ ledger _ (kept_each ledger _ is.ascending floor full) (at_most_itself file_stamp_total item.stamp, tt));
     }
     by (inr other) = record {
       each = each_good ledger item is good above floor;
       ascending = each_ascends ledger item is good above floor;
       floor = is.floor;
-      is_floor = same_floor ledger item is good above floor other is.floor is.is_floor;
+      is_floor = same_floor ledger _ is good above floor other is.floor is.is_floor;
       kept = All-from_recursion (λ (it : LedgerItem). IsKept is.floor it.stamp) (ledger ++ item ∷ [])
-          (all_append (λ (it : LedgerItem). IsKept is.floor it.stamp) ledger (item ∷ [])
+          (all_append (λ (it : LedgerItem). IsKept is.floor it.stamp) _ (item ∷ [])
           (recursion_from_All (λ (it : LedgerItem). IsKept is.floor it.stamp) ledger is.kept)
-          (kept_last ledger item is good above floor is.floor is.is_floor, tt));
+          (kept_last _ item is good above floor is.floor is.is_floor, tt));
     }
 
 -- the empty list of items is a ledger

@@ -1,14 +1,14 @@
 -- A text has at most one fault. If a state's text is within the limit, it has no fault.
-use Rattle.std.proofs.Common.{◌≡◌, ℕ, ◌+◌, ◌≤◌, List, [], ◌∷◌, ◌++◌, length, refl, ap, sym, ◌∙◌}
+use Rattle.std.proofs.Common.{◌≡◌, ℕ, ◌+◌, ◌≤◌, List, ◌∷◌, ◌++◌, length, ap, sym, ◌∙◌, rules}
 use Rattle.std.proofs.Common.{subst, inl, inr, arith, append_assoc, append-nil, length-append}
 use Rattle.docker_model.specs.file.Change.{Key}
 use Rattle.docker_model.specs.state.Stamp.{LedgerItem}
 use Rattle.docker_model.specs.state.State.{State}
-use Rattle.docker_model.specs.state.StateText.{item_in, key_in, Format, state_text}
-use Rattle.docker_model.specs.state.StatePart.{EntryPart, before_tag, before_key, before_stamp, before_op, before_body}
-use Rattle.docker_model.specs.state.StatePart.{before_line, Before, before_mark, before_horizon, before_ledger_count, before_item}
-use Rattle.docker_model.specs.state.StatePart.{before_entry_count, in_entry, at_end, items_before, text_before, width}
-use Rattle.docker_model.specs.state.StateFault.{StateCause, bad_item, bad_order, bad_floor, bad_body, StateFault, IsBadItem, IsBadKey}
+use Rattle.docker_model.specs.state.StateText.{Format, state_text}
+use Rattle.docker_model.specs.state.StatePart.{EntryPart}
+use Rattle.docker_model.specs.state.StatePart.{Before}
+use Rattle.docker_model.specs.state.StatePart.{at_end, items_before, text_before, width}
+use Rattle.docker_model.specs.state.StateFault.{StateCause, StateFault, IsBadItem, IsBadKey}
 use Rattle.docker_model.specs.state.StateFault.{IsBadEntryPart, IsBadPart, HasBadPart, IsLong, IsShort, HasTail, IsStateFault, IsStateText}
 use Rattle.cif_laws.proofs.lists.Fronts.{same_front}
 use Rattle.state_laws.proofs.texts.TextsApart.{same_end, IsStopped, one_stop, stop_of_bad, stop_of_long, stop_of_short, stop_at_end}
@@ -16,47 +16,18 @@ use Rattle.state_laws.proofs.texts.TextsApart.{same_end, IsStopped, one_stop, st
 -- an item is bad for at most one cause
 one_item_cause : (ledger : List LedgerItem) (item : LedgerItem) (first second : StateCause) → IsBadItem ledger item first → IsBadItem ledger item second
     → first ≡ second
-one_item_cause ledger item bad_item bad_item one two = refl
-one_item_cause ledger item bad_item bad_order one two = absurd (one two.0)
-one_item_cause ledger item bad_item bad_floor one two = absurd (one two.0)
-one_item_cause ledger item bad_order bad_item one two = absurd (two one.0)
-one_item_cause ledger item bad_order bad_order one two = refl
-one_item_cause ledger item bad_order bad_floor one two = absurd (one.1 two.1)
-one_item_cause ledger item bad_floor bad_item one two = absurd (two one.0)
-one_item_cause ledger item bad_floor bad_order one two = absurd (two.1 one.1)
-one_item_cause ledger item bad_floor bad_floor one two = refl
-one_item_cause ledger item bad_item _ one two = absurd two
-one_item_cause ledger item bad_order _ one two = absurd two
-one_item_cause ledger item bad_floor _ one two = absurd two
-one_item_cause ledger item _ _ one two = absurd one
+one_item_cause = search rules
 
 one_key_cause : (state : State) (key : Key) (first second : StateCause) → IsBadKey state key first → IsBadKey state key second → first ≡ second
-one_key_cause state key bad_body bad_body one two = refl
-one_key_cause state key bad_body bad_order one two = absurd (one two.0)
-one_key_cause state key bad_order bad_body one two = absurd (two one.0)
-one_key_cause state key bad_order bad_order one two = refl
-one_key_cause state key bad_body _ one two = absurd two
-one_key_cause state key bad_order _ one two = absurd two
-one_key_cause state key _ _ one two = absurd one
+one_key_cause = search rules
 
 one_part_cause : (format : Format) → (state : State) (part : EntryPart) (bytes : List ℕ) (first second : StateCause)
     → IsBadEntryPart format state part bytes first → IsBadEntryPart format state part bytes second → first ≡ second
-one_part_cause format state before_tag bytes first second one two = one.0 ∙ sym two.0
-one_part_cause format state (before_key tag) bytes first second one two = one_key_cause state (key_in tag bytes) first second one two
-one_part_cause format state (before_stamp key) bytes first second one two = one.0 ∙ sym two.0
-one_part_cause format state (before_op key stamp) bytes first second one two = one.0 ∙ sym two.0
-one_part_cause format state (before_body key stamp) bytes first second one two = one.0 ∙ sym two.0
-one_part_cause format state (before_line key stamp count lines) bytes first second one two = one.0 ∙ sym two.0
+one_part_cause = search (rules, one_key_cause)
 
 one_cause : (format : Format) → (before : Before) (bytes : List ℕ) (first second : StateCause) → IsBadPart format before bytes first
     → IsBadPart format before bytes second → first ≡ second
-one_cause format before_mark bytes first second one two = one.0 ∙ sym two.0
-one_cause format before_horizon bytes first second one two = one.0 ∙ sym two.0
-one_cause format (before_ledger_count horizon) bytes first second one two = absurd one
-one_cause format (before_item horizon count ledger) bytes first second one two = one_item_cause ledger (item_in bytes) first second one two
-one_cause format (before_entry_count horizon ledger) bytes first second one two = absurd one
-one_cause format (in_entry count state part) bytes first second one two = one_part_cause format state part bytes first second one two
-one_cause format (at_end state) bytes first second one two = absurd one
+one_cause = search (rules, one_item_cause, one_part_cause)
 
 -- two faults with the same offset and cause are equal
 fault_is : (first second : StateFault) → first.at ≡ second.at → first.cause ≡ second.cause → first ≡ second
@@ -102,9 +73,8 @@ bad_and_short format limit text first second one two =
 -- if a reader of a text stops at the end of a state, the text has no bad part
 end_and_bad : (format : Format) → (limit : ℕ) (text : List ℕ) (state : State) (fault : StateFault) → IsStopped format limit text (at_end state)
     → HasBadPart format limit text fault → ⊥
-end_and_bad format limit text state fault stopped one =
-    subst (λ before. IsBadPart format before one.bytes fault.cause) (one_stop format limit text one.before (at_end state)
-    (stop_of_bad format limit text fault one) stopped) one.bad
+end_and_bad format limit text state fault stopped one = subst (λ before. IsBadPart format before one.bytes fault.cause) (one_stop _ limit _ one.before _
+    (stop_of_bad format _ text _ one) stopped) one.bad
 
 end_and_long : (format : Format) → (limit : ℕ) (text : List ℕ) (state : State) (fault : StateFault) → IsStopped format limit text (at_end state)
     → IsLong format limit text fault → ⊥
@@ -176,15 +146,14 @@ pub no_fault_of_state : (format : Format) → (limit : ℕ) (text : List ℕ) (s
 no_fault_of_state format limit text state fault is found = by found
   where
     stopped : IsStopped format limit text (at_end state)
-    stopped =
-        stop_at_end format limit text state [] is.valid (is.is ∙ sym (append-nil (state_text format state))) (subst (λ xs. length xs ≤ limit) is.is is.within)
+    stopped = stop_at_end _ limit _ state _ is.valid (is.is ∙ sym (append-nil (state_text format state))) (subst (λ xs. length xs ≤ limit) is.is is.within)
 
     by : IsStateFault format limit text fault → ⊥
-    by (inl one) = end_and_bad format limit text state fault stopped one
-    by (inr (inl one)) = end_and_long format limit text state fault stopped one
-    by (inr (inr (inl one))) = end_and_short format limit text state fault stopped one
+    by (inl one) = end_and_bad format _ text _ fault stopped one
+    by (inr (inl one)) = end_and_long _ limit _ state _ stopped one
+    by (inr (inr (inl one))) = end_and_short format _ text _ fault stopped one
     by (inr (inr (inr one))) =
-        let same = same_end one.state state (one_stop format limit text (at_end one.state) (at_end state) (stop_of_tail format limit text fault one) stopped) in
+        let same = same_end _ state (one_stop _ limit _ (at_end one.state) _ (stop_of_tail format _ text _ one) stopped) in
         let sizes = ap (λ s. length (state_text format s)) same in
         let here = ap length is.is in
         let there = ap length one.whole ∙ length-append (state_text format one.state) (one.next ∷ one.rest) in

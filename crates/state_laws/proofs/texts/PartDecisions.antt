@@ -1,13 +1,12 @@
 -- It is decidable whether a part of a state's text is good.
-use Rattle.std.proofs.Common.{◌≡◌, ℕ, ◌-◌, ◌^◌, List, [], ◌∷◌, length, map, subst, inl, inr, ◌⊎◌, true, Contains}
+use Rattle.std.proofs.Common.{◌≡◌, ℕ, ◌-◌, ◌^◌, List, [], ◌∷◌, subst, inl, inr, ◌⊎◌, Contains, rules}
 use Rattle.std.specs.Prelude.{slice_index}
 use Rattle.std.specs.Int.{w32, from_be_bytes}
 use Rattle.docker_model.specs.records.Record.{association, is_printable, column, IsTextOfLength}
 use Rattle.docker_model.specs.records.Date.{last_day}
 use Rattle.docker_model.specs.records.Field.{is_stp_letter, IsTiploc}
-use Rattle.docker_model.specs.file.File.{first_record}
 use Rattle.docker_model.specs.file.Change.{Key, tiploc_key, association_key, schedule_key, AssociationKey, ScheduleKey}
-use Rattle.docker_model.specs.file.Change.{association_named, schedule_named, association_body, schedule_body}
+use Rattle.docker_model.specs.file.Change.{association_named, schedule_body}
 use Rattle.docker_model.specs.state.Order.{IsBelow}
 use Rattle.docker_model.specs.state.Stamp.{FileStamp, Stamp, LedgerItem, file_stamp_cmp, ledger_item_cmp}
 use Rattle.docker_model.specs.state.Op.{key_cmp, body_end}
@@ -22,8 +21,7 @@ use Rattle.cif_laws.proofs.lists.Decisions.{nat_decided, le_decided, lt_decided,
 use Rattle.cif_laws.proofs.schedules.ScheduleFronts.{record_decided, has_kind_decided, good_fields_decided, schedule_decided, begins_decided}
 
 text_of_length_decided : (n : ℕ) (bytes : List ℕ) → Decided (IsTextOfLength n bytes)
-text_of_length_decided n bytes =
-    both_decided (nat_decided (length bytes) n) (All_decided (λ b. is_printable b ≡ true) (λ b. bool_decided (is_printable b)) bytes)
+text_of_length_decided n bytes = both_decided (nat_decided _ n) (All_decided _ (λ b. bool_decided (is_printable b)) _)
 
 tiploc_decided : (code : List ℕ) → Decided (IsTiploc code)
 tiploc_decided code = both_decided (text_of_length_decided 7 code) (not_decided (nat_decided (slice_index code 0) 32))
@@ -32,10 +30,8 @@ tiploc_decided code = both_decided (text_of_length_decided 7 code) (not_decided 
 pub good_item_decided : (item : LedgerItem) → Decided (IsGoodItem item)
 good_item_decided item =
     decided_along (λ h. record { day = h.0; minute = h.1.0; reference = h.1.1.0; indicator = h.1.1.1.0; last_reference = h.1.1.1.1 })
-    (λ good. (good.day, (good.minute, (good.reference, (good.indicator, good.last_reference)))))
-    (both_decided (le_decided item.stamp.moment.day last_day) (both_decided (lt_decided item.stamp.moment.minute 1440)
-    (both_decided (text_of_length_decided 7 item.stamp.reference) (both_decided (either_decided (nat_decided item.indicator 70) (nat_decided item.indicator 85))
-    (text_of_length_decided 7 item.last_reference)))))
+    (λ good. (good.day, (good.minute, (good.reference, (good.indicator, good.last_reference))))) (both_decided (le_decided _ _) (both_decided (lt_decided _ _)
+    (both_decided (text_of_length_decided _ _) (both_decided (either_decided (nat_decided _ _) (nat_decided _ _)) (text_of_length_decided _ _)))))
 
 -- it is decidable whether an item is above the items before it
 pub above_items_decided : (ledger : List LedgerItem) (item : LedgerItem) → Decided (IsAboveItems ledger item)
@@ -48,18 +44,7 @@ raises_floor_decided (first ∷ ledger) item = both_decided (nat_decided item.in
 
 -- it is decidable whether a number is a tag
 pub tag_decided : (tag : ℕ) → Decided (IsTag tag)
-tag_decided tag = by (nat_decided tag 1) (nat_decided tag 2) (nat_decided tag 3)
-  where
-    by : Decided (tag ≡ 1) → Decided (tag ≡ 2) → Decided (tag ≡ 3) → Decided (IsTag tag)
-    by (inl one) b c = inl (inl one)
-    by (inr a) (inl two) c = inl (inr (inl two))
-    by (inr a) (inr b) (inl three) = inl (inr (inr three))
-    by (inr a) (inr b) (inr c) = inr none
-      where
-        none : IsTag tag → ⊥
-        none (inl one) = a one
-        none (inr (inl two)) = b two
-        none (inr (inr three)) = c three
+tag_decided = search (rules, nat_decided)
 
 association_key_decided : (key : AssociationKey) → Decided (IsGoodAssociationKey key)
 association_key_decided key =
@@ -75,9 +60,7 @@ schedule_key_decided key =
 
 -- it is decidable whether a key is well formed
 pub good_key_decided : (key : Key) → Decided (IsGoodKey key)
-good_key_decided (tiploc_key code) = tiploc_decided code
-good_key_decided (association_key key) = association_key_decided key
-good_key_decided (schedule_key key) = schedule_key_decided key
+good_key_decided = search (rules, tiploc_decided, association_key_decided, schedule_key_decided)
 
 -- it is decidable whether a key is above the keys before it
 pub above_entries_decided : (state : State) (key : Key) → Decided (IsAboveEntries state key)
@@ -99,9 +82,8 @@ contains_decided (y ∷ xs) x = by (same_decided file_stamp_total exact_file_sta
 -- it is decidable whether a stamp is the stamp of a change in a file of the ledger
 pub stamp_in_decided : (ledger : List LedgerItem) (stamp : Stamp) → Decided (IsStampIn ledger stamp)
 stamp_in_decided ledger stamp =
-    decided_along (λ h. record { in_ledger = h.0; low = h.1.0; high = h.1.1 }) (λ is. (is.in_ledger, (is.low, is.high)))
-    (both_decided (contains_decided (map (λ (item : LedgerItem). item.stamp) ledger) stamp.file)
-    (both_decided (le_decided 2 stamp.number) (lt_decided stamp.number (2 ^ 32 - 1))))
+    decided_along (λ h. record { in_ledger = h.0; low = h.1.0; high = h.1.1 }) (λ is. (is.in_ledger, (is.low, is.high))) (both_decided (contains_decided _ _)
+    (both_decided (le_decided _ _) (lt_decided _ _)))
 
 -- it is decidable whether a byte may begin an op in the format
 pub op_byte_decided : (format : Format) (byte : ℕ) → Decided (IsOpByte format byte)
@@ -125,23 +107,18 @@ line_count_decided count = both_decided (lt_decided 0 count) (lt_decided count (
 -- it is decidable whether the bytes are a good body for a key in a state
 pub body_part_decided : (state : State) (key : Key) (bytes : List ℕ) → Decided (IsBodyPart state key bytes)
 body_part_decided state (tiploc_key code) bytes = text_of_length_decided 63 bytes
-body_part_decided state (association_key key) bytes =
-    both_decided (association_decided key bytes) (le_decided state.horizon (body_end (association_body bytes)))
+body_part_decided state (association_key key) bytes = search (rules, both_decided, association_decided, le_decided)
 body_part_decided state (schedule_key key) bytes = line_count_decided (from_be_bytes w32 bytes)
 
 implied_decided : {P Q : Type 0} → Decided P → Decided Q → Decided (P → Q)
-implied_decided p (inl q) = inl (λ h. q)
-implied_decided (inl p) (inr none) = inr (λ f. none (f p))
-implied_decided (inr never) (inr none) = inl (λ p. absurd (never p))
+implied_decided = search rules
 
 -- it is decidable whether these lines are the beginning of a schedule with this key
 pub lines_decided : (key : ScheduleKey) (count : ℕ) (lines : List (List ℕ)) → Decided (AreLinesUpTo key count lines)
 lines_decided key count lines =
     decided_along (λ h. record { lines_of = record { begin = h.0; new = h.1.0; key_is = h.1.1.0 }; complete = h.1.1.1 })
-    (λ are. (are.lines_of.begin, (are.lines_of.new, (are.lines_of.key_is, are.complete))))
-    (both_decided (begins_decided lines) (both_decided (nat_decided (column 3 (first_record lines)) 78)
-    (both_decided (same_key_decided (schedule_named (first_record lines)) (schedule_key key))
-    (implied_decided (nat_decided (length lines) count) (schedule_decided lines)))))
+    (λ are. (are.lines_of.begin, (are.lines_of.new, (are.lines_of.key_is, are.complete)))) (both_decided (begins_decided _) (both_decided (nat_decided _ _)
+    (both_decided (same_key_decided _ _) (implied_decided (nat_decided _ _) (schedule_decided _)))))
 
 -- it is decidable whether these lines are the beginning of a schedule that has this key and doesn't
 -- have to lapse

@@ -1,27 +1,26 @@
 -- A part of a state's text that has the right number of bytes either is bad for some cause or is
 -- good.
-use Rattle.std.proofs.Common.{◌≡◌, ℕ, ◌-◌, ◌<◌, ◌≤◌, ◌^◌, List, [], ◌∷◌, ◌++◌, length, refl, ap, sym, ◌∙◌, subst}
+use Rattle.std.proofs.Common.{◌≡◌, ℕ, ◌-◌, ◌<◌, ◌≤◌, ◌^◌, List, [], ◌∷◌, ◌++◌, length, refl, ap, sym, ◌∙◌, subst, rules}
 use Rattle.std.proofs.Common.{inl, inr, ◌⊎◌, arith, true, false, cond, nat_le, append-nil, length-append}
 use Rattle.std.specs.Prelude.{slice_index}
-use Rattle.std.specs.Int.{w16, w32, w64, to_be_bytes, from_be_bytes}
+use Rattle.std.specs.Int.{w16, w32, to_be_bytes, from_be_bytes}
 use Rattle.std.proofs.lemmas.Nat.{be_bytes_2}
 use Rattle.std.proofs.lemmas.Bool.Decides.{leb_tells}
 use Rattle.std.specs.Cmp.Lexicographic.{nat_list_cmp_total}
 use Rattle.std.proofs.lemmas.Map.Lookups.{exact_bytes}
-use Rattle.docker_model.specs.records.Date.{IsDay, last_day}
-use Rattle.docker_model.specs.file.Change.{Key, tiploc_key, association_key, schedule_key, ScheduleKey, tiploc_body, association_body, schedule_body}
+use Rattle.docker_model.specs.file.Change.{Key, tiploc_key, association_key, schedule_key, ScheduleKey, tiploc_body, schedule_body}
 use Rattle.docker_model.specs.state.Stamp.{Stamp, LedgerItem}
-use Rattle.docker_model.specs.state.Op.{Op, deleted, lapsed, put_with}
+use Rattle.docker_model.specs.state.Op.{Op, lapsed, put_with}
 use Rattle.docker_model.specs.state.Lapse.{HasNotToLapse}
 use Rattle.docker_model.specs.state.State.{IsGoodItem, IsGoodKey, IsStampIn, IsScheduleOf, State, IsOpOf}
-use Rattle.docker_model.specs.state.StateText.{stamp_bytes, item_in, key_in, stamp_in, Format, dks_1, dks_2}
-use Rattle.docker_model.specs.state.StateText.{head_text, mark, entries_text, IsOpByte, TellsOp, IsToldState}
+use Rattle.docker_model.specs.state.StateText.{item_in, key_in, stamp_in, Format, dks_1, dks_2}
+use Rattle.docker_model.specs.state.StateText.{mark, entries_text, IsOpByte, TellsOp, IsToldState}
 use Rattle.docker_model.specs.state.StatePart.{EntryPart, before_tag, before_key, before_stamp, before_op, before_body, before_line, key_text, part_width}
 use Rattle.docker_model.specs.state.StatePart.{key_width, IsTag, IsLineCount, IsAboveItems, RaisesFloor, AreLinesOf, AreLinesUpTo, Before, before_mark}
-use Rattle.docker_model.specs.state.StatePart.{before_horizon, before_ledger_count, before_item, before_entry_count, in_entry, at_end, items_before}
+use Rattle.docker_model.specs.state.StatePart.{before_horizon, before_ledger_count, before_item, before_entry_count, in_entry, at_end}
 use Rattle.docker_model.specs.state.StatePart.{text_before, width, HaveNotToLapse, IsAboveEntries, IsKeyHere, IsStampHere, IsPartHere, AreGood}
 use Rattle.docker_model.specs.state.StateFault.{StateCause, bad_mark, bad_item, bad_order, bad_floor, bad_tag}
-use Rattle.docker_model.specs.state.StateFault.{bad_stamp, bad_body, bad_horizon, IsBadPart, IsBodyPart}
+use Rattle.docker_model.specs.state.StateFault.{bad_stamp, bad_body, IsBadPart, IsBodyPart}
 use Rattle.state_laws.specs.TextStage.{after_entries, with_entry, after_lines, advance}
 use Rattle.state_laws.proofs.texts.TextsBefore.{after_entries_text, entry_done_text}
 use Rattle.state_laws.proofs.texts.GoodPartLeads.{count_of_ledger, item_text, body_text, count_text, line_text, part_more}
@@ -62,17 +61,11 @@ two_bytes : (bytes : List ℕ) → length bytes ≡ 2 → AreBytes bytes → to_
 two_bytes bytes size small = be_bytes_2 bytes _ size (small_at bytes small) refl
 
 judge_horizon : (format : Format) (bytes : List ℕ) → AreGood format before_horizon → length bytes ≡ 2 → AreBytes bytes → Judged format before_horizon bytes
-judge_horizon dks_1 bytes good size small = absurd good
-judge_horizon dks_2 bytes good size small = by (le_decided (from_be_bytes w16 bytes) last_day)
-  where
-    by : Decided (IsDay (from_be_bytes w16 bytes)) → Judged dks_2 before_horizon bytes
-    by (inl day) = inr (day, append-nil (head_text dks_2 (from_be_bytes w16 bytes)) ∙ ap (λ xs. mark dks_2 ++ xs) (two_bytes bytes size small))
-    by (inr late) = inl (bad_horizon, (refl, late))
+judge_horizon = search (rules, le_decided, append-nil, two_bytes)
 
 judge_item : (format : Format) (horizon : ℕ) → (count : ℕ) (ledger : List LedgerItem) (bytes : List ℕ) → AreGood format (before_item horizon count ledger)
     → length bytes ≡ 19 → AreBytes bytes → Judged format (before_item horizon count ledger) bytes
-judge_item format horizon count ledger bytes good size small =
-    by (good_item_decided (item_in bytes)) (above_items_decided ledger (item_in bytes)) (raises_floor_decided ledger (item_in bytes))
+judge_item format horizon count ledger bytes good size small = by (good_item_decided _) (above_items_decided _ _) (raises_floor_decided _ _)
   where
     by : Decided (IsGoodItem (item_in bytes)) → Decided (IsAboveItems ledger (item_in bytes)) → Decided (RaisesFloor ledger (item_in bytes))
         → Judged format (before_item horizon count ledger) bytes
@@ -83,30 +76,17 @@ judge_item format horizon count ledger bytes good size small =
         let longer = length-append ledger (item_in bytes ∷ []) in
         let below = good.2 in
         inr (
-          good_after_items format horizon count (ledger ++ item_in bytes ∷ []) good.0 (one_item_more ledger (item_in bytes) good.1 fine above not_high)
-              (omega arith) good.3,
-          item_text format horizon count ledger (item_in bytes) good.2 ∙ ap (λ xs. text_before format (before_item horizon count ledger) ++ xs)
-              (item_written bytes size small),
+          good_after_items _ _ _ _ good.0 (one_item_more _ _ good.1 fine above not_high) (omega arith) good.3,
+          item_text _ _ _ _ _ good.2 ∙ ap (λ xs. text_before format (before_item horizon count ledger) ++ xs) (item_written _ size small),
         )
 
 judge_ledger_count : (format : Format) (horizon : ℕ) (bytes : List ℕ) → AreGood format (before_ledger_count horizon) → length bytes ≡ 8 → AreBytes bytes
     → Judged format (before_ledger_count horizon) bytes
-judge_ledger_count format horizon bytes good size small =
-    inr (
-      good_after_items format horizon (from_be_bytes w64 bytes) [] good no_items (omega arith) (eight_fit bytes small),
-      count_of_ledger format horizon (from_be_bytes w64 bytes) ∙ ap (λ xs. text_before format (before_ledger_count horizon) ++ xs)
-          (eight_bytes bytes size small),
-    )
+judge_ledger_count = search (rules, good_after_items, no_items, eight_fit, count_of_ledger, eight_bytes)
 
 judge_entry_count : (format : Format) (horizon : ℕ) → (ledger : List LedgerItem) (bytes : List ℕ) → AreGood format (before_entry_count horizon ledger)
     → length bytes ≡ 8 → AreBytes bytes → Judged format (before_entry_count horizon ledger) bytes
-judge_entry_count format horizon ledger bytes good size small =
-    inr (
-      good_after_entries format (from_be_bytes w64 bytes) (record { horizon = horizon; ledger = ledger; entries = [] })
-          (no_entries format horizon ledger good.0 good.1) good.2 (omega arith) (eight_fit bytes small),
-      after_entries_text format (from_be_bytes w64 bytes) (record { horizon = horizon; ledger = ledger; entries = [] }) (omega arith) ∙ append-nil _
-          ∙ (λ i. sym (append-nil (items_before format (before_entry_count horizon ledger))) i ++ eight_bytes bytes size small i),
-    )
+judge_entry_count = grind (arith, good_after_entries, no_entries, eight_fit, after_entries_text, append-nil, eight_bytes)
 
 -- the state can be written in the format, and at least one entry follows the state's entries in the
 -- text
@@ -118,11 +98,7 @@ StateHere format count state = IsToldState format state × (length state.ledger 
 pub entry_done : (format : Format) → (count : ℕ) (state : State) (key : Key) (stamp : Stamp) (op : Op) → StateHere format count state
     → IsStampHere state key stamp → IsOpOf key op → HasNotToLapse state.horizon op → TellsOp format op
     → AreGood format (after_entries count (with_entry state key stamp op))
-entry_done format count state key stamp op told here of stays tells =
-    let longer = length-append state.entries ((key, record { stamp = stamp; op = op }) ∷ []) in
-    let below = told.2 in
-    good_after_entries format count (with_entry state key stamp op) (one_entry_more format state key stamp op told.0 here of stays tells) told.1
-    (omega arith) told.3
+entry_done = search (rules, length-append, good_after_entries, one_entry_more)
 
 -- if all parts before the lines of a schedule are good, and these lines are good, all parts up to
 -- the end of these lines are good
@@ -148,31 +124,26 @@ good_after_lines format count state key stamp n lines told here counted within a
     lines_so_far (inr up) = inr (up.0.lines_of, up.1)
 
     by : ((nat_le n (length lines) ≡ true) × (n ≤ length lines)) ⊎ ((nat_le n (length lines) ≡ false) × (length lines < n))
-        → (lines ≡ []) ⊎ (AreLinesUpTo key n lines × HaveNotToLapse state lines)
-        → AreGood format (after_lines count state key stamp n lines)
+        → (lines ≡ []) ⊎ (AreLinesUpTo key n lines × HaveNotToLapse state lines) → AreGood format (after_lines count state key stamp n lines)
     by (inl all) (inl none) = let some = counted.0 in let size = ap length none in let enough = all.1 in absurd (omega arith)
     by (inl all) (inr up) =
         let enough = all.1 in
         subst (λ b. AreGood format (cond b (after_entries count (with_entry state (schedule_key key) stamp (put_with (schedule_body lines))))
-        (in_entry count state (before_line key stamp n lines)))) (sym all.0)
-        (entry_done format count state (schedule_key key) stamp (put_with (schedule_body lines)) told here (schedule_of (omega arith) up.0) up.1
-        (tells_put format (schedule_body lines)))
-    by (inr more) up =
-        subst (λ b. AreGood format (cond b (after_entries count (with_entry state (schedule_key key) stamp (put_with (schedule_body lines))))
-        (in_entry count state (before_line key stamp n lines)))) (sym more.0)
-        (told.0, told.1, told.2, told.3, (here, counted, more.1, lines_so_far up))
+        (in_entry count state (before_line key stamp n lines)))) (sym all.0) (entry_done _ _ _ _ _ _ told here (schedule_of (omega arith) up.0) up.1
+        (tells_put _ _))
+    by (inr more) up = subst (λ b. AreGood format (cond b (after_entries count (with_entry state (schedule_key key) stamp (put_with (schedule_body lines))))
+        (in_entry count state (before_line key stamp n lines)))) (sym more.0) (told.0, told.1, told.2, told.3, (here, counted, more.1, lines_so_far up))
 
 judge_tag : (format : Format) → (count : ℕ) (state : State) (bytes : List ℕ) → StateHere format count state → length bytes ≡ 1
     → Judged format (in_entry count state before_tag) bytes
-judge_tag format count state bytes told size = by (tag_decided (slice_index bytes 0))
+judge_tag format count state bytes told size = by (tag_decided _)
   where
     by : Decided (IsTag (slice_index bytes 0)) → Judged format (in_entry count state before_tag) bytes
-    by (inl is) =
-        inr (
-          (told.0, told.1, told.2, told.3, is),
-          part_more format count state [] (slice_index bytes 0 ∷ [])
-              ∙ ap (λ xs. text_before format (in_entry count state before_tag) ++ xs) (single bytes size),
-        )
+    by (inl is) = inr (
+      (told.0, told.1, told.2, told.3, is),
+      part_more _ _ _ _ _
+          ∙ ap (λ xs. text_before format (in_entry count state before_tag) ++ xs) (single _ size),
+    )
     by (inr bad) = inl (bad_tag, (refl, bad))
 
 judge_key : (format : Format) → (count : ℕ) (state : State) (tag : ℕ) (bytes : List ℕ) → StateHere format count state → IsTag tag → length bytes ≡ key_width tag
@@ -192,53 +163,23 @@ judge_key format count state tag bytes told is size small = by (good_key_decided
 
 judge_stamp : (format : Format) → (count : ℕ) (state : State) (key : Key) (bytes : List ℕ) → StateHere format count state → IsKeyHere state key
     → length bytes ≡ 15 → AreBytes bytes → Judged format (in_entry count state (before_stamp key)) bytes
-judge_stamp format count state key bytes told here size small = by (stamp_in_decided state.ledger (stamp_in bytes))
+judge_stamp format count state key bytes told here size small = by (stamp_in_decided _ _)
   where
     by : Decided (IsStampIn state.ledger (stamp_in bytes)) → Judged format (in_entry count state (before_stamp key)) bytes
-    by (inl is) =
-        inr (
-          (told.0, told.1, told.2, told.3, (here, is)),
-          ap (λ xs. entries_text format count state ++ (key_text key ++ xs)) (stamp_written bytes size small)
-              ∙ part_more format count state (key_text key) bytes,
-        )
+    by (inl is) = inr (
+      (told.0, told.1, told.2, told.3, (here, is)),
+      ap (λ xs. entries_text format count state ++ (key_text key ++ xs)) (stamp_written _ size small)
+          ∙ part_more _ _ _ _ _,
+    )
     by (inr bad) = inl (bad_stamp, (refl, bad))
 
 -- the first byte of an op is 0 or 1, or it is 2 and the format has lapsed ops
 op_of_byte : (format : Format) (byte : ℕ) → IsOpByte format byte → (byte ≡ 0) ⊎ (byte ≡ 1) ⊎ ((byte ≡ 2) × TellsOp format lapsed)
-op_of_byte dks_1 byte (inl e) = inl e
-op_of_byte dks_1 byte (inr e) = inr (inl e)
-op_of_byte dks_2 byte (inl e) = inl e
-op_of_byte dks_2 byte (inr (inl e)) = inr (inl e)
-op_of_byte dks_2 byte (inr (inr e)) = inr (inr (e, tt))
+op_of_byte = search rules
 
 judge_op : (format : Format) → (count : ℕ) (state : State) (key : Key) (stamp : Stamp) (bytes : List ℕ) → StateHere format count state
     → IsStampHere state key stamp → length bytes ≡ 1 → Judged format (in_entry count state (before_op key stamp)) bytes
-judge_op format count state key stamp bytes told here size = by (op_byte_decided format (slice_index bytes 0))
-  where
-    front : List ℕ
-    front = key_text key ++ stamp_bytes stamp
-
-    byte_of : (op : ℕ) → slice_index bytes 0 ≡ op → bytes ≡ op ∷ []
-    byte_of op e = sym (single bytes size) ∙ ap (λ b. b ∷ []) e
-
-    by : Decided (IsOpByte format (slice_index bytes 0)) → Judged format (in_entry count state (before_op key stamp)) bytes
-    by (inr bad) = inl (bad_body, (refl, bad))
-    by (inl is) = op (op_of_byte format (slice_index bytes 0) is)
-      where
-        op : (slice_index bytes 0 ≡ 0) ⊎ (slice_index bytes 0 ≡ 1) ⊎ ((slice_index bytes 0 ≡ 2) × TellsOp format lapsed)
-            → Judged format (in_entry count state (before_op key stamp)) bytes
-        op (inl e) = subst (Judged format (in_entry count state (before_op key stamp))) (sym (byte_of 0 e))
-            (inr (
-              entry_done format count state key stamp deleted told here tt tt (tells_deleted format),
-              entry_done_text format count state key stamp deleted told.2 ∙ part_more format count state (key_text key ++ stamp_bytes stamp) (0 ∷ []),
-            ))
-        op (inr (inl e)) = subst (Judged format (in_entry count state (before_op key stamp))) (sym (byte_of 1 e))
-            (inr ((told.0, told.1, told.2, told.3, here), part_more format count state (key_text key ++ stamp_bytes stamp) (1 ∷ [])))
-        op (inr (inr e)) = subst (Judged format (in_entry count state (before_op key stamp))) (sym (byte_of 2 e.0))
-            (inr (
-              entry_done format count state key stamp lapsed told here tt tt e.1,
-              entry_done_text format count state key stamp lapsed told.2 ∙ part_more format count state (key_text key ++ stamp_bytes stamp) (2 ∷ []),
-            ))
+judge_op = grind (arith, op_byte_decided, single, op_of_byte, entry_done, tells_deleted, entry_done_text, part_more)
 
 -- a TIPLOC doesn't lapse
 tiploc_stays : {format : Format} (state : State) → IsToldState format state → state.horizon ≤ 65535
@@ -247,34 +188,29 @@ tiploc_stays state told = let day = told.valid.horizon in omega arith
 judge_body : (format : Format) → (count : ℕ) (state : State) (key : Key) (stamp : Stamp) (bytes : List ℕ) → StateHere format count state
     → IsStampHere state key stamp → length bytes ≡ width (in_entry count state (before_body key stamp)) → AreBytes bytes
     → Judged format (in_entry count state (before_body key stamp)) bytes
-judge_body format count state key stamp bytes told here size small = by key here size (body_part_decided state key bytes)
+judge_body format count state key stamp bytes told here size small = by key here size (body_part_decided state _ bytes)
   where
     by : (key : Key) → IsStampHere state key stamp → length bytes ≡ width (in_entry count state (before_body key stamp)) → Decided (IsBodyPart state key bytes)
         → Judged format (in_entry count state (before_body key stamp)) bytes
     by key at wide (inr bad) = inl (bad_body, (refl, bad))
-    by (tiploc_key code) at wide (inl fine) =
-        inr (
-          entry_done format count state (tiploc_key code) stamp (put_with (tiploc_body bytes)) told at fine (tiploc_stays state told.0)
-              (tells_put format (tiploc_body bytes)),
-          body_text format count state (tiploc_key code) stamp (tiploc_body bytes) told.2,
-        )
-    by (association_key key) at wide (inl fine) =
-        inr (
-          entry_done format count state (association_key key) stamp (put_with (association_body bytes)) told at fine.0 fine.1
-              (tells_put format (association_body bytes)),
-          body_text format count state (association_key key) stamp (association_body bytes) told.2,
-        )
-    by (schedule_key key) at wide (inl fine) =
-        inr (
-          good_after_lines format count state key stamp (from_be_bytes w32 bytes) [] told at fine (omega arith) (inl refl),
-          count_text format count state key stamp (from_be_bytes w32 bytes) told.2
-              ∙ ap (λ xs. text_before format (in_entry count state (before_body (schedule_key key) stamp)) ++ xs) (four_bytes bytes wide small),
-        )
+    by (tiploc_key code) at wide (inl fine) = inr (
+      entry_done _ count _ (tiploc_key code) _ (put_with (tiploc_body bytes)) told at fine (tiploc_stays _ told.0) (tells_put format _),
+      body_text format _ state _ stamp _ told.2,
+    )
+    by (association_key key) at wide (inl fine) = inr (
+      entry_done format _ state _ stamp _ told at fine.0 fine.1 (tells_put format _),
+      body_text format _ state _ stamp _ told.2,
+    )
+    by (schedule_key key) at wide (inl fine) = inr (
+      good_after_lines format _ state _ stamp _ [] told at fine (omega arith) (inl refl),
+      count_text _ count _ key _ (from_be_bytes w32 bytes) told.2
+          ∙ ap (λ xs. text_before format (in_entry count state (before_body (schedule_key key) stamp)) ++ xs) (four_bytes _ wide small),
+    )
 
 judge_line : (format : Format) → (count : ℕ) (state : State) (key : ScheduleKey) (stamp : Stamp) (n : ℕ) (lines : List (List ℕ)) (bytes : List ℕ)
     → StateHere format count state → IsPartHere state (before_line key stamp n lines)
     → Judged format (in_entry count state (before_line key stamp n lines)) bytes
-judge_line format count state key stamp n lines bytes told here = by (lines_here_decided state key n (lines ++ bytes ∷ []))
+judge_line format count state key stamp n lines bytes told here = by (lines_here_decided state _ n _)
   where
     by : Decided (AreLinesUpTo key n (lines ++ bytes ∷ []) × HaveNotToLapse state (lines ++ bytes ∷ []))
         → Judged format (in_entry count state (before_line key stamp n lines)) bytes
@@ -282,8 +218,8 @@ judge_line format count state key stamp n lines bytes told here = by (lines_here
         let longer = length-append lines (bytes ∷ []) in
         let more = here.2 in
         inr (
-          good_after_lines format count state key stamp n (lines ++ bytes ∷ []) told here.0 here.1 (omega arith) (inr are),
-          line_text format count state key stamp n lines bytes told.2 here.2,
+          good_after_lines format _ state _ stamp _ (lines ++ bytes ∷ []) told here.0 here.1 (omega arith) (inr are),
+          line_text _ count _ key _ n _ bytes told.2 here.2,
         )
     by (inr bad) = inl (bad_body, (refl, bad))
 
@@ -304,6 +240,5 @@ judge format before_horizon bytes good some size small = judge_horizon format by
 judge format (before_ledger_count horizon) bytes good some size small = judge_ledger_count format horizon bytes good size small
 judge format (before_item horizon count ledger) bytes good some size small = judge_item format horizon count ledger bytes good size small
 judge format (before_entry_count horizon ledger) bytes good some size small = judge_entry_count format horizon ledger bytes good size small
-judge format (in_entry count state part) bytes good some size small =
-    judge_part format count state part bytes (good.0, good.1, good.2, good.3) good.4 size small
+judge format (in_entry count state part) bytes good some size small = search (rules, judge_part)
 judge format (at_end state) bytes good some size small = absurd (omega arith)

@@ -1,5 +1,5 @@
 -- If all parts before a stage of a state's text are good, a reader gets to this stage part by part.
-use Rattle.std.proofs.Common.{List, ◌∷◌, ◌++◌, ◌≡◌, [], refl, ap, sym, ◌∙◌, subst, Contains, Some, None, ℕ, ◌<◌}
+use Rattle.std.proofs.Common.{List, ◌∷◌, ◌++◌, ◌≡◌, [], refl, ap, sym, ◌∙◌, subst, Contains, Some, None, ℕ, ◌<◌, rules}
 use Rattle.std.proofs.Common.{◌≤◌, length, arith, append_assoc, append-nil, length-append, inl, inr, ◌^◌, ◌⊎◌}
 use Rattle.std.specs.Prelude.{Option}
 use Rattle.std.specs.List.{AllByRecursion}
@@ -37,8 +37,7 @@ item_good before item later is = (all_behind IsGoodItem before (item ∷ later) 
 
 -- each item of a ledger is above the items before it
 pub item_above : (before : List LedgerItem) (item : LedgerItem) (later : List LedgerItem) → IsLedger (before ++ item ∷ later) → IsAboveItems before item
-item_above before item later is =
-    All-from_recursion (λ earlier. IsBelow ledger_item_cmp earlier item) before (below_next ledger_item_cmp before item later is.ascending)
+item_above before item later is = All-from_recursion (λ earlier. IsBelow ledger_item_cmp earlier item) before (below_next _ _ _ _ is.ascending)
 
 -- no item of a ledger raises the floor of the items before it
 pub item_floor : (before : List LedgerItem) (item : LedgerItem) (later : List LedgerItem) → IsLedger (before ++ item ∷ later) → ¬ RaisesFloor before item
@@ -47,13 +46,12 @@ item_floor (first ∷ before) item later is raises =
     by is.floor is.is_floor (recursion_from_All (λ it. IsKept is.floor it.stamp) (first ∷ before ++ item ∷ later) is.kept).0
   where
     among : Contains ((first ∷ before) ++ item ∷ later) item
-    among = Contains-append_right (first ∷ before) (item ∷ later) item (cons-Contains-first item later)
+    among = Contains-append_right (first ∷ before) (item ∷ later) item (cons-Contains-first _ _)
 
     not_above : (stamp : FileStamp) (o : Ordering) → file_stamp_cmp stamp first.stamp ≡ o → ¬ (o ≡ Greater) → ¬ (file_stamp_cmp item.stamp stamp ≡ Greater) → ⊥
     not_above stamp Less told low high =
         high (file_stamp_total.antisymm item.stamp stamp ∙ ap ordering_reverse (file_stamp_total.trans stamp first.stamp item.stamp told raises.1))
-    not_above stamp Equal told low high =
-        high (file_stamp_total.antisymm item.stamp stamp
+    not_above stamp Equal told low high = high (file_stamp_total.antisymm item.stamp stamp
         ∙ ap ordering_reverse (subst (λ s. file_stamp_cmp s item.stamp ≡ Less) (sym (exact_file_stamp stamp first.stamp told)) raises.1))
     not_above stamp Greater told low high = low refl
 
@@ -69,20 +67,17 @@ items_lead format horizon count before (item ∷ later) is within =
     let size = length-append before (item ∷ later) in
     let below : length before < count = omega arith in
     let grouped = append_assoc before (item ∷ []) later in
-    let rest = items_lead format horizon count (before ++ item ∷ []) later (subst IsLedger (sym grouped) is)
-    (subst (λ xs. length xs ≤ count) (sym grouped) within) in
-    then_leads format _ _ _ (no_step format _ _ (more_items horizon count before below))
-    (then_leads format _ _ _ (step_item format horizon count before item below (item_good before item later is) (item_above before item later is)
-    (item_floor before item later is))
-    (then_leads format _ _ _ rest (no_step format _ _ (ap (after_items horizon count) grouped))))
+    let rest = items_lead _ horizon _ (before ++ item ∷ []) _ (subst IsLedger (sym grouped) is) (subst (λ xs. length xs ≤ count) (sym grouped) within) in
+    then_leads format _ _ _ (no_step _ _ _ (more_items horizon _ before below))
+    (then_leads _ _ _ _ (step_item format _ count _ item below (item_good _ item _ is) (item_above before _ later is) (item_floor _ item _ is))
+    (then_leads format _ _ _ rest (no_step _ _ _ (ap (after_items horizon count) grouped))))
 
 -- if lines are the beginning of a schedule, so is each prefix of these lines
 pub begins_front : (front rest : List (List ℕ)) → BeginsSchedule (front ++ rest) → BeginsSchedule front
 begins_front front rest begins = (rest ++ begins.0, subst IsSchedule (append_assoc front rest begins.0) begins.1)
 
 first_of_front : (front rest : List (List ℕ)) → 0 < length front → first_record (front ++ rest) ≡ first_record front
-first_of_front [] rest some = absurd (omega arith)
-first_of_front (line ∷ front) rest some = refl
+first_of_front = search rules
 
 lines_front : (key : ScheduleKey) (n : ℕ) (front rest : List (List ℕ)) → 0 < length front → AreLinesUpTo key n (front ++ rest) → length (front ++ rest) ≤ n
     → AreLinesUpTo key n front
@@ -116,8 +111,7 @@ pub lines_lead : (format : Format) → (count : ℕ) (state : State) (key : Sche
     → length state.entries < count
     → AreLinesUpTo key n (lines ++ more) → HaveNotToLapse state (lines ++ more) → length (lines ++ more) ≤ n
     → Leads format (after_lines count state key stamp n lines) (after_lines count state key stamp n (lines ++ more))
-lines_lead format count state key stamp n lines [] below are stays within =
-    no_step format _ _ (ap (after_lines count state key stamp n) (sym (append-nil lines)))
+lines_lead format count state key stamp n lines [] below are stays within = search (rules, no_step, append-nil)
 lines_lead format count state key stamp n lines (line ∷ more) below are stays within =
     let size = length-append lines (line ∷ more) in
     let one = length-append lines (line ∷ []) in
@@ -134,9 +128,7 @@ lines_lead format count state key stamp n lines (line ∷ more) below are stays 
     (then_leads format _ _ _ rest (no_step format _ _ (ap (after_lines count state key stamp n) grouped))))
 
 is_tag : (key : Key) → IsTag (key_tag key)
-is_tag (tiploc_key code) = inl refl
-is_tag (association_key key) = inr (inl refl)
-is_tag (schedule_key key) = inr (inr refl)
+is_tag = search rules
 
 -- from the beginning of an entry, a reader gets to each part of the entry, and then to the end of
 -- the entry
@@ -146,20 +138,17 @@ tag_leads format count state tag below is = then_leads format _ _ _ (no_step for
 
 key_leads : (format : Format) → (count : ℕ) (state : State) (key : Key) → length state.entries < count → IsKeyHere state key
     → Leads format (after_entries count state) (in_entry count state (before_stamp key))
-key_leads format count state key below here =
-    then_leads format _ _ _ (tag_leads format count state (key_tag key) below (is_tag key)) (step_key format count state key here.0 here.1)
+key_leads format count state key below here = then_leads _ _ _ _ (tag_leads _ _ _ _ below (is_tag _)) (step_key _ _ _ _ here.0 here.1)
 
 stamp_leads : (format : Format) → (count : ℕ) (state : State) (key : Key) (stamp : Stamp) → length state.entries < count → IsLedger state.ledger
     → IsStampHere state key stamp
     → Leads format (after_entries count state) (in_entry count state (before_op key stamp))
-stamp_leads format count state key stamp below ledger here =
-    then_leads format _ _ _ (key_leads format count state key below here.0) (step_stamp format count state key stamp ledger here.1)
+stamp_leads format count state key stamp below ledger here = then_leads _ _ _ _ (key_leads _ _ _ _ below here.0) (step_stamp _ _ _ _ _ ledger here.1)
 
 put_leads : (format : Format) → (count : ℕ) (state : State) (key : Key) (stamp : Stamp) → length state.entries < count → IsLedger state.ledger
     → IsStampHere state key stamp
     → Leads format (after_entries count state) (in_entry count state (before_body key stamp))
-put_leads format count state key stamp below ledger here =
-    then_leads format _ _ _ (stamp_leads format count state key stamp below ledger here) (step_put format count state key stamp)
+put_leads format count state key stamp below ledger here = then_leads _ _ _ _ (stamp_leads _ _ _ _ _ below ledger here) (step_put _ _ _ _ _)
 
 some_lines : (lines : List (List ℕ)) → IsSchedule lines → 0 < length lines
 some_lines lines is = let size = ap length is.whole in omega arith
@@ -174,18 +163,12 @@ body_leads : (format : Format) → (count : ℕ) (state : State) (key : Key) (st
     → state.horizon ≤ body_end body
     → Leads format (in_entry count state (before_body key stamp)) (after_entries count (with_entry state key stamp (put_with body)))
 body_leads format count state (tiploc_key code) stamp (tiploc_body bytes) below is stays = step_tiploc format count state code stamp bytes below is
-body_leads format count state (association_key key) stamp (association_body line) below is stays =
-    step_association format count state key stamp line below is stays
+body_leads format count state (association_key key) stamp (association_body line) below is stays = search (rules, step_association)
 body_leads format count state (schedule_key key) stamp (schedule_body lines) below is stays =
     then_leads format _ _ _ (step_count format count state key stamp (length lines) below (some_lines lines is.schedule, is.few))
     (then_leads format _ _ _ (lines_lead format count state key stamp (length lines) [] lines below (whole_lines key lines is) stays (omega arith))
     (no_step format _ _ (all_lines count state key stamp lines)))
-body_leads format count state (tiploc_key code) stamp (association_body line) below is stays = absurd is
-body_leads format count state (tiploc_key code) stamp (schedule_body lines) below is stays = absurd is
-body_leads format count state (association_key key) stamp (tiploc_body bytes) below is stays = absurd is
-body_leads format count state (association_key key) stamp (schedule_body lines) below is stays = absurd is
-body_leads format count state (schedule_key key) stamp (tiploc_body bytes) below is stays = absurd is
-body_leads format count state (schedule_key key) stamp (association_body line) below is stays = absurd is
+body_leads format count state _ stamp _ below is stays = absurd is
 
 -- a state with this horizon and this ledger may have the entry, and the entry can be written in the
 -- format
@@ -196,14 +179,11 @@ entry_leads : (format : Format) → (count : ℕ) (state : State) (key : Key) (s
     → IsToldEntry format state.horizon state.ledger (key, record { stamp = stamp; op = op }) → IsAboveEntries state key
     → Leads format (after_entries count state) (after_entries count (with_entry state key stamp op))
 entry_leads format count state key stamp deleted below ledger told above =
-    then_leads format _ _ _ (stamp_leads format count state key stamp below ledger ((told.0.key, above), told.0.stamp))
-    (step_deleted format count state key stamp below)
+    then_leads _ _ _ _ (stamp_leads _ _ _ _ _ below ledger ((told.0.key, above), told.0.stamp)) (step_deleted _ _ _ _ _ below)
 entry_leads format count state key stamp lapsed below ledger told above =
-    then_leads format _ _ _ (stamp_leads format count state key stamp below ledger ((told.0.key, above), told.0.stamp))
-    (step_lapsed format count state key stamp told.2 below)
+    then_leads _ _ _ _ (stamp_leads _ _ _ _ _ below ledger ((told.0.key, above), told.0.stamp)) (step_lapsed _ _ _ _ _ told.2 below)
 entry_leads format count state key stamp (put_with body) below ledger told above =
-    then_leads format _ _ _ (put_leads format count state key stamp below ledger ((told.0.key, above), told.0.stamp))
-    (body_leads format count state key stamp body below told.0.op told.1)
+    then_leads _ _ _ _ (put_leads _ _ _ _ _ below ledger ((told.0.key, above), told.0.stamp)) (body_leads _ _ _ _ _ _ below told.0.op told.1)
 
 -- the state that has this horizon, this ledger and these entries
 abbrev state_of : (horizon : ℕ) → List LedgerItem → List (Key × Entry) → State
@@ -214,8 +194,7 @@ pub entries_lead : (format : Format) (horizon : ℕ) → (count : ℕ) (ledger :
     → AllByRecursion (IsToldEntry format horizon ledger) later → AreAscending (before ++ later)
     → length (before ++ later) ≤ count → Leads format (after_entries count (record { horizon = horizon; ledger = ledger; entries = before }))
     (after_entries count (record { horizon = horizon; ledger = ledger; entries = before ++ later }))
-entries_lead format horizon count ledger before [] is good up within =
-    no_step format _ _ (ap (λ entries. after_entries count (state_of horizon ledger entries)) (sym (append-nil before)))
+entries_lead format horizon count ledger before [] is good up within = search (rules, no_step, append-nil)
 entries_lead format horizon count ledger before (entry ∷ later) is good up within =
     let size = length-append before (entry ∷ later) in
     let grouped = append_assoc before (entry ∷ []) later in
@@ -235,9 +214,8 @@ ledger_leads format horizon count ledger is_horizon is fits within =
 
 entry_count_leads : (format : Format) (horizon : ℕ) → (ledger : List LedgerItem) → IsHorizonOf format horizon → IsLedger ledger → length ledger < 2 ^ 64
     → Leads format before_mark (before_entry_count horizon ledger)
-entry_count_leads format horizon ledger is_horizon is fits =
-    then_leads format _ _ _ (ledger_leads format horizon (length ledger) ledger is_horizon is fits (omega arith))
-    (no_step format _ _ (all_items horizon ledger))
+entry_count_leads format horizon ledger is_horizon is fits = then_leads _ _ _ _ (ledger_leads _ _ _ _ is_horizon is fits (omega arith))
+    (no_step _ _ _ (all_items _ _))
 
 -- entries that are good and don't have to lapse can be written in the format, if their ops can be
 -- written in the format
@@ -246,51 +224,44 @@ told_entries : (format : Format) (horizon : ℕ) (ledger : List LedgerItem) (ent
     → AllByRecursion (λ (entry : Key × Entry). TellsOp format entry.1.op) entries
     → AllByRecursion (IsToldEntry format horizon ledger) entries
 told_entries format horizon ledger [] good stay told = tt
-told_entries format horizon ledger (entry ∷ entries) good stay told =
-    ((good.0, stay.0, told.0), told_entries format horizon ledger entries good.1 stay.1 told.1)
+told_entries format horizon ledger (entry ∷ entries) good stay told = ((good.0, stay.0, told.0), told_entries _ horizon _ entries good.1 stay.1 told.1)
 
 state_leads : (format : Format) → (count : ℕ) (state : State) → IsToldState format state → length state.ledger < 2 ^ 64 → count < 2 ^ 64
     → length state.entries ≤ count → Leads format before_mark (after_entries count state)
 state_leads format count state told items fits within =
-    let all = told_entries format state.horizon state.ledger state.entries (recursion_from_All (IsGoodEntry state.ledger) state.entries told.valid.entries.0)
+    let all = told_entries _ state.horizon _ state.entries (recursion_from_All (IsGoodEntry state.ledger) state.entries told.valid.entries.0)
     (recursion_from_All (λ (entry : Key × Entry). HasNotToLapse state.horizon entry.1.op) state.entries told.valid.have_lapsed)
     (recursion_from_All (λ (entry : Key × Entry). TellsOp format entry.1.op) state.entries told.ops) in
-    then_leads format _ _ _ (entry_count_leads format state.horizon state.ledger told.horizon told.valid.ledger items)
-    (then_leads format _ _ _ (step_entry_count format state.horizon count state.ledger fits)
-    (entries_lead format state.horizon count state.ledger [] state.entries told.valid.ledger all told.valid.entries.1 within))
+    then_leads _ _ _ _ (entry_count_leads format _ state.ledger told.horizon told.valid.ledger items)
+    (then_leads _ _ _ _ (step_entry_count format _ count _ fits) (entries_lead format _ count _ [] _ told.valid.ledger all told.valid.entries.1 within))
 
 part_leads : (format : Format) → (count : ℕ) (state : State) (part : EntryPart) → length state.entries < count → IsLedger state.ledger → IsPartHere state part
     → Leads format (after_entries count state) (in_entry count state part)
-part_leads format count state before_tag below ledger here = no_step format _ _ (more_entries count state below)
-part_leads format count state (before_key tag) below ledger here = tag_leads format count state tag below here
-part_leads format count state (before_stamp key) below ledger here = key_leads format count state key below here
-part_leads format count state (before_op key stamp) below ledger here = stamp_leads format count state key stamp below ledger here
-part_leads format count state (before_body key stamp) below ledger here = put_leads format count state key stamp below ledger here
-part_leads format count state (before_line key stamp n lines) below ledger here =
-    then_leads format _ _ _ (put_leads format count state (schedule_key key) stamp below ledger here.0)
-    (then_leads format _ _ _ (step_count format count state key stamp n below here.1)
-    (then_leads format _ _ _ (by here.3) (no_step format _ _ (more_lines count state key stamp n lines here.2))))
+part_leads format count state before_tag below ledger here = no_step _ _ _ (more_entries _ _ below)
+part_leads format count state (before_key tag) below ledger here = tag_leads _ _ _ _ below here
+part_leads format count state (before_stamp key) below ledger here = key_leads _ _ _ _ below here
+part_leads format count state (before_op key stamp) below ledger here = stamp_leads _ _ _ _ _ below ledger here
+part_leads format count state (before_body key stamp) below ledger here = put_leads _ _ _ _ _ below ledger here
+part_leads format count state (before_line key stamp n lines) below ledger here = then_leads _ _ _ _ (put_leads _ _ _ _ _ below ledger here.0)
+    (then_leads _ _ _ _ (step_count _ _ _ _ _ _ below here.1) (then_leads _ _ _ _ (by here.3) (no_step _ _ _ (more_lines _ _ _ _ _ _ here.2))))
   where
     by : (lines ≡ []) ⊎ (AreLinesOf key lines × HaveNotToLapse state lines) → Leads format (after_lines count state key stamp n [])
         (after_lines count state key stamp n lines)
-    by (inl none) = no_step format _ _ (ap (after_lines count state key stamp n) (sym none))
+    by (inl none) = no_step _ _ _ (ap (after_lines count state key stamp n) (sym none))
     by (inr are) =
         let more = here.2 in
         lines_lead format count state key stamp n [] lines below (record { lines_of = are.0; complete = λ whole. absurd (omega arith) }) are.1 (omega arith)
 
 -- if all parts before a stage are good, a reader gets from the beginning of the text to this stage
 pub reach : (format : Format) (before : Before) → AreGood format before → Leads format before_mark before
-reach format before_mark good = no_step format _ _ refl
-reach format before_horizon good = horizon_leads format good
-reach format (before_ledger_count horizon) good = head_leads format horizon good
+reach format before_mark good = no_step _ _ _ refl
+reach format before_horizon good = horizon_leads _ good
+reach format (before_ledger_count horizon) good = head_leads _ _ good
 reach format (before_item horizon count ledger) good =
     let below = good.2 in
-    then_leads format _ _ _ (ledger_leads format horizon count ledger good.0 good.1 good.3 (omega arith))
-    (no_step format _ _ (more_items horizon count ledger good.2))
-reach format (before_entry_count horizon ledger) good = entry_count_leads format horizon ledger good.0 good.1 good.2
+    then_leads _ _ _ _ (ledger_leads _ _ _ _ good.0 good.1 good.3 (omega arith)) (no_step _ _ _ (more_items _ _ _ good.2))
+reach format (before_entry_count horizon ledger) good = entry_count_leads _ _ _ good.0 good.1 good.2
 reach format (in_entry count state part) good =
     let below = good.2 in
-    then_leads format _ _ _ (state_leads format count state good.0 good.1 good.3 (omega arith))
-    (part_leads format count state part good.2 good.0.valid.ledger good.4)
-reach format (at_end state) good =
-    then_leads format _ _ _ (state_leads format (length state.entries) state good.0 good.1 good.2 (omega arith)) (no_step format _ _ (all_entries state))
+    then_leads _ _ _ _ (state_leads _ _ _ good.0 good.1 good.3 (omega arith)) (part_leads _ _ _ _ good.2 good.0.valid.ledger good.4)
+reach format (at_end state) good = then_leads _ _ _ _ (state_leads _ _ _ good.0 good.1 good.2 (omega arith)) (no_step _ _ _ (all_entries _))

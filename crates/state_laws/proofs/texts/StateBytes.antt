@@ -1,7 +1,9 @@
 -- Decoding bytes as a number, a ledger item, a stamp or a key, and encoding the result again, gives
 -- the same bytes. The number of bytes must be the number that such a value has.
-use Rattle.std.proofs.Common.{◌≡◌, ℕ, zero, suc, ◌<◌, ◌^◌, List, [], ◌∷◌, ◌++◌, length, take, drop, get_or, refl, ap, sym, subst, inl, inr, arith}
-use Rattle.std.specs.Prelude.{slice_index, slice_range}
+use Rattle.std.proofs.Common.{◌≡◌, ℕ, zero, suc, ◌<◌, ◌^◌, List, [], ◌∷◌, ◌++◌, length, take, drop, get_or, refl, ap, subst, arith}
+use Rattle.std.proofs.lemmas.Grind.{common_steps}
+use Rattle.std.proofs.Common.{rules}
+use Rattle.std.specs.Prelude.{slice_index}
 use Rattle.std.specs.List.{AllByRecursion}
 use Rattle.std.specs.Int.{w16, w32, w64, to_be_bytes, from_be_bytes}
 use Rattle.std.proofs.lemmas.Nat.{be_bytes_2, be_bytes_4, be_bytes_8}
@@ -15,9 +17,7 @@ AreBytes bytes = AllByRecursion (λ b. b < 256) bytes
 
 -- each element of a list of bytes is below 256, and so is the default 0 past the end
 pub small_at : (bytes : List ℕ) → AreBytes bytes → (i : ℕ) → get_or bytes i 0 < 256
-small_at [] small i = omega arith
-small_at (b ∷ bytes) small zero = small.0
-small_at (b ∷ bytes) small (suc i) = small_at bytes small.1 i
+small_at = grind (common_steps, arith)
 
 -- the first element of a list, or 0 if the list is empty
 abbrev head_of : List ℕ → ℕ
@@ -51,37 +51,15 @@ eight_bytes bytes size small = be_bytes_8 bytes _ size (small_at bytes small) re
 
 -- the number that eight bytes encode is below 2^64
 pub eight_fit : (bytes : List ℕ) → AreBytes bytes → from_be_bytes w64 bytes < 2 ^ 64
-eight_fit bytes small =
-    let b0 = small_at bytes small 0 in
-    let b1 = small_at bytes small 1 in
-    let b2 = small_at bytes small 2 in
-    let b3 = small_at bytes small 3 in
-    let b4 = small_at bytes small 4 in
-    let b5 = small_at bytes small 5 in
-    let b6 = small_at bytes small 6 in
-    let b7 = small_at bytes small 7 in
-    omega arith
+eight_fit = search (rules, small_at)
 
 -- decoding 19 bytes as a ledger item, and encoding the item again, gives the same bytes
 pub item_written : (bytes : List ℕ) → length bytes ≡ 19 → AreBytes bytes → item_bytes (item_in bytes) ≡ bytes
-item_written bytes size all = subst (λ xs. AreBytes xs → item_bytes (item_in xs) ≡ xs) (cells_are 19 bytes size) written all
-  where
-    written : AreBytes (cells 19 bytes) → item_bytes (item_in (cells 19 bytes)) ≡ cells 19 bytes
-    written small =
-        let day = two_bytes _ _ small.0 small.1.0 in
-        let minute = two_bytes _ _ small.1.1.0 small.1.1.1.0 in
-        λ i. day i ++ minute i ++ drop 4 (cells 19 bytes)
+item_written = grind (common_steps, arith, cells_are, two_bytes)
 
 -- decoding 15 bytes as a stamp, and encoding the stamp again, gives the same bytes
 pub stamp_written : (bytes : List ℕ) → length bytes ≡ 15 → AreBytes bytes → stamp_bytes (stamp_in bytes) ≡ bytes
-stamp_written bytes size all = subst (λ xs. AreBytes xs → stamp_bytes (stamp_in xs) ≡ xs) (cells_are 15 bytes size) written all
-  where
-    written : AreBytes (cells 15 bytes) → stamp_bytes (stamp_in (cells 15 bytes)) ≡ cells 15 bytes
-    written small =
-        let day = two_bytes _ _ small.0 small.1.0 in
-        let minute = two_bytes _ _ small.1.1.0 small.1.1.1.0 in
-        let number = four_bytes (drop 11 (cells 15 bytes)) refl small.1.1.1.1.1.1.1.1.1.1.1 in
-        λ i. day i ++ minute i ++ slice_range (cells 15 bytes) 4 11 ++ number i
+stamp_written = search (rules, cells_are, two_bytes, four_bytes)
 
 association_written : (bytes : List ℕ) → length bytes ≡ 23 → AreBytes bytes → key_bytes (association_key_in bytes) ≡ bytes
 association_written bytes size all = subst (λ xs. AreBytes xs → key_bytes (association_key_in xs) ≡ xs) (cells_are 23 bytes size) written all
@@ -101,17 +79,11 @@ schedule_written bytes size all = subst (λ xs. AreBytes xs → key_bytes (sched
 
 -- decoding bytes as the key for a tag, and encoding the key again, gives the same bytes
 pub key_written : (tag : ℕ) (bytes : List ℕ) → IsTag tag → length bytes ≡ key_width tag → AreBytes bytes → key_bytes (key_in tag bytes) ≡ bytes
-key_written tag bytes (inl e) size all = subst (λ t. key_bytes (key_in t bytes) ≡ bytes) (sym e) refl
-key_written tag bytes (inr (inl e)) size all =
-    subst (λ t. length bytes ≡ key_width t → key_bytes (key_in t bytes) ≡ bytes) (sym e) (λ wide. association_written bytes wide all) size
-key_written tag bytes (inr (inr e)) size all =
-    subst (λ t. length bytes ≡ key_width t → key_bytes (key_in t bytes) ≡ bytes) (sym e) (λ wide. schedule_written bytes wide all) size
+key_written = search (rules, association_written, schedule_written)
 
 -- a key that is decoded as a key for a tag has that tag
 pub tag_of_key : (tag : ℕ) (bytes : List ℕ) → IsTag tag → key_tag (key_in tag bytes) ≡ tag
-tag_of_key tag bytes (inl e) = subst (λ t. key_tag (key_in t bytes) ≡ t) (sym e) refl
-tag_of_key tag bytes (inr (inl e)) = subst (λ t. key_tag (key_in t bytes) ≡ t) (sym e) refl
-tag_of_key tag bytes (inr (inr e)) = subst (λ t. key_tag (key_in t bytes) ≡ t) (sym e) refl
+tag_of_key = search rules
 
 -- a list of one byte contains only its first byte
 pub single : (bytes : List ℕ) → length bytes ≡ 1 → slice_index bytes 0 ∷ [] ≡ bytes

@@ -1,7 +1,8 @@
 -- If a state can be written in a format, so can the state after a good entry is appended.
-use Rattle.std.proofs.Common.{ℕ, arith, List, [], ◌∷◌, ◌++◌, All, ◌≡◌, ◌<◌, ◌≤◌, ◌^◌, length, sym, subst, inl, inr, ◌⊎◌, true, false, cond, nat_le}
-use Rattle.std.specs.Ordering.{on}
-use Rattle.std.proofs.lemmas.List.Elements.{All-from_recursion, recursion_from_All}
+use Rattle.std.proofs.Common.{ℕ, arith, List, [], ◌∷◌, ◌++◌, All, ◌<◌, ◌≤◌, ◌^◌, length, nat_le}
+use Rattle.std.proofs.lemmas.Grind.{common_steps}
+use Rattle.std.proofs.Common.{rules}
+use Rattle.std.proofs.lemmas.List.Elements.{recursion_from_All}
 use Rattle.std.proofs.lemmas.Bool.Decides.{leb_tells}
 use Rattle.docker_model.specs.records.Date.{IsDay}
 use Rattle.docker_model.specs.file.Change.{Body, Key}
@@ -10,52 +11,39 @@ use Rattle.docker_model.specs.state.Stamp.{LedgerItem, Stamp}
 use Rattle.docker_model.specs.state.Op.{deleted, put_with, Entry, key_cmp, Op}
 use Rattle.docker_model.specs.state.Lapse.{HasNotToLapse}
 use Rattle.docker_model.specs.state.State.{IsLedger, IsGoodEntry, IsValid, State, IsOpOf}
-use Rattle.docker_model.specs.state.StateText.{Format, dks_1, dks_2, IsHorizonOf, TellsOp, IsToldState}
-use Rattle.docker_model.specs.state.StatePart.{IsStampHere, before_item, before_entry_count, AreGood, in_entry, at_end, before_tag}
+use Rattle.docker_model.specs.state.StateText.{Format, IsHorizonOf, TellsOp, IsToldState}
+use Rattle.docker_model.specs.state.StatePart.{IsStampHere, AreGood}
 use Rattle.state_laws.specs.TextStage.{with_entry, after_items, after_entries}
 use Rattle.cif_laws.proofs.lists.AllOf.{all_append}
 use Rattle.cif_laws.proofs.orders.Ascending.{ascending_last}
 
 -- each horizon that a format allows is a day number
 pub horizon_day : (format : Format) (horizon : ℕ) → IsHorizonOf format horizon → IsDay horizon
-horizon_day dks_1 horizon none = omega (arith, none)
-horizon_day dks_2 horizon day = day
+horizon_day = search rules
 
 -- a deletion can be written in each format
 pub tells_deleted : (format : Format) → TellsOp format deleted
-tells_deleted dks_1 = tt
-tells_deleted dks_2 = tt
+tells_deleted = search rules
 
 -- a put can be written in each format
 pub tells_put : (format : Format) (body : Body) → TellsOp format (put_with body)
-tells_put dks_1 body = tt
-tells_put dks_2 body = tt
+tells_put = search rules
 
 -- a state without entries is valid, if its horizon is a day number and its ledger is well formed
 pub valid_without : (horizon : ℕ) (ledger : List LedgerItem) → IsDay horizon → IsLedger ledger
     → IsValid (record { horizon = horizon; ledger = ledger; entries = [] })
-valid_without horizon ledger day is = record {
-  horizon = day;
-  ledger = is;
-  entries = (All-from_recursion (IsGoodEntry ledger) [] tt, tt);
-  have_lapsed = All-from_recursion (λ (entry : Key × Entry). HasNotToLapse horizon entry.1.op) [] tt;
-}
+valid_without = search rules
 
 -- a state without entries can be written in the format, if the format allows the state's horizon
 -- and the state's ledger is well formed
 pub no_entries : (format : Format) (horizon : ℕ) (ledger : List LedgerItem) → IsHorizonOf format horizon → IsLedger ledger
     → IsToldState format (record { horizon = horizon; ledger = ledger; entries = [] })
-no_entries format horizon ledger is_horizon is = record {
-  valid = valid_without horizon ledger (horizon_day format horizon is_horizon) is;
-  horizon = is_horizon;
-  ops = All-from_recursion (λ (entry : Key × Entry). TellsOp format entry.1.op) [] tt;
-}
+no_entries = search (rules, valid_without, horizon_day)
 
 -- if all entries of a list and one more entry have a property, all entries of the list with that
 -- entry appended have it
 one_more : (P : Key × Entry → Type 0) (entries : List (Key × Entry)) (entry : Key × Entry) → All P entries → P entry → All P (entries ++ entry ∷ [])
-one_more P entries entry all last =
-    All-from_recursion P (entries ++ entry ∷ []) (all_append P entries (entry ∷ []) (recursion_from_All P entries all) (last, tt))
+one_more = grind (common_steps, arith, all_append, recursion_from_All)
 
 -- a valid state with a good entry appended is still valid
 pub valid_more : (state : State) (key : Key) (stamp : Stamp) (op : Op) → IsValid state → IsStampHere state key stamp → IsOpOf key op
@@ -65,10 +53,9 @@ valid_more state key stamp op valid here of stays = record {
   ledger = valid.ledger;
   entries = (
     one_more (IsGoodEntry state.ledger) state.entries (key, entry) valid.entries.0 (record { key = here.0.0; stamp = here.1; op = of }),
-    ascending_last (on (λ (e : Key × Entry). e.0) key_cmp) state.entries (key, entry) valid.entries.1
-        (recursion_from_All (λ (e : Key × Entry). IsBelow key_cmp e.0 key) state.entries here.0.1),
+    ascending_last _ state.entries _ valid.entries.1 (recursion_from_All (λ (e : Key × Entry). IsBelow key_cmp e.0 key) state.entries here.0.1),
   );
-  have_lapsed = one_more (λ (e : Key × Entry). HasNotToLapse state.horizon e.1.op) state.entries (key, entry) valid.have_lapsed stays;
+  have_lapsed = one_more (λ (e : Key × Entry). HasNotToLapse state.horizon e.1.op) _ (key, entry) valid.have_lapsed stays;
 }
   where
     entry : Entry
@@ -79,32 +66,15 @@ valid_more state key stamp op valid here of stays = record {
 pub one_entry_more : (format : Format) (state : State) (key : Key) (stamp : Stamp) (op : Op) → IsToldState format state → IsStampHere state key stamp
     → IsOpOf key op
     → HasNotToLapse state.horizon op → TellsOp format op → IsToldState format (with_entry state key stamp op)
-one_entry_more format state key stamp op told here of stays tells = record {
-  valid = valid_more state key stamp op told.valid here of stays;
-  horizon = told.horizon;
-  ops = one_more (λ (e : Key × Entry). TellsOp format e.1.op) state.entries (key, record { stamp = stamp; op = op }) told.ops tells;
-}
+one_entry_more = grind (common_steps, arith, valid_more, one_more)
 
 -- if the horizon and the ledger are good, all parts up to and including the ledger's items are good
 pub good_after_items : (format : Format) (horizon : ℕ) → (count : ℕ) (ledger : List LedgerItem) → IsHorizonOf format horizon → IsLedger ledger
     → length ledger ≤ count → count < 2 ^ 64 → AreGood format (after_items horizon count ledger)
-good_after_items format horizon count ledger is_horizon is within fits = by (leb_tells count (length ledger))
-  where
-    by : ((nat_le count (length ledger) ≡ true) × (count ≤ length ledger)) ⊎ ((nat_le count (length ledger) ≡ false) × (length ledger < count))
-        → AreGood format (after_items horizon count ledger)
-    by (inl told) =
-        subst (λ b. AreGood format (cond b (before_entry_count horizon ledger) (before_item horizon count ledger))) (sym told.0) (is_horizon, is, omega arith)
-    by (inr told) =
-        subst (λ b. AreGood format (cond b (before_entry_count horizon ledger) (before_item horizon count ledger))) (sym told.0) (is_horizon, is, told.1, fits)
+good_after_items = search (rules, leb_tells, nat_le)
 
 -- if a state can be written in the format, all parts up to and including the state's entries are
 -- good
 pub good_after_entries : (format : Format) → (count : ℕ) (state : State) → IsToldState format state → length state.ledger < 2 ^ 64
     → length state.entries ≤ count → count < 2 ^ 64 → AreGood format (after_entries count state)
-good_after_entries format count state valid items within fits = by (leb_tells count (length state.entries))
-  where
-    by : ((nat_le count (length state.entries) ≡ true) × (count ≤ length state.entries))
-        ⊎ ((nat_le count (length state.entries) ≡ false) × (length state.entries < count))
-        → AreGood format (after_entries count state)
-    by (inl told) = subst (λ b. AreGood format (cond b (at_end state) (in_entry count state before_tag))) (sym told.0) (valid, items, omega arith)
-    by (inr told) = subst (λ b. AreGood format (cond b (at_end state) (in_entry count state before_tag))) (sym told.0) (valid, items, told.1, fits, tt)
+good_after_entries = search (rules, leb_tells, nat_le)

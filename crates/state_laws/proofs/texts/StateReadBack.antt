@@ -1,12 +1,13 @@
 -- Decoding is the inverse of encoding, for ledger items, keys and stamps. The lemmas also say how
 -- many bytes an item, a key and a stamp have.
-use Rattle.std.proofs.Common.{◌≡◌, ℕ, suc, ◌+◌, ◌-◌, ◌<◌, ◌^◌, List, [], ◌∷◌, ◌++◌, length, take, drop}
-use Rattle.std.proofs.Common.{refl, ap, ◌∙◌, subst, arith, append_assoc, length-append, Contains}
+use Rattle.std.proofs.Common.{◌≡◌, ℕ, suc, ◌+◌, ◌-◌, ◌<◌, ◌^◌, List, [], ◌∷◌, ◌++◌, length, take, drop, rules}
+use Rattle.std.proofs.lemmas.Grind.{common_steps}
+use Rattle.std.proofs.Common.{ap, ◌∙◌, subst, arith, append_assoc, length-append, Contains}
 use Rattle.std.specs.Prelude.{slice_index, slice_range}
 use Rattle.std.specs.Int.{w16, w32, to_be_bytes, from_be_bytes}
 use Rattle.std.proofs.lemmas.Nat.{from_be_bytes-to_be_bytes_2, from_be_bytes-to_be_bytes_4}
 use Rattle.std.proofs.lemmas.List.{take_at, take_all, get_or-append_right}
-use Rattle.docker_model.specs.file.Change.{Key, tiploc_key, association_key, schedule_key, AssociationKey, ScheduleKey}
+use Rattle.docker_model.specs.file.Change.{Key, association_key, schedule_key, AssociationKey, ScheduleKey}
 use Rattle.docker_model.specs.state.Stamp.{FileStamp, Stamp, LedgerItem}
 use Rattle.docker_model.specs.state.Op.{key_tag}
 use Rattle.docker_model.specs.state.State.{IsGoodItem, IsGoodKey, IsGoodAssociationKey, IsGoodScheduleKey, IsLedger, IsStampIn}
@@ -46,23 +47,11 @@ file_stamp_read stamp rest good =
 
 -- a well-formed ledger item can be decoded from its bytes
 pub item_read : (item : LedgerItem) → IsGoodItem item → item_in (item_bytes item) ≡ item
-item_read item good =
-    let size = good.reference.0 in
-    let stamp : file_stamp_in (item_bytes item) ≡ item.stamp = file_stamp_read item.stamp (item.indicator ∷ item.last_reference) (good_stamp item good) in
-    let indicator : slice_index (item_bytes item) 11 ≡ item.indicator = get_or-append_right item.stamp.reference
-    (item.indicator ∷ item.last_reference) 7 7 0 size (omega arith) in
-    let last : slice_range (item_bytes item) 12 19 ≡ item.last_reference =
-    ap (take 7) (drop_past item.stamp.reference (item.indicator ∷ item.last_reference) 7 1 size)
-    ∙ take_all 7 item.last_reference (let last_size = good.last_reference.0 in omega arith) in
-    λ i. record { stamp = stamp i; indicator = indicator i; last_reference = last i }
+item_read = grind (common_steps, arith, file_stamp_read, good_stamp, get_or-append_right, drop_past, take_all)
 
 -- a well-formed ledger item has 19 bytes
 pub item_width : (item : LedgerItem) → IsGoodItem item → length (item_bytes item) ≡ 19
-item_width item good =
-    let size = good.reference.0 in
-    let last_size = good.last_reference.0 in
-    let joined = length-append item.stamp.reference (item.indicator ∷ item.last_reference) in
-    omega arith
+item_width = search (rules, length-append)
 
 stamp_of_ledger : (ledger : List LedgerItem) (stamp : Stamp) → IsLedger ledger → IsStampIn ledger stamp → IsGoodFileStamp stamp.file
 stamp_of_ledger ledger stamp is in_it =
@@ -96,11 +85,7 @@ association_bytes key = key.base ++ (key.associated ++ (to_be_bytes w16 key.star
 
 association_bytes_are : (key : AssociationKey) → key_bytes (association_key key) ≡ association_bytes key
 unfolding association_bytes
-association_bytes_are key =
-    let end = key.suffix ∷ key.indicator ∷ [] in
-    append_assoc (key.base ++ key.associated ++ to_be_bytes w16 key.start) key.location end
-    ∙ append_assoc (key.base ++ key.associated) (to_be_bytes w16 key.start) (key.location ++ end)
-    ∙ append_assoc key.base key.associated (to_be_bytes w16 key.start ++ (key.location ++ end))
+association_bytes_are = search (rules, append_assoc)
 
 association_read : (key : AssociationKey) → IsGoodAssociationKey key → association_key_in (association_bytes key) ≡ association_key key
 unfolding association_bytes
@@ -167,31 +152,16 @@ schedule_read key good =
 
 -- a well-formed key can be decoded from its bytes
 pub key_read : (key : Key) → IsGoodKey key → key_in (key_tag key) (key_bytes key) ≡ key
-key_read (tiploc_key code) good = refl
-key_read (association_key key) good = ap association_key_in (association_bytes_are key) ∙ association_read key good
-key_read (schedule_key key) good = ap schedule_key_in (schedule_bytes_are key) ∙ schedule_read key good
+key_read = search (rules, association_bytes_are, association_read, schedule_bytes_are, schedule_read)
 
 association_sized : (key : AssociationKey) → IsGoodAssociationKey key → length (association_bytes key) ≡ 23
 unfolding association_bytes
-association_sized key good =
-    let size_base = good.base.0 in
-    let size_associated = good.associated.0 in
-    let size_location = good.location.0.0 in
-    let end = key.suffix ∷ key.indicator ∷ [] in
-    let one = length-append key.base (key.associated ++ (to_be_bytes w16 key.start ++ (key.location ++ end))) in
-    let two = length-append key.associated (to_be_bytes w16 key.start ++ (key.location ++ end)) in
-    let three = length-append key.location end in
-    omega arith
+association_sized = search (rules, length-append)
 
 schedule_sized : (key : ScheduleKey) → IsGoodScheduleKey key → length (schedule_bytes key) ≡ 9
 unfolding schedule_bytes
-schedule_sized key good =
-    let size = good.uid.0 in
-    let one = length-append key.uid (to_be_bytes w16 key.runs_from ++ (key.indicator ∷ [])) in
-    omega arith
+schedule_sized = search (rules, length-append)
 
 -- `key_width` computes the number of bytes of a well-formed key from the key's tag
 pub key_width_is : (key : Key) → IsGoodKey key → length (key_bytes key) ≡ key_width (key_tag key)
-key_width_is (tiploc_key code) good = good.0.0
-key_width_is (association_key key) good = ap length (association_bytes_are key) ∙ association_sized key good
-key_width_is (schedule_key key) good = ap length (schedule_bytes_are key) ∙ schedule_sized key good
+key_width_is = search (rules, association_bytes_are, association_sized, schedule_bytes_are, schedule_sized)

@@ -1,15 +1,14 @@
 -- Each text either has a fault, or is within the limit and is the text of a state. The proof walks
 -- over the parts of the text.
-use Rattle.std.proofs.Common.{◌≡◌, ℕ, zero, suc, ◌+◌, ◌<◌, ◌≤◌, List, [], ◌∷◌, ◌++◌, length, take, drop, refl, ap}
+use Rattle.std.proofs.Common.{◌≡◌, ℕ, zero, suc, ◌+◌, ◌<◌, ◌≤◌, List, [], ◌∷◌, ◌++◌, length, take, drop, refl, ap, rules}
 use Rattle.std.proofs.Common.{sym, ◌∙◌, subst, inl, inr, ◌⊎◌, arith, append_assoc, append-nil, length-append, All}
 use Rattle.std.proofs.lemmas.List.{take-append-drop, length-take-le}
 use Rattle.std.proofs.lemmas.List.Elements.{recursion_from_All}
-use Rattle.docker_model.specs.file.Change.{tiploc_key, association_key, schedule_key}
 use Rattle.docker_model.specs.state.State.{State}
 use Rattle.docker_model.specs.state.StateText.{Format, state_text}
-use Rattle.docker_model.specs.state.StatePart.{EntryPart, before_tag, before_key, before_stamp, before_op, before_body, before_line, part_width}
-use Rattle.docker_model.specs.state.StatePart.{key_width, IsTag, Before, before_mark, before_horizon, before_ledger_count, before_item}
-use Rattle.docker_model.specs.state.StatePart.{before_entry_count, in_entry, at_end, items_before, text_before, width, IsPartHere, AreGood}
+use Rattle.docker_model.specs.state.StatePart.{EntryPart, part_width}
+use Rattle.docker_model.specs.state.StatePart.{key_width, IsTag, Before, before_mark}
+use Rattle.docker_model.specs.state.StatePart.{at_end, items_before, text_before, width, IsPartHere, AreGood}
 use Rattle.docker_model.specs.state.StateFault.{too_short, has_tail, too_long, StateFault, IsStateFault, IsStateText}
 use Rattle.state_laws.specs.TextStage.{advance}
 use Rattle.cif_laws.proofs.lists.AllOf.{all_front, all_behind}
@@ -19,30 +18,15 @@ use Rattle.state_laws.proofs.texts.PartJudged.{Judged, judge}
 
 -- each key has at least one byte, and so has each other part of an entry
 key_width_some : (tag : ℕ) → IsTag tag → 0 < key_width tag
-key_width_some tag (inl e) = subst (λ t. 0 < key_width t) (sym e) (omega arith)
-key_width_some tag (inr (inl e)) = subst (λ t. 0 < key_width t) (sym e) (omega arith)
-key_width_some tag (inr (inr e)) = subst (λ t. 0 < key_width t) (sym e) (omega arith)
+key_width_some = search rules
 
 part_some : (state : State) (part : EntryPart) → IsPartHere state part → 0 < part_width part
-part_some state before_tag here = omega arith
-part_some state (before_key tag) here = key_width_some tag here
-part_some state (before_stamp key) here = omega arith
-part_some state (before_op key stamp) here = omega arith
-part_some state (before_body (tiploc_key code) stamp) here = omega arith
-part_some state (before_body (association_key key) stamp) here = omega arith
-part_some state (before_body (schedule_key key) stamp) here = omega arith
-part_some state (before_line key stamp n lines) here = omega arith
+part_some = search (rules, key_width_some)
 
 -- at each stage of a text, a reader is at the end of a state, or a part of at least one byte comes
 -- next
 pub end_or_part : (format : Format) → (before : Before) → AreGood format before → ((state : State) × (before ≡ at_end state)) ⊎ (0 < width before)
-end_or_part format before_mark good = inr (omega arith)
-end_or_part format before_horizon good = inr (omega arith)
-end_or_part format (before_ledger_count horizon) good = inr (omega arith)
-end_or_part format (before_item horizon count ledger) good = inr (omega arith)
-end_or_part format (before_entry_count horizon ledger) good = inr (omega arith)
-end_or_part format (in_entry count state part) good = inr (part_some state part good.4)
-end_or_part format (at_end state) good = inl (state, refl)
+end_or_part = search (rules, part_some)
 
 -- the text is within the limit and is the text of a state, or it has a fault
 abbrev pub Answer : (format : Format) → ℕ → List ℕ → Type 0

@@ -1,10 +1,12 @@
 -- States with the same text are equal. A reader with a limit stops at no more than one stage of a
 -- text.
 use Rattle.std.proofs.Common.{◌≡◌, ℕ, ◌+◌, ◌≤◌, List, [], ◌++◌, length, ap, sym, ◌∙◌, subst, inl, inr, arith, append_assoc, append-nil, length-append}
+use Rattle.std.proofs.lemmas.Grind.{common_steps}
+use Rattle.std.proofs.Common.{rules}
 use Rattle.std.proofs.lemmas.List.{append_cancel_left}
 use Rattle.docker_model.specs.state.State.{State}
 use Rattle.docker_model.specs.state.StateText.{Format, state_text}
-use Rattle.docker_model.specs.state.StatePart.{Before, before_mark, at_end, text_before, width, AreGood}
+use Rattle.docker_model.specs.state.StatePart.{Before, at_end, text_before, width, AreGood}
 use Rattle.docker_model.specs.state.StateFault.{StateCause, StateFault, IsBadPart, HasBadPart, IsLong, IsShort}
 use Rattle.cif_laws.proofs.lists.Fronts.{same_front}
 use Rattle.state_laws.proofs.texts.TextStages.{IsLater, AreInLine, in_line}
@@ -28,23 +30,21 @@ no_part_at_end format state after later = let some = later.is_next.some in omega
 -- the other
 pub both_in_line : (format : Format) → (text : List ℕ) (first second : Before) (rest more : List ℕ) → AreGood format first → AreGood format second
     → text ≡ text_before format first ++ rest → text ≡ text_before format second ++ more → AreInLine format first second
-both_in_line format text first second rest more good also one two =
-    in_line format before_mark first second rest more (reach format first good) (reach format second also) (sym one ∙ two)
+both_in_line format text first second rest more good also one two = in_line _ _ _ _ _ _ (reach _ _ good) (reach _ _ also) (sym one ∙ two)
 
 -- if a state's text is a prefix of another state's text, the two states are equal
 pub no_front : (format : Format) → (first second : State) (rest : List ℕ) → AreGood format (at_end first) → AreGood format (at_end second)
     → state_text format first ++ rest ≡ state_text format second → (first ≡ second) × (rest ≡ [])
-no_front format first second rest good also same =
-    by (both_in_line format (state_text format second) (at_end first) (at_end second) rest [] good also
+no_front format first second rest good also same = by (both_in_line _ _ _ _ _ _ good also
     (sym same ∙ ap (λ xs. xs ++ rest) (sym (append-nil (state_text format first))))
     (sym (append-nil (state_text format second)) ∙ sym (append-nil (state_text format second ++ []))))
   where
     by : AreInLine format (at_end first) (at_end second) → (first ≡ second) × (rest ≡ [])
     by (inl ends) =
-        let states = same_end first second ends in
+        let states = same_end _ _ ends in
         (states, append_cancel_left (state_text format first) rest [] (same ∙ ap (state_text format) (sym states) ∙ sym (append-nil (state_text format first))))
-    by (inr (inl later)) = absurd (no_part_at_end format first (at_end second) later)
-    by (inr (inr later)) = absurd (no_part_at_end format second (at_end first) later)
+    by (inr (inl later)) = absurd (no_part_at_end _ _ _ later)
+    by (inr (inr later)) = absurd (no_part_at_end _ _ _ later)
 
 -- valid states with the same text are equal
 pub one_text : (format : Format) → (first second : State) → AreGood format (at_end first) → AreGood format (at_end second)
@@ -55,21 +55,12 @@ one_text format first second good also same = (no_front format first second [] g
 pub bad_stops : (format : Format) → (text : List ℕ) (before after : Before) (bytes rest more : List ℕ) (cause : StateCause) → length bytes ≡ width before
     → IsBadPart format before bytes cause
     → text ≡ text_before format before ++ bytes ++ rest → text ≡ text_before format after ++ more → IsLater format before after → ⊥
-bad_stops format text before after bytes rest more cause size bad one two later =
-    let front = text_before format before in
-    let behind : bytes ++ rest ≡ later.part ++ (later.more ++ more) = append_cancel_left front (bytes ++ rest) (later.part ++ (later.more ++ more))
-    (
-    sym (append_assoc front bytes rest) ∙ sym one ∙ two ∙ ap (λ xs. xs ++ more) (later.text ∙ append_assoc front later.part later.more)
-    ∙ append_assoc front (later.part ++ later.more) more ∙ ap (λ xs. front ++ xs) (append_assoc later.part later.more more)
-    ) in
-    let told = same_front bytes later.part rest (later.more ++ more) (size ∙ sym later.is_next.size) behind in
-    later.is_next.not_bad cause (subst (λ xs. IsBadPart format before xs cause) told.0 bad)
+bad_stops = search (rules, append_cancel_left, append_assoc, same_front)
 
 -- a text that begins with a state's text has no bad part
 pub no_bad_part : (format : Format) → (limit : ℕ) (text : List ℕ) (state : State) (rest : List ℕ) (fault : StateFault) → AreGood format (at_end state)
     → text ≡ state_text format state ++ rest → ¬ HasBadPart format limit text fault
-no_bad_part format limit text state rest fault good is has =
-    by (both_in_line format text has.before (at_end state) (has.bytes ++ has.rest) rest has.good good
+no_bad_part format limit text state rest fault good is has = by (both_in_line _ _ _ _ _ _ has.good good
     (has.whole ∙ append_assoc (text_before format has.before) has.bytes has.rest) whole)
   where
     whole : text ≡ text_before format (at_end state) ++ rest
@@ -77,8 +68,8 @@ no_bad_part format limit text state rest fault good is has =
 
     by : AreInLine format has.before (at_end state) → ⊥
     by (inl same) = subst (λ before. IsBadPart format before has.bytes fault.cause) same has.bad
-    by (inr (inl later)) = bad_stops format text has.before (at_end state) has.bytes has.rest rest fault.cause has.size has.bad has.whole whole later
-    by (inr (inr later)) = no_part_at_end format state has.before later
+    by (inr (inl later)) = bad_stops _ _ _ _ _ _ _ _ has.size has.bad has.whole whole later
+    by (inr (inr later)) = no_part_at_end _ _ _ later
 
 -- if a reader with this limit reads the text, it stops at this stage: it reaches this stage, and no
 -- later stage
@@ -105,12 +96,7 @@ one_stop format limit text first second one two = by (both_in_line format text f
 -- this part and the later stage. The length of the text is the sum of the three lengths
 pub later_size : (format : Format) → (before after : Before) (later : IsLater format before after)
     → length (text_before format before) + width before + length later.more ≡ length (text_before format after)
-later_size format before after later =
-    let told = ap length later.text in
-    let one = length-append (text_before format before ++ later.part) later.more in
-    let two = length-append (text_before format before) later.part in
-    let size = later.is_next.size in
-    omega arith
+later_size = search (rules, length-append)
 
 -- a reader stops before a bad part
 pub stop_of_bad : (format : Format) → (limit : ℕ) (text : List ℕ) (fault : StateFault) (has : HasBadPart format limit text fault)
@@ -126,30 +112,12 @@ stop_of_bad format limit text fault has = record {
 -- a reader stops before a part that goes past the limit
 pub stop_of_long : (format : Format) → (limit : ℕ) (text : List ℕ) (fault : StateFault) (is : IsLong format limit text fault)
     → IsStopped format limit text is.before
-stop_of_long format limit text fault is = record {
-  good = is.good;
-  rest = is.rest;
-  whole = is.whole;
-  within = is.reaches;
-  stops = λ after more later whole within. (let size = later_size format is.before after later in let needs = is.needs in omega arith);
-}
+stop_of_long = grind (common_steps, arith, later_size)
 
 -- a reader stops before a part that the end of the text cuts off
 pub stop_of_short : (format : Format) → (limit : ℕ) (text : List ℕ) (fault : StateFault) (is : IsShort format limit text fault)
     → IsStopped format limit text is.before
-stop_of_short format limit text fault is =
-    let here = ap length is.whole ∙ length-append (text_before format is.before) is.rest in
-    record {
-      good = is.good;
-      rest = is.rest;
-      whole = is.whole;
-      within = let low = is.within in omega arith;
-      stops = λ after more later whole within.
-          (let size = later_size format is.before after later in
-          let there = ap length whole ∙ length-append (text_before format after) more in
-          let ends = is.ends in
-          omega arith);
-    }
+stop_of_short = search (rules, length-append, later_size)
 
 -- a reader stops at the end of a state
 pub stop_at_end : (format : Format) → (limit : ℕ) (text : List ℕ) (state : State) (rest : List ℕ) → AreGood format (at_end state)

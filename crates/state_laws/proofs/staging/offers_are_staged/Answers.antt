@@ -1,8 +1,5 @@
-use Rattle.state_laws.proofs.joins.StagedEntry.{entry_at_iff, to_stage_by_get, nothing_staged, one_staged_more, one_left_out, own_stages_nothing}
+use Rattle.state_laws.proofs.joins.StagedEntry.{entry_at_iff, to_stage_by_get, one_staged_more, one_left_out, own_stages_nothing}
 use Rattle.state_laws.proofs.staging.offers_are_staged.Goals as goal
-
-pub returns-clause-none : goal.returns-clause-none
-returns-clause-none c = nothing_staged
 
 pub returns-clause-test : goal.returns-clause-test
 returns-clause-test c = to_stage_by_get
