@@ -56,14 +56,14 @@ as_many_rows rows (spot ∷ piece) seen =
 counted_there : (state : State) → AreAscending state.entries → (spots : List Spot) → AreSpotsOf call_places state.entries spots
     → (place : List ℕ) (piece : List Spot) → IsPieceAt place spots piece → IsCallingCount (live_table state) place (length piece)
 counted_there state up spots of place piece is =
-    (rows_at_spots state.entries piece, calling_there state up spots of place piece is, as_many_rows state.entries piece seen)
+    (rows_at_spots state.entries piece, calling_there state up _ of place _ is, as_many_rows state.entries _ seen)
   where
     seen : (spot : Spot) → Contains piece spot → IsSeen state.entries spot
     seen spot among =
         let inside = subst (λ zs. Contains zs spot) (sym is.whole) (Contains-append_left (is.before ++ piece) is.behind spot
         (Contains-append_right is.before piece spot among)) in
-        let stands = spots_stand call_places state.entries spot ((of.members spot).0 inside) in
-        let calls = call_back stands.0.0 stands.0.1.op spot.place stands.2 in (
+        let stands = spots_stand call_places _ spot ((of.members spot).0 inside) in
+        let calls = call_back _ stands.0.1.op _ stands.2 in (
           (stands.0.0, schedule_body calls.1),
           ap (option_and_then live_row) stands.1
               ∙ ap (λ op. option_and_then {U = Row} (λ (b : model.Body). Some (stands.0.0, b)) (body_of op)) calls.3,

@@ -1,7 +1,7 @@
 -- The spots of a state's rows determine the indexes of its live table. A spot is a TIPLOC with the
 -- index of a row there. The rows that a place's spots name are exactly the schedules that call
 -- there and the associations there.
-use Rattle.std.proofs.Common.{◌≡◌, ℕ, List, [], ◌∷◌, ◌++◌, map, refl, ap, sym, ◌∙◌, subst, Some, None, Contains}
+use Rattle.std.proofs.Common.{◌≡◌, ℕ, List, [], ◌∷◌, ◌++◌, map, refl, ap, sym, ◌∙◌, subst, Some, None, Contains, rules}
 use Rattle.std.specs.Prelude.{Option, slice_get, option_and_then}
 use Rattle.std.specs.List.{filter_map, cons_option}
 use Rattle.std.specs.declared.cmp.Ordering.{Ordering}
@@ -32,9 +32,7 @@ none_some : {A : Type 0} (a : A) → None ≡ Some a → ⊥
 none_some a h = cc
 
 put_of : (op : Op) (body : Body) → body_of op ≡ Some body → op ≡ put_with body
-put_of deleted body is = absurd (none_some body is)
-put_of lapsed body is = absurd (none_some body is)
-put_of (put_with other) body is = ap put_with (some_is other body is)
+put_of = search (rules, none_some, some_is)
 
 -- if a row's op is a put, its key is live in the state, with the body that is put
 put_is_live : (state : State) → AreAscending state.entries → (at : ℕ) (row : Keyed) (body : Body) → slice_get state.entries at ≡ Some row
@@ -87,16 +85,16 @@ module _ {K : Type 0} (wrap : K → Key) (row_of : List ℕ → Key → Option (
   -- if spots (each a TIPLOC and a row's index) ascend, so do the index rows found for them
   index_ascends : (rows : List Keyed) → AreAscending rows → (spots : List Spot) → IsStrictlyAscending spot_cmp spots
       → IsStrictlyAscending index_cmp (filter_map (row_at rows) spots)
-  index_ascends rows up spots ascending = chosen_ascends (row_at rows) spot_cmp index_cmp keeps spots ascending
+  index_ascends rows up spots ascending = chosen_ascends (row_at rows) _ index_cmp keeps spots ascending
     where
       keeps : (a b : Spot) (c d : IndexRow) → spot_cmp a b ≡ Less → row_at rows a ≡ Some c → row_at rows b ≡ Some d → index_cmp c d ≡ Less
       keeps a b c d before is_c is_d = by (bytes_cmp a.place b.place) refl before
         where
           from_a : (row : Keyed) × (slice_get rows a.at ≡ Some row) × (c.0 ≡ a.place) × (row.0 ≡ wrap c.1)
-          from_a = told_at rows a c is_c
+          from_a = told_at _ a _ is_c
 
           from_b : (row : Keyed) × (slice_get rows b.at ≡ Some row) × (d.0 ≡ b.place) × (row.0 ≡ wrap d.1)
-          from_b = told_at rows b d is_d
+          from_b = told_at rows _ d is_d
 
           places : bytes_cmp c.0 d.0 ≡ bytes_cmp a.place b.place
           places = λ i. bytes_cmp (from_a.2 i) (from_b.2 i)
@@ -105,8 +103,7 @@ module _ {K : Type 0} (wrap : K → Key) (row_of : List ℕ → Key → Option (
           by Less at told = λ i. ordering_then ((places ∙ at) i) (cmp c.1 d.1)
           by Greater at told = absurd (let bad : Greater ≡ Less = told in cc)
           by Equal at told =
-              let keys : key_cmp from_a.0.0 from_b.0.0 ≡ Less =
-              at_ascends (λ (r s : Keyed). key_cmp r.0 s.0) rows up a.at b.at from_a.0 from_b.0 (ranked a.at b.at Less (sym told)) from_a.1 from_b.1 in
+              let keys : key_cmp from_a.0.0 from_b.0.0 ≡ Less = at_ascends _ rows up _ b.at _ from_b.0 (ranked a.at b.at Less (sym told)) from_a.1 from_b.1 in
               (λ i. ordering_then ((places ∙ at) i) (cmp c.1 d.1))
               ∙ below c.1 d.1 (sym (λ i. key_cmp (from_a.3 i) (from_b.3 i)) ∙ keys)
 
@@ -150,10 +147,8 @@ module _ {K : Type 0} (wrap : K → Key) (row_of : List ℕ → Key → Option (
   cut : (rows : List Keyed) (before piece behind : List Spot)
       → filter_map (row_at rows) ((before ++ piece) ++ behind) ≡ (filter_map (row_at rows) before ++ filter_map (row_at rows) piece) ++ filter_map
       (row_at rows) behind
-  cut rows before piece behind =
-      filter_map-append (row_at rows) (before ++ piece) behind ∙ (λ i. filter_map-append (row_at rows) before piece i ++ filter_map (row_at rows) behind)
+  cut = search (rules, filter_map-append)
 
--- each row that is found through a spot (a TIPLOC and a row's index) is live
 live_at_spots : (state : State) → AreAscending state.entries → (spots : List Spot) (key : Key) (body : Body)
     → Contains (rows_at_spots state.entries spots) (key, body) → live_table state key ≡ Some body
 live_at_spots state up spots key body among = by (slice_get state.entries found.0.at) refl found.2
@@ -175,21 +170,15 @@ live_at_spots state up spots key body among = by (slice_get state.entries found.
 
 -- in the index of calls, the row for a place and a key has this place and this key
 call_unwrap : (place : List ℕ) (key : Key) (row : CallingRow) → calling_row place key ≡ Some row → (row.0 ≡ place) × (key ≡ schedule_key row.1)
-call_unwrap place (schedule_key key) row is =
-    let same : (place, key) ≡ row = some_is (place, key) row is in (sym (ap (λ (r : CallingRow). r.0) same), ap (λ (r : CallingRow). schedule_key r.1) same)
-call_unwrap place (tiploc_key code) row is = absurd (none_some row is)
-call_unwrap place (association_key key) row is = absurd (none_some row is)
+call_unwrap = search (rules, some_is, none_some)
 
 link_unwrap : (place : List ℕ) (key : Key) (row : LinkedRow) → linked_row place key ≡ Some row → (row.0 ≡ place) × (key ≡ association_key row.1)
-link_unwrap place (association_key key) row is =
-    let same : (place, key) ≡ row = some_is (place, key) row is in (sym (ap (λ (r : LinkedRow). r.0) same), ap (λ (r : LinkedRow). association_key r.1) same)
-link_unwrap place (tiploc_key code) row is = absurd (none_some row is)
-link_unwrap place (schedule_key key) row is = absurd (none_some row is)
+link_unwrap = search (rules, some_is, none_some)
 
 module _ (state : State) (up : AreAscending state.entries) (spots : List Spot) where
   pub calls_index : AreSpotsOf call_places state.entries spots → IsCallingIndex (live_table state) (calling_rows state.entries spots)
   calls_index of = record {
-    ascending = index_ascends schedule_key calling_row schedule_key_cmp call_unwrap (λ place k. refl) (λ a b less. less) state.entries up spots of.ascending;
+    ascending = index_ascends schedule_key calling_row _ call_unwrap (λ place k. refl) (λ a b less. less) state.entries up spots of.ascending;
     members = λ place key. (forth place key, λ made. back place key made.0 made.1);
   }
     where
@@ -199,16 +188,14 @@ module _ (state : State) (up : AreAscending state.entries) (spots : List Spot) w
       forth : (place : List ℕ) (key : ScheduleKey) → Contains (calling_rows state.entries spots) (place, key) → (lines : List (List ℕ)) × IsCalling
           (live_table state) place key lines
       forth place key among =
-          let found = chosen_from at spots (place, key) among in
-          let told = told_at schedule_key calling_row schedule_key_cmp call_unwrap (λ p k. refl) (λ a b less. less) state.entries found.0
-          (place, key) found.2 in
-          let stands = spots_stand call_places state.entries found.0 ((of.members found.0).0 found.1) in
-          let same : stands.0 ≡ told.0 = some_is stands.0 told.0 (sym stands.1 ∙ told.1) in
-          let calls = call_back stands.0.0 stands.0.1.op found.0.place stands.2 in (
+          let found = chosen_from at _ (place, key) among in
+          let told = told_at _ calling_row _ call_unwrap (λ p k. refl) (λ a b less. less) state.entries found.0 (place, key) found.2 in
+          let stands = spots_stand call_places _ found.0 ((of.members found.0).0 found.1) in
+          let same : stands.0 ≡ told.0 = some_is _ told.0 (sym stands.1 ∙ told.1) in
+          let calls = call_back _ stands.0.1.op _ stands.2 in (
             calls.1,
             record {
-              is_live = ap (live_table state) (sym told.3 ∙ sym (ap (λ (r : Keyed). r.0) same)) ∙ put_is_live state up found.0.at stands.0
-                  (schedule_body calls.1) stands.1 calls.3;
+              is_live = ap (live_table state) (sym told.3 ∙ sym (ap (λ (r : Keyed). r.0) same)) ∙ put_is_live state up _ stands.0 _ stands.1 calls.3;
               calls = subst (λ p. CallsAt p calls.1) (sym told.2) calls.4;
             },
           )
@@ -216,15 +203,12 @@ module _ (state : State) (up : AreAscending state.entries) (spots : List Spot) w
       back : (place : List ℕ) (key : ScheduleKey) (lines : List (List ℕ)) → IsCalling (live_table state) place key lines → Contains
           (calling_rows state.entries spots) (place, key)
       back place key lines made =
-          let live = live_is_put state up (schedule_key key) (schedule_body lines) made.is_live in
-          chosen_to at spots (spot_at live.0 place) (place, key)
-          ((of.members (spot_at live.0 place)).1 (stand_spots call_places state.entries (spot_at live.0 place) (
+          let live = live_is_put state up _ (schedule_body lines) made.is_live in
+          chosen_to _ spots _ (place, key) ((of.members (spot_at live.0 place)).1 (stand_spots _ state.entries _ (
             (schedule_key key, live.1),
             live.2,
-            subst (λ op. Contains (call_places (schedule_key key) op) place) (sym live.3)
-                (call_forth key lines place made.calls),
-          )))
-          (ap (option_and_then (λ (row : Keyed). calling_row place row.0)) live.2)
+            subst (λ op. Contains (call_places (schedule_key key) op) place) (sym live.3) (call_forth key _ place made.calls),
+          ))) (ap (option_and_then (λ (row : Keyed). calling_row place row.0)) live.2)
 
   pub links_index : AreSpotsOf link_places state.entries spots → IsLinkedIndex (live_table state) (linked_rows state.entries spots)
   links_index of = record {

@@ -1,15 +1,13 @@
 -- Packing the seven bytes of a place into one number loses nothing: two places are equal if and only if their numbers are equal.
-use Rattle.std.proofs.Common.{◌≡◌, ◌<◌, ◌+◌, ◌++◌, [], ◌∷◌, ℕ, List, suc, zero, length, get_or, subst, sym, refl, ap, ◌∙◌}
+use Rattle.std.proofs.Common.{◌≡◌, ◌<◌, ◌+◌, ◌++◌, [], ◌∷◌, ℕ, List, length, get_or, subst, sym, refl, ap, ◌∙◌, arith}
+use Rattle.std.proofs.lemmas.Grind.{common_steps}
 use Rattle.std.specs.Int.{from_le_bytes, to_le_bytes, w64}
 use Rattle.std.proofs.lemmas.Nat.{le_bytes_8}
 use Rattle.std.proofs.lemmas.List.{append_cancel_right, length-append}
 
 -- An element that is read past the end of a list counts as 0, so appending a 0 changes no element that is read.
 last_zero : (xs : List ℕ) (i : ℕ) → get_or (xs ++ 0 ∷ []) i 0 ≡ get_or xs i 0
-last_zero [] zero = refl
-last_zero [] (suc i) = refl
-last_zero (x ∷ xs) zero = refl
-last_zero (x ∷ xs) (suc i) = last_zero xs i
+last_zero = grind (common_steps, arith)
 
 -- Unpacking the number into which seven bytes were packed results in these bytes, followed by a 0.
 digits : (xs : List ℕ) → length xs ≡ 7 → ((i : ℕ) → get_or xs i 0 < 256)

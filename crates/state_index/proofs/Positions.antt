@@ -1,10 +1,11 @@
 -- Lemmas on the elements of a list at given indexes, and on the rows that spots name. A spot is a TIPLOC with the index of a row there.
 use Rattle.std.proofs.Common.{◌≡◌, ℕ, zero, suc, ◌+◌, ◌<◌, List, [], ◌∷◌, length, map, refl, ap, sym, ◌∙◌, subst, inl, inr, ◌⊎◌, Some, None, Contains, arith}
+use Rattle.std.proofs.lemmas.Grind.{common_steps}
 use Rattle.std.specs.Prelude.{Option, slice_get}
 use Rattle.std.specs.List.{AllByRecursion, filter_map, cons_option}
 use Rattle.std.specs.declared.cmp.Ordering.{Ordering}
 use Rattle.std.specs.declared.cmp.Ordering.TheVariants.{Less}
-use Rattle.std.proofs.lemmas.List.Elements.{Contains-append_left, Contains-append_right, Contains-append_cases}
+use Rattle.std.proofs.lemmas.List.Elements.{Contains-append_right, Contains-append_cases}
 use Rattle.docker_model.specs.file.Change.{Key}
 use Rattle.docker_model.specs.state.Op.{Entry}
 use Rattle.docker_model.specs.state.Order.{IsBelow, IsStrictlyAscending}
@@ -25,8 +26,7 @@ some_is a b h = cc
 module _ {A : Type 0} where
   -- a list without elements is empty
   pub none_left : (xs : List A) → length xs ≡ 0 → xs ≡ []
-  none_left [] none = refl
-  none_left (x ∷ xs) none = absurd (omega arith)
+  none_left = grind (common_steps, arith)
 
   -- an element that a list has at some index is a member of the list
   pub at_member : (xs : List A) (i : ℕ) (x : A) → slice_get xs i ≡ Some x → Contains xs x
@@ -48,27 +48,14 @@ module _ {A : Type 0} where
       → slice_get xs i ≡ Some x → slice_get xs j ≡ Some y → cmp x y ≡ Less
   at_ascends cmp [] up i j x y before is_x is_y = absurd (none_some x is_x)
   at_ascends cmp (z ∷ zs) up i zero x y before is_x is_y = absurd (omega arith)
-  at_ascends cmp (z ∷ zs) up zero (suc j) x y before is_x is_y =
-      subst (λ v. cmp v y ≡ Less) (some_is z x is_x) (below_by_recursion (IsBelow cmp z) zs y up.0 (at_member zs j y is_y))
+  at_ascends cmp (z ∷ zs) up zero (suc j) x y before is_x is_y = grind (common_steps, arith, some_is, below_by_recursion, at_member)
   at_ascends cmp (z ∷ zs) up (suc i) (suc j) x y before is_x is_y = at_ascends cmp zs up.1 i j x y (omega arith) is_x is_y
 
 module _ {A B : Type 0} (f : A → Option B) where
   -- each element of `filter_map f xs` is the result of f for some element of xs
   pub chosen_from : (xs : List A) (z : B) → Contains (filter_map f xs) z → (x : A) × Contains xs x × (f x ≡ Some z)
   chosen_from [] z among = absurd (nil-Contains z among)
-  chosen_from (x ∷ xs) z among = by (f x) refl (chosen_from xs z) among
-    where
-      later : (y : A) × Contains xs y × (f y ≡ Some z) → (y : A) × Contains (x ∷ xs) y × (f y ≡ Some z)
-      later found = (found.0, cons-Contains x xs found.0 found.1, found.2)
-
-      by : (o : Option B) → f x ≡ o → (Contains (filter_map f xs) z → (y : A) × Contains xs y × (f y ≡ Some z))
-          → Contains (cons_option o (filter_map f xs)) z → (y : A) × Contains (x ∷ xs) y × (f y ≡ Some z)
-      by None is rest inside = later (rest inside)
-      by (Some c) is rest inside = cases (Contains-cons c (filter_map f xs) z inside)
-        where
-          cases : (c ≡ z) ⊎ Contains (filter_map f xs) z → (y : A) × Contains (x ∷ xs) y × (f y ≡ Some z)
-          cases (inl same) = (x, cons-Contains-first x xs, is ∙ ap Some same)
-          cases (inr behind) = later (rest behind)
+  chosen_from (x ∷ xs) z among = grind (arith, cons-Contains, cons-Contains-first, (chosen_from xs z))
 
   -- the result of f for an element of xs, if there is one, is in `filter_map f xs`
   pub chosen_to : (xs : List A) (x : A) (z : B) → Contains xs x → f x ≡ Some z → Contains (filter_map f xs) z
@@ -87,19 +74,11 @@ module _ {A B : Type 0} (f : A → Option B) where
       ≡ Less) where
     chosen_above : (x : A) (c : B) → f x ≡ Some c → (xs : List A) → AllByRecursion (IsBelow low_cmp x) xs → AllByRecursion (IsBelow cmp c) (filter_map f xs)
     chosen_above x c is [] above = tt
-    chosen_above x c is (y ∷ ys) above = by (f y) refl (chosen_above x c is ys above.1)
-      where
-        by : (o : Option B) → f y ≡ o → AllByRecursion (IsBelow cmp c) (filter_map f ys) → AllByRecursion (IsBelow cmp c) (cons_option o (filter_map f ys))
-        by None none rest = rest
-        by (Some d) some rest = (keeps x y c d above.0 is some, rest)
+    chosen_above x c is (y ∷ ys) above = grind (arith, (chosen_above x c is ys above.1))
 
     pub chosen_ascends : (xs : List A) → IsStrictlyAscending low_cmp xs → IsStrictlyAscending cmp (filter_map f xs)
     chosen_ascends [] up = tt
-    chosen_ascends (x ∷ xs) up = by (f x) refl (chosen_ascends xs up.1)
-      where
-        by : (o : Option B) → f x ≡ o → IsStrictlyAscending cmp (filter_map f xs) → IsStrictlyAscending cmp (cons_option o (filter_map f xs))
-        by None none rest = rest
-        by (Some c) some rest = (chosen_above x c some xs up.0, rest)
+    chosen_ascends (x ∷ xs) up = grind (arith, chosen_above, (chosen_ascends xs up.1))
 
 module _ (places : Places) where
   -- Says that a spot (a TIPLOC and a row's index) names one of these rows and one of the row's places. The first of these rows has the index `at`.
@@ -124,12 +103,7 @@ module _ (places : Places) where
   to_spots : (at : ℕ) (rows : List Keyed) (i : ℕ) (row : Keyed) (place : List ℕ) → slice_get rows i ≡ Some row → Contains (places row.0 row.1.op) place
       → Contains (spots_from places at rows) (spot_at (i + at) place)
   to_spots at [] i row place is among = absurd (none_some row is)
-  to_spots at (first ∷ rows) zero row place is among =
-      let here_at : at ≡ 0 + at = omega arith in
-      subst (λ n. Contains (spots_from places at (first ∷ rows)) (spot_at n place)) here_at
-      (Contains-append_left (map (spot_at at) (places first.0 first.1.op)) (spots_from places (1 + at) rows) (spot_at at place)
-      (map-Contains (spot_at at) (places first.0 first.1.op) place (subst (λ (r : Keyed). Contains (places r.0 r.1.op) place)
-      (sym (some_is first row is)) among)))
+  to_spots at (first ∷ rows) zero row place is among = grind (common_steps, arith, map-Contains, some_is)
   to_spots at (first ∷ rows) (suc i) row place is among =
       let next : i + (1 + at) ≡ suc i + at = omega arith in
       Contains-append_right (map (spot_at at) (places first.0 first.1.op)) (spots_from places (1 + at) rows) (spot_at (suc i + at) place)

@@ -1,28 +1,24 @@
 -- Lemmas on postings that are appended one after another, and on the spots made from them. A spot is a posting with the TIPLOC itself instead of the TIPLOC's
 -- index.
-use Rattle.std.proofs.Common.{◌≡◌, ℕ, ◌+◌, ◌<◌, ◌^◌, List, [], ◌∷◌, ◌++◌, length, refl, ap, sym, ◌∙◌, subst, Some, vec_len, vec_capacity, append-nil, arith}
-use Rattle.std.specs.Prelude.{slice_get, option_map}
-use Rattle.std.specs.List.{cons_option}
+use Rattle.std.proofs.Common.{◌≡◌, ℕ, ◌+◌, ◌<◌, ◌^◌, List, [], ◌∷◌, ◌++◌, length, sym, subst, Some, vec_len, vec_capacity, append-nil, arith}
+use Rattle.std.proofs.lemmas.Grind.{common_steps}
+use Rattle.std.proofs.Common.{rules}
+use Rattle.std.specs.Prelude.{slice_get}
 use Rattle.std.specs.Global.{Vec}
 use Rattle.std.proofs.lemmas.List.{length-append, append_assoc}
-use Rattle.std.proofs.lemmas.List.Elements.{filter_map-append, Contains-append_left, Contains-append_right}
+use Rattle.std.proofs.lemmas.List.Elements.{filter_map-append, Contains-append_right}
 use Rattle.docker_model.specs.state.Order.{bytes_cmp, IsStrictlyAscending}
 use Rattle.state_index.specs.declared.posting.Posting.{Posting}
 use Rattle.state_index.specs.Posted.{ArePosted, CanPost}
 use Rattle.state_index.specs.Rooms.{Item, HasRoomAt, places_in}
 use Rattle.state_index.specs.SpotOrder.{Spot}
-use Rattle.state_index.specs.Spots.{Places, spot_at, posting_spot, spots_in, spots_of}
+use Rattle.state_index.specs.Spots.{Places, spot_at, spots_in, spots_of}
 use Rattle.state_index.proofs.Positions.{Keyed}
 
 module _ (names : List (List ℕ)) where
   -- room for the postings of some places and of others is room for the postings of the first places
   pub can_front : (first second : List (List ℕ)) (postings : Vec Posting) → CanPost names (first ++ second) postings → CanPost names first postings
-  can_front first second postings can = record {
-    named = can.named;
-    few = can.few;
-    all = λ place among. can.all place (Contains-append_left first second place among);
-    room = (let len = length-append first second in let room = can.room in omega arith);
-  }
+  can_front = grind (common_steps, arith, length-append)
 
   -- once the postings of the first places are appended, there is still room for the postings of the others
   pub can_back : (first second : List (List ℕ)) (spots : List Spot) (old new : Vec Posting) → length spots ≡ length first → ArePosted names spots old new
@@ -42,39 +38,19 @@ module _ (names : List (List ℕ)) where
 
   -- if nothing is appended, the postings of no spots are appended
   pub posted_none : (postings : Vec Posting) → ArePosted names [] postings postings
-  posted_none postings = record {
-    are = sym (append-nil (spots_in names postings.items));
-    len = omega arith;
-    capacity = refl;
-  }
+  posted_none = search (rules, append-nil)
 
   -- appending the postings of some spots and then of others is appending the postings of all of them
   pub posted_then : (first second : List Spot) (old between new : Vec Posting) → ArePosted names first old between → ArePosted names second between new
       → ArePosted names (first ++ second) old new
-  posted_then first second old between new one two = record {
-    are = two.are ∙ ap (λ spots. spots ++ second) one.are ∙ append_assoc (spots_in names old.items) first second;
-    len = (
-        let both = length-append first second in
-        let before = one.len in
-        let after = two.len in
-        omega arith
-        );
-    capacity = two.capacity ∙ one.capacity;
-  }
+  posted_then = search (rules, append_assoc, length-append)
 
   -- appending a posting whose place is the index of a name appends the posting of the spot with this name
   pub posted_one : (rank at : ℕ) (place : List ℕ) (old new : Vec Posting) → slice_get names rank ≡ Some place
       → new.items ≡ old.items ++ record { place = rank; at = at } ∷ [] → vec_len new ≡ vec_len old + 1 → vec_capacity new ≡ vec_capacity old
       → ArePosted names (spot_at at place ∷ []) old new
-  posted_one rank at place old new is pushed len capacity = record {
-    are = ap (spots_in names) pushed
-        ∙ filter_map-append (posting_spot names) old.items (record { place = rank; at = at } ∷ [])
-        ∙ (λ i. spots_in names old.items ++ cons_option (option_map (spot_at at) (is i)) []);
-    len = len;
-    capacity = capacity;
-  }
+  posted_one = search (rules, filter_map-append)
 
--- memory that was reserved for the places of items, once it is empty, has room for their postings
 pub can_all : (places : Places) (items : List Item) (names listed : List (List ℕ)) → listed ≡ names → IsStrictlyAscending bytes_cmp names
     → length names < 2 ^ 32 → (old new : Vec Posting) → HasRoomAt places items names old → vec_len new ≡ 0 → vec_capacity new ≡ vec_capacity old
     → CanPost listed (places_in places items) new
@@ -89,5 +65,4 @@ can_all places items names listed same named few old new room empty capacity =
 -- postings of the rows' spots that were appended to no postings are postings of just these spots
 pub made_all : (places : Places) (rows : List Keyed) (names listed : List (List ℕ)) → listed ≡ names → (old new : Vec Posting) → old.items ≡ []
     → ArePosted listed (spots_of places rows) old new → spots_in names new.items ≡ spots_of places rows
-made_all places rows names listed same old new none posted =
-    (λ i. spots_in (sym same i) new.items) ∙ posted.are ∙ (λ i. spots_in listed (none i) ++ spots_of places rows)
+made_all = search rules

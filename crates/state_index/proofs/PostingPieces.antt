@@ -1,11 +1,12 @@
 -- In a list of ascending postings, the postings of one place are consecutive.
-use Rattle.std.proofs.Common.{◌≡◌, ℕ, zero, suc, ◌<◌, ◌≤◌, List, [], ◌∷◌, ◌++◌, take, drop, length, get_or}
+use Rattle.std.proofs.Common.{◌≡◌, ℕ, zero, suc, ◌<◌, ◌≤◌, List, [], ◌∷◌, ◌++◌, take, drop, length, get_or, rules}
+use Rattle.std.proofs.lemmas.Grind.{common_steps}
 use Rattle.std.proofs.Common.{refl, ap, sym, ◌∙◌, subst, inl, inr, ◌⊎◌, Bool, true, false, Contains, arith}
 use Rattle.std.specs.List.{AllByRecursion}
 use Rattle.std.specs.List.Sorted.{IsPartitionedBy, IsPartitionPoint}
 use Rattle.std.specs.declared.cmp.Ordering.{Ordering}
 use Rattle.std.specs.declared.cmp.Ordering.TheVariants.{Less, Equal, Greater}
-use Rattle.std.specs.Ordering.{is_lt, is_le, ordering_then, ordering_reverse, nat_cmp}
+use Rattle.std.specs.Ordering.{is_lt, is_le, nat_cmp}
 use Rattle.std.specs.Cmp.{tied_itself, nat_cmp_total}
 use Rattle.std.proofs.lemmas.Bool.{cases_lt}
 use Rattle.std.proofs.lemmas.List.{append_assoc, take-append-drop}
@@ -34,22 +35,14 @@ module _ {A : Type 0} (P : A → Type 0) where
   dropped : (xs : List A) (n : ℕ) → n ≤ length xs → ((k : ℕ) (d : A) → n ≤ k → k < length xs → P (get_or xs k d)) → (z : A) → Contains (drop n xs) z → P z
   dropped [] zero bound all z among = absurd (nil-Contains z among)
   dropped [] (suc n) bound all z among = absurd (let none : suc n ≤ 0 = bound in omega arith)
-  dropped (x ∷ xs) zero bound all z among = by (dropped xs zero (omega arith) (λ k d low high. all (suc k) d (omega arith) (omega arith)) z)
-      (Contains-cons x xs z among)
-    where
-      by : (Contains xs z → P z) → (x ≡ z) ⊎ Contains xs z → P z
-      by rest (inl same) = subst P same (all 0 x (omega arith) (omega arith))
-      by rest (inr inside) = rest inside
+  dropped (x ∷ xs) zero bound all z among = search rules
   dropped (x ∷ xs) (suc n) bound all z among = dropped xs n (omega arith) (λ k d low high. all (suc k) d (omega arith) (omega arith)) z among
-
--- ---- a monotone test passes for the first postings and fails for all postings after them
+      ---- a monotone test passes for the first postings and fails for all postings after them
 
 above_at : (low : Posting) (postings : List Posting) (j : ℕ) (d : Posting) → AllByRecursion (IsBelow posting_cmp low) postings → j < length postings
     → posting_cmp low
     (get_or postings j d) ≡ Less
-above_at low [] j d above within = absurd (let none : j < 0 = within in omega arith)
-above_at low (posting ∷ postings) zero d above within = above.0
-above_at low (posting ∷ postings) (suc j) d above within = above_at low postings j d above.1 (omega arith)
+above_at = grind (common_steps, arith)
 
 below_at : (postings : List Posting) (i j : ℕ) (d : Posting) → IsStrictlyAscending posting_cmp postings → i < j → j < length postings
     → posting_cmp (get_or postings i d)
@@ -69,28 +62,14 @@ GoesDown test = (test Greater ≡ false) × (test Equal ≡ true → test Less �
 
 module _ (test : Ordering → Bool) (down : GoesDown test) (place : ℕ) where
   passes_below : (a b : Posting) → posting_cmp a b ≡ Less → test (by_place place b) ≡ true → test (by_place place a) ≡ true
-  passes_below a b below passes = by (nat_cmp a.place b.place) refl below (by_place place b) refl passes
-    where
-      by : (o : Ordering) → nat_cmp a.place b.place ≡ o → ordering_then o (nat_cmp a.at b.at) ≡ Less
-          → (p : Ordering) → by_place place b ≡ p → test p ≡ true → test (by_place place a) ≡ true
-      by Greater at told p at_b passed = absurd (let bad : Greater ≡ Less = told in cc)
-      by Equal at told p at_b passed = ap test (nat_cmp_total.congr a.place b.place place at ∙ at_b) ∙ passed
-      by Less at told Greater at_b passed = absurd (let bad : false ≡ true = sym down.0 ∙ passed in cc)
-      by Less at told Less at_b passed = ap test (nat_cmp_total.trans a.place b.place place at at_b) ∙ passed
-      by Less at told Equal at_b passed =
-          let other : nat_cmp place b.place ≡ Equal = nat_cmp_total.antisymm place b.place ∙ ap ordering_reverse at_b in
-          let same : nat_cmp place a.place ≡ nat_cmp b.place a.place = nat_cmp_total.congr place b.place a.place other in
-          let turned : nat_cmp b.place a.place ≡ Greater = nat_cmp_total.antisymm b.place a.place ∙ ap ordering_reverse at in
-          let less : by_place place a ≡ Less = nat_cmp_total.antisymm a.place place ∙ ap ordering_reverse (same ∙ turned) in
-          ap test less ∙ down.1 passed
+  passes_below = search rules
 
   pub parted : (postings : List Posting) → IsStrictlyAscending posting_cmp postings → IsPartitionedBy (λ posting. test (by_place place posting)) postings
   parted postings up = λ i j d before within passes. by i j d before within passes (cases_lt i j)
     where
       by : (i j : ℕ) (d : Posting) → i ≤ j → j < length postings → test (by_place place (get_or postings j d)) ≡ true → (i < j) ⊎ (j ≤ i) → test
           (by_place place (get_or postings i d)) ≡ true
-      by i j d before within passes (inl strictly) = passes_below (get_or postings i d) (get_or postings j d)
-          (below_at postings i j d up strictly within) passes
+      by i j d before within passes (inl strictly) = passes_below _ (get_or postings j d) (below_at _ i _ d up strictly within) passes
       by i j d before within passes (inr after) =
           let same : j ≡ i = omega arith in
           subst (λ k. test (by_place place (get_or postings k d)) ≡ true) same passes
@@ -119,28 +98,13 @@ not_itself : (place : ℕ) (posting : Posting) (o : Ordering) → nat_cmp postin
 not_itself place posting o is other = λ same. other (sym is ∙ ap (λ p. nat_cmp p place) same ∙ tied_itself nat_cmp_total place)
 
 before_other : (place : ℕ) (posting : Posting) → is_before place posting ≡ true → ¬ (posting.place ≡ place)
-before_other place posting passes = by (nat_cmp posting.place place) refl passes
-  where
-    by : (o : Ordering) → nat_cmp posting.place place ≡ o → is_lt o ≡ true → ¬ (posting.place ≡ place)
-    by Less is told = not_itself place posting Less is (λ h. cc)
-    by Equal is told = absurd (let bad : false ≡ true = told in cc)
-    by Greater is told = absurd (let bad : false ≡ true = told in cc)
+before_other = search (rules, not_itself)
 
 behind_other : (place : ℕ) (posting : Posting) → is_up_to place posting ≡ false → ¬ (posting.place ≡ place)
-behind_other place posting fails = by (nat_cmp posting.place place) refl fails
-  where
-    by : (o : Ordering) → nat_cmp posting.place place ≡ o → is_le o ≡ false → ¬ (posting.place ≡ place)
-    by Greater is told = not_itself place posting Greater is (λ h. cc)
-    by Equal is told = absurd (let bad : true ≡ false = told in cc)
-    by Less is told = absurd (let bad : true ≡ false = told in cc)
+behind_other = search (rules, not_itself)
 
 here_is : (place : ℕ) (posting : Posting) → is_before place posting ≡ false → is_up_to place posting ≡ true → posting.place ≡ place
-here_is place posting fails passes = by (nat_cmp posting.place place) refl fails passes
-  where
-    by : (o : Ordering) → nat_cmp posting.place place ≡ o → is_lt o ≡ false → is_le o ≡ true → posting.place ≡ place
-    by Equal is told up = exact_unsigned posting.place place is
-    by Less is told up = absurd (let bad : true ≡ false = told in cc)
-    by Greater is told up = absurd (let bad : false ≡ true = up in cc)
+here_is = search (rules, exact_unsigned)
 
 -- the postings between the two indexes that the searches find are the postings of the place
 pub piece_is : (place : ℕ) (postings rest piece : List Posting) (from to : ℕ) → from ≤ length postings → rest ≡ drop from postings → to ≤ length rest → piece

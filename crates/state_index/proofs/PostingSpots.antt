@@ -1,10 +1,10 @@
 -- Postings and their spots. A posting has its place as an index in a list of places, and its spot has the TIPLOC itself.
-use Rattle.std.proofs.Common.{◌≡◌, ℕ, List, [], ◌∷◌, ◌++◌, refl, ap, sym, ◌∙◌, subst, Some, None, Contains, append-nil}
+use Rattle.std.proofs.Common.{◌≡◌, ℕ, List, [], ◌∷◌, ◌++◌, refl, ap, sym, ◌∙◌, subst, Some, None, Contains, append-nil, rules}
 use Rattle.std.specs.Prelude.{Option, ◌↔◌, slice_get, option_map, option_and_then}
 use Rattle.std.specs.List.{cons_option}
 use Rattle.std.specs.declared.cmp.Ordering.{Ordering}
 use Rattle.std.specs.declared.cmp.Ordering.TheVariants.{Less, Equal, Greater}
-use Rattle.std.specs.Ordering.{ordering_then, ordering_reverse, nat_cmp}
+use Rattle.std.specs.Ordering.{ordering_reverse, nat_cmp}
 use Rattle.std.specs.Cmp.{tied_itself}
 use Rattle.std.specs.Cmp.Lexicographic.{nat_list_cmp_total}
 use Rattle.std.proofs.lemmas.Cmp.{ranked}
@@ -27,14 +27,7 @@ none_some a h = cc
 -- the spot made from a posting has the name of the posting's place, and the posting's row
 pub spot_named : (names : List (List ℕ)) (posting : Posting) (spot : Spot) → posting_spot names posting ≡ Some spot
     → (slice_get names posting.place ≡ Some spot.place) × (spot.at ≡ posting.at)
-spot_named names posting spot is = by (slice_get names posting.place) refl is
-  where
-    by : (o : Option (List ℕ)) → slice_get names posting.place ≡ o → option_map (spot_at posting.at) o ≡ Some spot
-        → (slice_get names posting.place ≡ Some spot.place) × (spot.at ≡ posting.at)
-    by None at told = absurd (none_some spot told)
-    by (Some place) at told =
-        let same : spot_at posting.at place ≡ spot = some_is (spot_at posting.at place) spot told in
-        (at ∙ ap (λ (s : Spot). Some s.place) same, sym (ap (λ (s : Spot). s.at) same))
+spot_named = search (rules, none_some, some_is)
 
 module _ (names : List (List ℕ)) (up : IsStrictlyAscending bytes_cmp names) where
   -- two places in an ascending list compare like their indexes in the list
@@ -42,13 +35,12 @@ module _ (names : List (List ℕ)) (up : IsStrictlyAscending bytes_cmp names) wh
   place_order i j x y is_x is_y = by (nat_cmp i j) refl
     where
       by : (o : Ordering) → nat_cmp i j ≡ o → bytes_cmp x y ≡ nat_cmp i j
-      by Less at = at_ascends bytes_cmp names up i j x y (ranked i j Less (sym at)) is_x is_y ∙ sym at
+      by Less at = at_ascends _ _ up _ _ _ _ (ranked i j Less (sym at)) is_x is_y ∙ sym at
       by Equal at =
           let one : i ≡ j = ranked i j Equal (sym at) in
-          let same : x ≡ y = some_is x y (sym is_x ∙ ap (slice_get names) one ∙ is_y) in
+          let same : x ≡ y = some_is _ _ (sym is_x ∙ ap (slice_get names) one ∙ is_y) in
           sym (ap (bytes_cmp x) same) ∙ tied_itself nat_list_cmp_total x ∙ sym at
-      by Greater at =
-          nat_list_cmp_total.antisymm x y ∙ ap ordering_reverse (at_ascends bytes_cmp names up j i y x (ranked i j Greater (sym at)) is_y is_x) ∙ sym at
+      by Greater at = nat_list_cmp_total.antisymm x y ∙ ap ordering_reverse (at_ascends _ _ up _ _ _ _ (ranked i j Greater (sym at)) is_y is_x) ∙ sym at
 
   -- the TIPLOCs of two spots compare like the indexes that the two postings have for these TIPLOCs
   pub same_order : (a b : Posting) (x y : Spot) → posting_spot names a ≡ Some x → posting_spot names b ≡ Some y
@@ -56,14 +48,11 @@ module _ (names : List (List ℕ)) (up : IsStrictlyAscending bytes_cmp names) wh
   same_order a b x y is_x is_y = place_order a.place b.place x.place y.place (spot_named names a x is_x).0 (spot_named names b y is_y).0
 
   pub same_cmp : (a b : Posting) (x y : Spot) → posting_spot names a ≡ Some x → posting_spot names b ≡ Some y → spot_cmp x y ≡ posting_cmp a b
-  same_cmp a b x y is_x is_y =
-      let rows : nat_cmp x.at y.at ≡ nat_cmp a.at b.at = λ i. nat_cmp ((spot_named names a x is_x).1 i) ((spot_named names b y is_y).1 i) in
-      λ i. ordering_then (same_order a b x y is_x is_y i) (rows i)
+  same_cmp = search (rules, spot_named, same_order)
 
   -- if postings ascend, so do the spots made from them, which have the TIPLOC in place of its index
   pub spots_ascend : (postings : List Posting) → IsStrictlyAscending posting_cmp postings → IsStrictlyAscending spot_cmp (spots_in names postings)
-  spots_ascend postings rise = chosen_ascends (posting_spot names) posting_cmp spot_cmp
-      (λ a b c d below is_c is_d. same_cmp a b c d is_c is_d ∙ below) postings rise
+  spots_ascend postings rise = chosen_ascends (posting_spot names) _ spot_cmp (λ a b c d below is_c is_d. same_cmp a b c d is_c is_d ∙ below) postings rise
 
   -- in an ascending list, a place has only one index
   one_rank : (i j : ℕ) (place : List ℕ) → slice_get names i ≡ Some place → slice_get names j ≡ Some place → i ≡ j
@@ -79,15 +68,14 @@ module _ (names : List (List ℕ)) (up : IsStrictlyAscending bytes_cmp names) wh
     whole = ap (spots_in names) is.whole ∙ filter_map-append (posting_spot names) (is.before ++ piece) is.behind
         ∙ ap (λ (front : List Spot). front ++ spots_in names is.behind) (filter_map-append (posting_spot names) is.before piece);
     none_before = λ spot among same.
-        let found = chosen_from (posting_spot names) is.before spot among in
-        is.none_before found.0 found.1 (one_rank found.0.place rank place ((spot_named names found.0 spot found.2).0 ∙ ap Some same) at);
+        let found = chosen_from _ is.before _ among in
+        is.none_before found.0 found.1 (one_rank found.0.place _ place ((spot_named _ found.0 _ found.2).0 ∙ ap Some same) at);
     here = λ spot among.
-        let found = chosen_from (posting_spot names) piece spot among in
-        some_is spot.place place
-        (sym (spot_named names found.0 spot found.2).0 ∙ ap (slice_get names) (is.here found.0 found.1) ∙ at);
+        let found = chosen_from (posting_spot names) _ spot among in
+        some_is _ place (sym (spot_named _ found.0 _ found.2).0 ∙ ap (slice_get names) (is.here found.0 found.1) ∙ at);
     none_behind = λ spot among same.
-        let found = chosen_from (posting_spot names) is.behind spot among in
-        is.none_behind found.0 found.1 (one_rank found.0.place rank place ((spot_named names found.0 spot found.2).0 ∙ ap Some same) at);
+        let found = chosen_from (posting_spot names) _ spot among in
+        is.none_behind found.0 found.1 (one_rank _ rank _ ((spot_named names _ spot found.2).0 ∙ ap Some same) at);
   }
 
 -- if a place isn't in the list of names, no spot made from the postings (a TIPLOC and a row's index) is of this place
@@ -137,10 +125,10 @@ pub postings_made : (places : Places) (rows : List Keyed) (names : List (List �
 postings_made places rows names made postings named are up same = record {
   up = up;
   are = record {
-    ascending = spots_ascend names named postings up;
+    ascending = spots_ascend _ named postings up;
     members = λ spot. (
-      λ among. subst (λ zs. Contains zs spot) are (same_spots names postings made (λ m. (same m).0) spot among),
-      λ among. same_spots names made postings (λ m. (same m).1) spot (subst (λ zs. Contains zs spot) (sym are) among),
+      λ among. subst (λ zs. Contains zs spot) are (same_spots _ _ _ (λ m. (same m).0) _ among),
+      λ among. same_spots _ _ _ (λ m. (same m).1) _ (subst (λ zs. Contains zs spot) (sym are) among),
     );
   };
 }
@@ -149,10 +137,9 @@ postings_made places rows names made postings named are up same = record {
 pub names_listed : (places : Places) (rows : List Keyed) (names : List (List ℕ)) (postings : List Posting) → ArePostingsOf places rows names postings
     → Includes (places_in places (items_of rows)) names
 names_listed places rows names postings is place among =
-    let item = named_by places (items_of rows) place among in
+    let item = named_by places _ place among in
     let row = Contains-map {B = Item} (λ (r : Keyed). (r.0, r.1.op)) rows item.0 item.1 in
-    let at = member_at rows row.0 row.1 in
+    let at = member_at _ row.0 row.1 in
     let here : Contains (places row.0.0 row.0.1.op) place = subst (λ (i : Item). Contains (places i.0 i.1) place) (sym row.2) item.2 in
-    let found = chosen_from (posting_spot names) postings (spot_at at.0 place)
-    ((is.are.members (spot_at at.0 place)).1 (stand_spots places rows (spot_at at.0 place) (row.0, at.1, here))) in
-    at_member names found.0.place place (spot_named names found.0 (spot_at at.0 place) found.2).0
+    let found = chosen_from _ postings _ ((is.are.members (spot_at at.0 place)).1 (stand_spots places _ (spot_at at.0 place) (row.0, at.1, here))) in
+    at_member _ found.0.place _ (spot_named names _ (spot_at at.0 place) found.2).0

@@ -1,13 +1,14 @@
 -- The memory that is enough for the index of some items is also enough for the index of rows that come from these items, one row for each key.
 use Rattle.std.proofs.Common.{◌≡◌, ℕ, ◌+◌, ◌≤◌, List, [], ◌∷◌, ◌++◌, length, refl, ap, sym, ◌∙◌, subst, inl, inr, ◌⊎◌, Contains, None, arith}
+use Rattle.std.proofs.Common.{rules}
 use Rattle.std.specs.declared.cmp.Ordering.TheVariants.{Less, Equal}
 use Rattle.std.specs.Ordering.{on}
 use Rattle.std.specs.Cmp.{tied_itself}
 use Rattle.std.specs.Global.{Vec}
 use Rattle.std.proofs.lemmas.List.{length-append, append_assoc}
 use Rattle.std.proofs.lemmas.List.Elements.{Contains-append_left, Contains-append_right, Contains-append_cases}
-use Rattle.docker_model.specs.file.Change.{Key, tiploc_key, association_key, schedule_key, tiploc_body, association_body, schedule_body}
-use Rattle.docker_model.specs.state.Op.{Op, deleted, lapsed, put_with, body_of, key_cmp}
+use Rattle.docker_model.specs.file.Change.{Key}
+use Rattle.docker_model.specs.state.Op.{Op, body_of, key_cmp}
 use Rattle.docker_model.specs.state.Order.{IsBelow}
 use Rattle.docker_model.specs.state.State.{AreAscending}
 use Rattle.cif_laws.proofs.lists.Membership.{Contains-cons, cons-Contains, cons-Contains-first, nil-Contains, below_by_recursion, Contains-map}
@@ -26,9 +27,7 @@ module _ (places : Places) where
   -- the places of two lists of items, one after the other
   pub places_append : (first second : List Item) → places_in places (first ++ second) ≡ places_in places first ++ places_in places second
   places_append [] second = refl
-  places_append (item ∷ first) second =
-      ap (λ rest. places item.0 item.1 ++ rest) (places_append first second)
-      ∙ sym (append_assoc (places item.0 item.1) (places_in places first) (places_in places second))
+  places_append (item ∷ first) second = grind (arith, append_assoc, (places_append first second))
 
   -- a place that items name is a place of some item
   pub named_by : (items : List Item) (place : List ℕ) → Contains (places_in places items) place
@@ -45,13 +44,12 @@ module _ (places : Places) where
   -- items name each place of each item
   pub names_it : (items : List Item) (item : Item) (place : List ℕ) → Contains items item → Contains (places item.0 item.1) place
       → Contains (places_in places items) place
-  names_it [] item place among here = absurd (nil-Contains item among)
-  names_it (first ∷ items) item place among here = by (λ inside. names_it items item place inside here) (Contains-cons first items item among)
+  names_it [] item place among here = absurd (nil-Contains _ among)
+  names_it (first ∷ items) item place among here = by (λ inside. names_it items _ place inside here) (Contains-cons _ items _ among)
     where
       by : (Contains items item → Contains (places_in places items) place) → (first ≡ item) ⊎ Contains items item
           → Contains (places_in places (first ∷ items)) place
-      by rest (inl same) =
-          Contains-append_left (places first.0 first.1) (places_in places items) place
+      by rest (inl same) = Contains-append_left (places first.0 first.1) (places_in places items) place
           (subst (λ (i : Item). Contains (places i.0 i.1) place) (sym same) here)
       by rest (inr inside) = Contains-append_right (places first.0 first.1) (places_in places items) place (rest inside)
 
@@ -137,13 +135,7 @@ fewer count (row ∷ rows) up items covered =
 
 -- the association in a row has at most one place
 few_links : (key : Key) (op : Op) → length (link_places key op) ≤ 1
-few_links (association_key key) (put_with (association_body line)) = omega arith
-few_links (association_key key) (put_with (tiploc_body bytes)) = omega arith
-few_links (association_key key) (put_with (schedule_body lines)) = omega arith
-few_links (association_key key) deleted = omega arith
-few_links (association_key key) lapsed = omega arith
-few_links (tiploc_key code) op = omega arith
-few_links (schedule_key key) op = omega arith
+few_links = search rules
 
 -- there are at most as many places of associations as items
 pub links_few : (items : List Item) → length (places_in link_places items) ≤ length items
@@ -170,13 +162,11 @@ few_rows items rows up come =
 module _ (places : Places) (none : (key : Key) (op : Op) → body_of op ≡ None → places key op ≡ []) (items : List Item) (rows : List Keyed)
     (up : AreAscending rows) (come : ComeFrom items rows) where
   few_places : (row : Keyed) (op : Op) → (row.1.op ≡ op) ⊎ (body_of row.1.op ≡ None) → length (places row.0 row.1.op) ≤ length (places row.0 op)
-  few_places row op (inl same) = let len : length (places row.0 row.1.op) ≡ length (places row.0 op) = ap (λ o. length (places row.0 o)) same in omega arith
-  few_places row op (inr put) = let len : length (places row.0 row.1.op) ≡ 0 = ap length (none row.0 row.1.op put) in omega arith
+  few_places = search rules
 
   its_place : (row : Keyed) (op : Op) (place : List ℕ) → (row.1.op ≡ op) ⊎ (body_of row.1.op ≡ None) → Contains (places row.0 row.1.op) place
       → Contains (places row.0 op) place
-  its_place row op place (inl same) among = subst (λ o. Contains (places row.0 o) place) same among
-  its_place row op place (inr put) among = absurd (nil-Contains place (subst (λ zs. Contains zs place) (none row.0 row.1.op put) among))
+  its_place = search (rules, nil-Contains)
 
   room_at : (names : List (List ℕ)) (postings : Vec Posting) → HasRoomAt places items names postings → HasRoomAt places (items_of rows) names postings
   room_at names postings room = record {

@@ -1,5 +1,5 @@
 -- Lemmas on what a binary search in an ascending list finds.
-use Rattle.std.proofs.Common.{◌≡◌, ℕ, zero, suc, ◌<◌, ◌≤◌, List, [], ◌∷◌, map, refl, Bool, true, false}
+use Rattle.std.proofs.Common.{◌≡◌, ℕ, zero, suc, ◌<◌, ◌≤◌, List, [], ◌∷◌, map, refl, Bool, true, false, rules}
 use Rattle.std.proofs.Common.{length, get_or, ap, sym, ◌∙◌, subst, inl, inr, ◌⊎◌, Contains, Ok, Err, arith}
 use Rattle.std.proofs.lemmas.Bool.{cases_lt}
 use Rattle.std.specs.Prelude.{Result, ◌↔◌, IsTrue, is_ok}
@@ -7,7 +7,7 @@ use Rattle.std.specs.List.{AllPairs}
 use Rattle.std.specs.List.Sorted.{IsNonDecreasingBy, IsPartitionPoint, IsSearchInRange, IsBinarySearchResult}
 use Rattle.std.specs.declared.cmp.Ordering.{Ordering}
 use Rattle.std.specs.declared.cmp.Ordering.TheVariants.{Less, Equal, Greater}
-use Rattle.std.specs.Ordering.{ordering_index, ordering_reverse}
+use Rattle.std.specs.Ordering.{ordering_index}
 use Rattle.std.specs.Cmp.{IsTotalOrder, tied_itself}
 use Rattle.docker_model.specs.state.Order.{IsBelow, IsStrictlyAscending}
 use Rattle.cif_laws.proofs.lists.Membership.{cons-Contains, cons-Contains-first, Contains-map, map-Contains}
@@ -28,31 +28,13 @@ module _ {A B : Type 0} (f : A → B) {cmp : B → B → Ordering} (total : IsTo
   to x = cmp (f x) z
 
   rises : (x y : A) → cmp (f x) (f y) ≡ Less → ordering_index (to x) ≤ ordering_index (to y)
-  rises x y below = by (to x) refl (to y) refl
-    where
-      by : (o : Ordering) → to x ≡ o → (p : Ordering) → to y ≡ p → ordering_index o ≤ ordering_index p
-      by Less at_x p at_y = omega arith
-      by Equal at_x Less at_y =
-          absurd (let same = total.congr (f x) z (f y) at_x in let back = total.antisymm (f y) z in let r = ap ordering_reverse (sym same ∙ below) in cc)
-      by Equal at_x Equal at_y = omega arith
-      by Equal at_x Greater at_y = omega arith
-      by Greater at_x Less at_y = absurd (let far = total.trans (f x) (f y) z below at_y in cc)
-      by Greater at_x Equal at_y =
-          absurd (let far = total.antisymm (f x) z in let same = total.congr (f y) z (f x) at_y in let turned = total.antisymm (f y) (f x) in
-          let r = ap ordering_reverse below in cc)
-      by Greater at_x Greater at_y = omega arith
+  rises = search rules
 
   below_at : AllPairs (IsBelow (λ a b. cmp (f a) (f b))) xs
   below_at = pairs_from_later (IsBelow (λ a b. cmp (f a) (f b))) xs (later_of (λ a b. cmp (f a) (f b)) xs (meant_ascending f cmp xs up))
 
   rising : IsNonDecreasingBy (λ x. ordering_index (to x)) xs
-  rising = λ i j d before within. by i j d before within (cases_lt i j)
-    where
-      by : (i j : ℕ) (d : A) → i ≤ j → j < length xs → (i < j) ⊎ (j ≤ i) → ordering_index (to (get_or xs i d)) ≤ ordering_index (to (get_or xs j d))
-      by i j d before within (inl strictly) = rises (get_or xs i d) (get_or xs j d) (below_at i j d strictly within)
-      by i j d before within (inr after) =
-          let same : i ≡ j = omega arith in
-          subst (λ k. ordering_index (to (get_or xs i d)) ≤ ordering_index (to (get_or xs k d))) same (omega arith)
+  rising = search (rules, cases_lt, rises, below_at)
 
   -- If all elements before an index are below a value, and all others are above it, the list doesn't have the value.
   absent : (at : ℕ) → IsPartitionPoint (λ x. to x ≡ Less) (λ x. to x ≡ Greater) xs at → ¬ Contains (map f xs) z
@@ -70,10 +52,10 @@ module _ {A B : Type 0} (f : A → B) {cmp : B → B → Ordering} (total : IsTo
       → IsTrue b ↔ Contains (map f xs) z
   search_tells (Ok at) within is b same = (
     λ _.
-        let m = member_at xs at within in
+        let m = member_at _ _ within in
         let tied : to m.0 ≡ Equal = ap to (sym m.2) ∙ is m.0 in
-        subst (Contains (map f xs)) (exact (f m.0) z tied) (map-Contains f xs m.0 m.1),
+        subst (Contains (map f xs)) (exact (f m.0) z tied) (map-Contains _ _ _ m.1),
     λ _. same,
   )
   search_tells (Err at) within is b same =
-      (λ true_is. absurd (let bad : false ≡ true = sym same ∙ true_is in cc), λ among. absurd (absent at (is rising) among))
+      (λ true_is. absurd (let bad : false ≡ true = sym same ∙ true_is in cc), λ among. absurd (absent _ (is rising) among))

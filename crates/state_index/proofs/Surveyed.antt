@@ -1,10 +1,11 @@
 -- Lemmas on surveys: the places that rows or changes name are listed one after another, and the rows and their calls are counted.
-use Rattle.std.proofs.Common.{◌≡◌, ℕ, ◌+◌, ◌≤◌, ◌<◌, ◌^◌, List, [], ◌∷◌, ◌++◌, map, length, ap, sym, subst, inl, inr, ◌⊎◌, Contains, None}
-use Rattle.std.proofs.Common.{Bool, true, false, cond, append-nil, vec_capacity, arith}
+use Rattle.std.proofs.Common.{◌≡◌, ℕ, ◌+◌, ◌≤◌, ◌<◌, ◌^◌, List, [], ◌∷◌, ◌++◌, map, length, ap, sym, subst, inl, inr, ◌⊎◌, Contains, None, rules}
+use Rattle.std.proofs.lemmas.Grind.{common_steps}
+use Rattle.std.proofs.Common.{append-nil, vec_capacity, arith}
 use Rattle.std.proofs.lemmas.List.{length-append, length-map}
 use Rattle.std.proofs.lemmas.List.Elements.{Contains-append_cases, Contains-append_left, Contains-append_right}
-use Rattle.docker_model.specs.records.Record.{kind_of, columns, is_location}
-use Rattle.docker_model.specs.file.Change.{Key, AssociationKey, ScheduleKey, tiploc_key, association_key, schedule_key, Body, association_body, schedule_body}
+use Rattle.docker_model.specs.records.Record.{columns}
+use Rattle.docker_model.specs.file.Change.{Key, AssociationKey, ScheduleKey, association_key, schedule_key, Body, association_body, schedule_body}
 use Rattle.docker_model.specs.state.Op.{Op, put_with, body_of}
 use Rattle.cif_laws.proofs.lists.Membership.{nil-Contains, Contains-cons, single-Contains}
 use Rattle.state_index.specs.NamedPlaces.{call_places, link_places, location_lines}
@@ -22,13 +23,7 @@ still_listed some names new same listed place among = subst (λ zs. Contains zs 
 
 -- a survey of no items changes nothing
 pub grown_none : (survey : Survey) → HasGrownBy [] survey survey
-grown_none survey = record {
-  kept = λ place among. among;
-  calls = λ place among. absurd (nil-Contains place among);
-  links = λ place among. absurd (nil-Contains place among);
-  most_calls = omega arith;
-  rows = omega arith;
-}
+grown_none = search (rules, nil-Contains)
 
 -- surveying some items and then others is surveying all of them
 pub grown_then : (first second : List Item) (old between new : Survey) → HasGrownBy first old between → HasGrownBy second between new
@@ -64,32 +59,18 @@ grown_then first second old between new one two = record {
 
 -- the places of a single item
 alone : (places : Places) (item : Item) (names : List (List ℕ)) → Includes (places item.0 item.1) names → Includes (places_in places (item ∷ [])) names
-alone places item names all place among = by (Contains-append_cases (places item.0 item.1) [] place among)
-  where
-    by : Contains (places item.0 item.1) place ⊎ Contains [] place → Contains names place
-    by (inl here) = all place here
-    by (inr nowhere) = absurd (nil-Contains place nowhere)
+alone = search (rules, nil-Contains)
 
 -- the survey of a single item
 pub grown_one : (item : Item) (old new : Survey) → Includes old.names.items new.names.items → Includes (call_places item.0 item.1) new.names.items
     → Includes (link_places item.0 item.1) new.names.items → old.calls + length (call_places item.0 item.1) ≤ new.calls → old.rows + 1 ≤ new.rows
     → HasGrownBy (item ∷ []) old new
-grown_one item old new kept calls links most rows = record {
-  kept = kept;
-  calls = alone call_places item new.names.items calls;
-  links = alone link_places item new.names.items links;
-  most_calls = (let len = length-append (call_places item.0 item.1) [] in omega arith);
-  rows = omega arith;
-}
+grown_one = search (rules, alone, length-append)
 
 -- an item that names no place is surveyed by counting it
 pub grown_nowhere : (item : Item) (old new : Survey) → call_places item.0 item.1 ≡ [] → link_places item.0 item.1 ≡ []
     → new.names.items ≡ old.names.items → old.calls ≤ new.calls → old.rows + 1 ≤ new.rows → HasGrownBy (item ∷ []) old new
-grown_nowhere item old new calls links same most rows =
-    grown_one item old new (still_listed old.names.items old.names.items new.names.items same (λ place among. among))
-    (λ place among. absurd (nil-Contains place (subst (λ zs. Contains zs place) calls among)))
-    (λ place among. absurd (nil-Contains place (subst (λ zs. Contains zs place) links among)))
-    (let none = ap length calls in omega arith) rows
+grown_nowhere = search (rules, grown_one, still_listed, nil-Contains)
 
 pub grown_without : (key : Key) (op : Op) (old new : Survey) → body_of op ≡ None → new.names.items ≡ old.names.items → old.calls ≤ new.calls
     → old.rows + 1 ≤ new.rows → HasGrownBy ((key, op) ∷ []) old new
@@ -98,42 +79,23 @@ grown_without key op old new none = grown_nowhere (key, op) old new (no_calls ke
 -- there are at most as many location records as lines
 pub few_locations : (lines : List (List ℕ)) → length (location_lines lines) ≤ length lines
 few_locations [] = omega arith
-few_locations (line ∷ lines) = by (is_location (kind_of line)) (few_locations lines)
-  where
-    by : (b : Bool) → length (location_lines lines) ≤ length lines
-        → length (cond b (line ∷ location_lines lines) (location_lines lines)) ≤ length (line ∷ lines)
-    by true rest = omega arith
-    by false rest = omega arith
+few_locations (line ∷ lines) = grind (common_steps, arith, (few_locations lines))
 
 -- a schedule is surveyed by listing the places of its location records
 pub grown_schedule : (key : Key) (body : Body) (schedule : ScheduleKey) (lines : List (List ℕ)) → key ≡ schedule_key schedule → body ≡ schedule_body lines
     → (old new : Survey) → Includes old.names.items new.names.items → Includes (map (columns 3 9) (location_lines lines)) new.names.items
     → old.calls + length lines ≤ new.calls → old.rows + 1 ≤ new.rows → HasGrownBy ((key, put_with body) ∷ []) old new
-grown_schedule key body schedule lines key_is body_is old new kept listed most rows =
-    subst (λ (item : Item). HasGrownBy (item ∷ []) old new) (sym (λ i. (key_is i, put_with (body_is i))))
-    (grown_one (schedule_key schedule, put_with (schedule_body lines)) old new kept listed (λ place among. absurd (nil-Contains place among))
-    (let few = few_locations lines in let len = length-map (location_lines lines) (columns 3 9) in omega arith) rows)
+grown_schedule = search (rules, grown_one, nil-Contains, few_locations, length-map)
 
 -- an association is surveyed by listing its location
 pub grown_association : (key : Key) (body : Body) (association : AssociationKey) (line : List ℕ) → key ≡ association_key association
     → body ≡ association_body line → (old new : Survey) → Includes old.names.items new.names.items → Includes (association.location ∷ []) new.names.items
     → old.calls ≤ new.calls → old.rows + 1 ≤ new.rows → HasGrownBy ((key, put_with body) ∷ []) old new
-grown_association key body association line key_is body_is old new kept listed most rows =
-    subst (λ (item : Item). HasGrownBy (item ∷ []) old new) (sym (λ i. (key_is i, put_with (body_is i))))
-    (grown_one (association_key association, put_with (association_body line)) old new kept (λ place among. absurd (nil-Contains place among)) listed
-    (omega arith) rows)
+grown_association = search (rules, grown_one, nil-Contains)
 
 -- a row has at most as many calls as its schedule has lines
 pub few_calls : (op : Op) (lines : List (List ℕ)) → op ≡ put_with (schedule_body lines) → (key : Key) → length (call_places key op) ≤ length lines
-few_calls op lines op_is key =
-    let same : length (call_places key op) ≡ length (call_places key (put_with (schedule_body lines))) = ap (λ o. length (call_places key o)) op_is in
-    let few = by key in
-    omega arith
-  where
-    by : (k : Key) → length (call_places k (put_with (schedule_body lines))) ≤ length lines
-    by (schedule_key schedule) = let few = few_locations lines in let len = length-map (location_lines lines) (columns 3 9) in omega arith
-    by (tiploc_key code) = omega arith
-    by (association_key association) = omega arith
+few_calls = search (rules, few_locations, length-map)
 
 -- ---- the places of lines, listed one after another
 
@@ -160,20 +122,16 @@ listed_all all names rest none told place among =
 -- if the places of an item and of other items are listed, the places of the other items are listed
 pub known_rest : (places : Places) (item : Item) (items : List Item) (names new : List (List ℕ)) → new ≡ names
     → Includes (places_in places (item ∷ items)) names → Includes (places_in places items) new
-known_rest places item items names new same known place among =
-    still_listed (places_in places (item ∷ items)) names new same known place
+known_rest places item items names new same known place among = still_listed _ _ _ same known place
     (Contains-append_right (places item.0 item.1) (places_in places items) place among)
 
 -- an item whose places are listed is surveyed by counting it and its calls
 pub grown_known : (item : Item) (items : List Item) (old new : Survey) → Includes (places_in call_places (item ∷ items)) old.names.items
     → Includes (places_in link_places (item ∷ items)) old.names.items → new.names.items ≡ old.names.items → (most : ℕ)
     → length (call_places item.0 item.1) ≤ most → new.calls ≡ old.calls + most → new.rows ≡ old.rows + 1 → HasGrownBy (item ∷ []) old new
-grown_known item items old new calls links same most few counted row =
-    grown_one item old new (still_listed old.names.items old.names.items new.names.items same (λ place among. among))
-    (still_listed (call_places item.0 item.1) old.names.items new.names.items same
-    (λ place among. calls place (Contains-append_left (call_places item.0 item.1) (places_in call_places items) place among)))
-    (still_listed (link_places item.0 item.1) old.names.items new.names.items same
-    (λ place among. links place (Contains-append_left (link_places item.0 item.1) (places_in link_places items) place among)))
+grown_known item items old new calls links same most few counted row = grown_one _ _ _ (still_listed _ _ _ same (λ place among. among))
+    (still_listed _ _ _ same (λ place among. calls place (Contains-append_left (call_places item.0 item.1) (places_in call_places items) place among)))
+    (still_listed _ _ _ same (λ place among. links place (Contains-append_left (link_places item.0 item.1) (places_in link_places items) place among)))
     (omega arith) (omega arith)
 
 -- ---- the memory for the index of the surveyed rows
@@ -183,13 +141,4 @@ pub room_of_survey : (items : List Item) (old survey : Survey) → HasGrownBy it
     → IsStrictlyAscending bytes_cmp index.places.items
     → Includes survey.names.items index.places.items → length index.places.items < 2 ^ 32 → survey.rows < 2 ^ 32
     → survey.calls ≤ vec_capacity index.calls → survey.rows ≤ vec_capacity index.links → HasRoomFor items index
-room_of_survey items old survey grown index named all few_places few_rows calls links = record {
-  named = named;
-  few_places = few_places;
-  few_rows = (let rows = grown.rows in omega arith);
-  calls = record { all = λ place among. all place (grown.calls place among); room = (let most = grown.most_calls in omega arith) };
-  links = record {
-    all = λ place among. all place (grown.links place among);
-    room = (let few = links_few items in let rows = grown.rows in omega arith);
-  };
-}
+room_of_survey = search (rules, links_few)

@@ -27,8 +27,6 @@ loop-line-preserved-then-is_location c =
     }
 
 pub returns : goal.returns
-returns c =
-    c.loop-line.invariant.posted c.loop-line.postings
+returns c = c.loop-line.invariant.posted c.loop-line.postings
     (subst (λ (rest : List (List ℕ)). ArePosted c.args.places.now (map (spot_at c.args.at) (map (columns 3 9) (location_lines rest)))
-    c.loop-line.postings c.loop-line.postings)
-    (sym (none_left c.loop-line.rest.now c.in_default.ensures.cases)) (posted_none c.args.places.now c.loop-line.postings))
+    c.loop-line.postings c.loop-line.postings) (sym (none_left _ c.in_default.ensures.cases)) (posted_none _ _))

@@ -17,28 +17,19 @@ loop-row-preserved c =
     let next : c.loop-row.at + 1 ≡ 1 + c.loop-row.at = omega arith in
     record {
       at = (let before = c.loop-row.invariant.at in omega arith);
-      can = can_back c.args.places.now (asked_places c.args.links (row_meant c.in-Some.row.now).0 (row_meant c.in-Some.row.now).1.op)
-          (places_in (asked_places c.args.links) (items_of (map row_meant c.in-Some.behind.now)))
-          (map (spot_at c.loop-row.at) (asked_places c.args.links (row_meant c.in-Some.row.now).0 (row_meant c.in-Some.row.now).1.op))
-          c.loop-row.postings c.post_row.new.postings
+      can = can_back _ _ _ _ _ _
           (length-map (asked_places c.args.links (row_meant c.in-Some.row.now).0 (row_meant c.in-Some.row.now).1.op) (spot_at c.loop-row.at))
           c.post_row.ensures
           (subst (λ (rest : List (Key × Entry)). CanPost c.args.places.now (places_in (asked_places c.args.links) (items_of (map row_meant rest)))
           c.loop-row.postings) whole c.loop-row.invariant.can);
       posted = λ new behind. c.loop-row.invariant.posted new
           (subst (λ (rest : List (Key × Entry)). ArePosted c.args.places.now (spots_from (asked_places c.args.links) c.loop-row.at (map row_meant rest))
-          c.loop-row.postings new) (sym whole)
-          (posted_then c.args.places.now
-          (map (spot_at c.loop-row.at) (asked_places c.args.links (row_meant c.in-Some.row.now).0 (row_meant c.in-Some.row.now).1.op))
-          (spots_from (asked_places c.args.links) (1 + c.loop-row.at) (map row_meant c.in-Some.behind.now))
-          c.loop-row.postings c.post_row.new.postings new c.post_row.ensures
+          c.loop-row.postings new) (sym whole) (posted_then _ _ _ _ _ _ c.post_row.ensures
           (subst (λ at. ArePosted c.args.places.now (spots_from (asked_places c.args.links) at (map row_meant c.in-Some.behind.now))
           c.post_row.new.postings new) next behind)));
     }
 
 pub returns : goal.returns
-returns c =
-    c.loop-row.invariant.posted c.loop-row.postings
+returns c = c.loop-row.invariant.posted c.loop-row.postings
     (subst (λ (rest : List (Key × Entry)). ArePosted c.args.places.now (spots_from (asked_places c.args.links) c.loop-row.at (map row_meant rest))
-    c.loop-row.postings c.loop-row.postings)
-    (sym (none_left c.loop-row.rest.now c.in_default.ensures.cases)) (posted_none c.args.places.now c.loop-row.postings))
+    c.loop-row.postings c.loop-row.postings) (sym (none_left _ c.in_default.ensures.cases)) (posted_none _ _))

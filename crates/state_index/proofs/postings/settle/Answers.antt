@@ -26,9 +26,7 @@ returns-clause-ascending c =
     (once_each posting_total posting_ties c.sort_unstable_by.new.self.items (in_order c.before.before))
 
 pub returns-clause-members : goal.returns-clause-members
-returns-clause-members c =
-    same_members c.args.postings.now.items c.sort_unstable_by.new.self.items c.dedup.new.self.items
-    (all_sorted c.args.postings.now.items c.sort_unstable_by.new.self.items c.sort_unstable_by.ensures.permutation)
+returns-clause-members c = same_members _ _ _ (all_sorted _ _ c.sort_unstable_by.ensures.permutation)
     (λ posting. subst (λ (all : List Posting). Contains all posting ↔ Contains c.sort_unstable_by.new.self.items posting)
     (sym (dedup_is is_same_posting c.sort_unstable_by.new.self.items c.dedup.new.self.items c.dedup.ensures.filtered))
-    (all_there posting_equivalence same_posting c.sort_unstable_by.new.self.items posting))
+    (all_there posting_equivalence same_posting _ _))

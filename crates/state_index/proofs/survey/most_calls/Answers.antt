@@ -9,5 +9,4 @@ use Rattle.state_index.proofs.survey.most_calls.Goals as goal
 pub returns-in-Put-Schedule : goal.returns-in-Put-Schedule
 returns-in-Put-Schedule c = λ key.
     let op : op_meant c.args.op.now ≡ put_with (schedule_body c.in-Put-Schedule.lines) = search rules in
-    subst (λ count. length (call_places key (op_meant c.args.op.now)) ≤ count) (sym c.len.ensures)
-    (few_calls (op_meant c.args.op.now) c.in-Put-Schedule.lines op key)
+    subst (λ count. length (call_places key (op_meant c.args.op.now)) ≤ count) (sym c.len.ensures) (few_calls _ _ op _)

@@ -17,7 +17,5 @@ count_rows-requires-clause-links c =
     (names_listed link_places (map row_meant c.args.rows.now) c.args.self.now.places.items c.args.self.now.links.items c.requires.links)
 
 pub returns : goal.returns
-returns c =
-    c.of_survey.ensures (items_of (map row_meant c.args.rows.now) ++ items_of (map row_meant c.args.others.now)) c.in_ok-survey.survey
-    (grown_then (items_of (map row_meant c.args.rows.now)) (items_of (map row_meant c.args.others.now)) c.in_ok-survey.survey
-    c.count_rows.new.self c.survey_rows.new.self (c.in_ok-count_rows.ensures refl) (c.in_ok-survey_rows.ensures refl))
+returns c = c.of_survey.ensures (items_of (map row_meant c.args.rows.now) ++ items_of (map row_meant c.args.others.now)) c.in_ok-survey.survey
+    (grown_then _ _ _ _ _ (c.in_ok-count_rows.ensures refl) (c.in_ok-survey_rows.ensures refl))

@@ -7,14 +7,12 @@ use Rattle.state_index.proofs.PostingSpots.{postings_made}
 use Rattle.state_index.proofs.index.Index.refill.Goals as goal
 
 pub post_rows-requires-clause-can : goal.post_rows-requires-clause-can
-post_rows-requires-clause-can c =
-    can_all call_places (items_of (map row_meant c.args.rows.now)) c.args.self.now.places.items c.as_slice-places.result.now c.as_slice-places.ensures.value
-    c.requires.named c.requires.few_places c.args.self.now.calls c.clear.new.self c.requires.calls c.clear.ensures.len c.clear.ensures.capacity
+post_rows-requires-clause-can c = can_all _ _ _ _ c.as_slice-places.ensures.value
+    c.requires.named c.requires.few_places _ _ c.requires.calls c.clear.ensures.len c.clear.ensures.capacity
 
 pub post_rows-requires-2-clause-can : goal.post_rows-requires-2-clause-can
-post_rows-requires-2-clause-can c =
-    can_all link_places (items_of (map row_meant c.args.rows.now)) c.args.self.now.places.items c.as_slice-places.result.now c.as_slice-places.ensures.value
-    c.requires.named c.requires.few_places c.args.self.now.links c.clear-2.new.self c.requires.links c.clear-2.ensures.len c.clear-2.ensures.capacity
+post_rows-requires-2-clause-can c = can_all _ _ _ _ c.as_slice-places.ensures.value
+    c.requires.named c.requires.few_places _ _ c.requires.links c.clear-2.ensures.len c.clear-2.ensures.capacity
 
 pub returns-clause-index : goal.returns-clause-index
 returns-clause-index c = record {

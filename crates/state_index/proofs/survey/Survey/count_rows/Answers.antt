@@ -32,7 +32,6 @@ loop-row-preserved c =
     }
 
 pub returns : goal.returns
-returns c = λ ok.
-    c.loop-row.invariant.grown c.loop-row.self
+returns c = λ ok. c.loop-row.invariant.grown c.loop-row.self
     (subst (λ (rest : List (Key × Entry)). HasGrownBy (items_of (map row_meant rest)) c.loop-row.self c.loop-row.self)
-    (sym (none_left c.loop-row.rest.now c.in_default.ensures.cases)) (grown_none c.loop-row.self))
+    (sym (none_left _ c.in_default.ensures.cases)) (grown_none _))

@@ -19,11 +19,10 @@ loop-line-init c = record {
 pub loop-line-preserved-in_ok-list : goal.loop-line-preserved-in_ok-list
 loop-line-preserved-in_ok-list c =
     let whole : c.loop-line.rest.now ≡ c.in-Some.line.now ∷ c.in-Some.behind.now = search rules in
-    let places = location_first c.loop-line.rest.now c.in-Some.behind.now c.in-Some.line.now whole (sym c.is_location.ensures ∙ c.if-is_location.true) in
+    let places = location_first _ _ _ whole (sym c.is_location.ensures ∙ c.if-is_location.true) in
     record {
       kept = λ place among. c.list.ensures.kept place (c.loop-line.invariant.kept place among);
-      listed = listed_more (map (columns 3 9) (location_lines c.args.lines.now)) c.loop-line.self.names.items c.list.new.self.names.items
-          (columns 3 9 c.in-Some.line.now) (map (columns 3 9) (location_lines c.in-Some.behind.now)) c.list.ensures.kept
+      listed = listed_more _ _ _ _ _ c.list.ensures.kept
           (subst (λ (place : List ℕ). Includes (place ∷ []) c.list.new.self.names.items) c.tiploc_in.ensures (c.in_ok-list.ensures.listed refl))
           (subst (λ (rest : List (List ℕ)). Includes (map (columns 3 9) (location_lines c.args.lines.now)) (c.loop-line.self.names.items ++ rest)) places
           c.loop-line.invariant.listed);
@@ -44,7 +43,5 @@ loop-line-preserved c =
     }
 
 pub returns-clause-listed : goal.returns-clause-listed
-returns-clause-listed c = λ ok.
-    listed_all (map (columns 3 9) (location_lines c.args.lines.now)) c.loop-line.self.names.items (map (columns 3 9) (location_lines c.loop-line.rest.now))
-    (ap (λ (rest : List (List ℕ)). map (columns 3 9) (location_lines rest)) (none_left c.loop-line.rest.now c.in_default.ensures.cases))
-    c.loop-line.invariant.listed
+returns-clause-listed c = λ ok. listed_all _ _ _
+    (ap (λ (rest : List (List ℕ)). map (columns 3 9) (location_lines rest)) (none_left _ c.in_default.ensures.cases)) c.loop-line.invariant.listed

@@ -16,13 +16,8 @@ returns-in_ok-list_locations-in-Schedule-Schedule c = λ ok.
     let row = c.count.ensures.rows ok in
     let calls = c.list_locations.ensures.calls in
     let rows = c.list_locations.ensures.rows in
-    grown_schedule (key_meant c.args.key.now) (body_meant c.args.body.now) _ c.as_slice.result.now (ap key_meant c.in-Schedule-Schedule.is-0) body
-    c.args.self.now c.count.new.self
-    (still_listed c.args.self.now.names.items c.list_locations.new.self.names.items c.count.new.self.names.items c.count.ensures.names
-    c.list_locations.ensures.kept)
-    (still_listed (map (columns 3 9) (location_lines c.as_slice.result.now)) c.list_locations.new.self.names.items c.count.new.self.names.items
-    c.count.ensures.names (c.in_ok-list_locations-in-Schedule-Schedule.ensures.listed refl))
-    (omega arith) (omega arith)
+    grown_schedule _ _ _ _ (ap key_meant c.in-Schedule-Schedule.is-0) body _ _ (still_listed _ _ _ c.count.ensures.names c.list_locations.ensures.kept)
+    (still_listed _ _ _ c.count.ensures.names (c.in_ok-list_locations-in-Schedule-Schedule.ensures.listed refl)) (omega arith) (omega arith)
 
 pub returns-in_ok-list-in-Assoc-Assoc : goal.returns-in_ok-list-in-Assoc-Assoc
 returns-in_ok-list-in-Assoc-Assoc c = λ ok.

@@ -11,13 +11,11 @@ loop-change-preserved c =
     let whole : c.loop-change.rest.now ≡ c.in-Some.change.now ∷ c.in-Some.behind.now = search rules in
     record {
       grown = λ new behind. c.loop-change.invariant.grown new
-          (subst (λ (rest : List Change). HasGrownBy (changed_items (map change_meant rest)) c.loop-change.self new) (sym whole)
-          (grown_then (changed_items (change_meant c.in-Some.change.now ∷ [])) (changed_items (map change_meant c.in-Some.behind.now))
-          c.loop-change.self c.survey_change.new.self new (c.in_ok-survey_change.ensures refl) behind));
+          (subst (λ (rest : List Change). HasGrownBy (changed_items (map change_meant rest)) c.loop-change.self new) (sym whole) (grown_then _ _
+          _ _ _ (c.in_ok-survey_change.ensures refl) behind));
     }
 
 pub returns : goal.returns
-returns c = λ ok.
-    c.loop-change.invariant.grown c.loop-change.self
+returns c = λ ok. c.loop-change.invariant.grown c.loop-change.self
     (subst (λ (rest : List Change). HasGrownBy (changed_items (map change_meant rest)) c.loop-change.self c.loop-change.self)
-    (sym (none_left c.loop-change.rest.now c.in_default.ensures.cases)) (grown_none c.loop-change.self))
+    (sym (none_left _ c.in_default.ensures.cases)) (grown_none _))

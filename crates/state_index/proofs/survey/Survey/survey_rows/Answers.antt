@@ -12,13 +12,11 @@ loop-row-preserved c =
     let whole : c.loop-row.rest.now ≡ c.in-Some.row.now ∷ c.in-Some.behind.now = search rules in
     record {
       grown = λ new behind. c.loop-row.invariant.grown new
-          (subst (λ (rest : List (Key × Entry)). HasGrownBy (items_of (map row_meant rest)) c.loop-row.self new) (sym whole)
-          (grown_then (((row_meant c.in-Some.row.now).0, (row_meant c.in-Some.row.now).1.op) ∷ []) (items_of (map row_meant c.in-Some.behind.now))
-          c.loop-row.self c.survey_row.new.self new (c.in_ok-survey_row.ensures refl) behind));
+          (subst (λ (rest : List (Key × Entry)). HasGrownBy (items_of (map row_meant rest)) c.loop-row.self new) (sym whole) (grown_then _ _
+          _ _ _ (c.in_ok-survey_row.ensures refl) behind));
     }
 
 pub returns : goal.returns
-returns c = λ ok.
-    c.loop-row.invariant.grown c.loop-row.self
+returns c = λ ok. c.loop-row.invariant.grown c.loop-row.self
     (subst (λ (rest : List (Key × Entry)). HasGrownBy (items_of (map row_meant rest)) c.loop-row.self c.loop-row.self)
-    (sym (none_left c.loop-row.rest.now c.in_default.ensures.cases)) (grown_none c.loop-row.self))
+    (sym (none_left _ c.in_default.ensures.cases)) (grown_none _))
