@@ -1,10 +1,11 @@
 -- A walk over rows computes the chosen schedule, or the chosen association.
 use Rattle.std.proofs.Common.{◌≡◌, ℕ, true, cond, List, [], ◌∷◌, ◌++◌, refl, ap, sym, ◌∙◌, subst, inl, inr, ◌⊎◌, Some, None, Contains, append_assoc, append-nil}
+use Rattle.std.proofs.Common.{rules}
 use Rattle.std.specs.Prelude.{Option, ◌&&◌}
 use Rattle.std.proofs.lemmas.Slice.Eq.{bytes_eq-Decides}
 use Rattle.docker_model.specs.file.File.{first_record}
 use Rattle.std.specs.Ordering.{on}
-use Rattle.docker_model.specs.file.Change.{Key, tiploc_key, association_key, schedule_key, ScheduleKey, Body, tiploc_body, association_body, schedule_body}
+use Rattle.docker_model.specs.file.Change.{Key, schedule_key, ScheduleKey, Body, schedule_body}
 use Rattle.docker_model.specs.state.Table.{Table}
 use Rattle.docker_model.specs.docker.Choice.{Group, schedule_runs, schedule_choice_cmp, association_choice_cmp, Train, IsChosenOn}
 use Rattle.docker_laws.specs.Best.{with_one_more}
@@ -59,8 +60,7 @@ link_of_group live group day rows found has is =
 -- is a cancellation
 pub train_of_rows : (live : Table) (rows : List Row) (uid : List ℕ) (day : ℕ) (found : Option Train) → AreRowsOf live rows
     → IsChosenOn live uid day found → unless_cancelled found ≡ train_in rows uid day
-train_of_rows live rows uid day found are chosen =
-    ap unless_cancelled (one_answer live uid day found _ chosen (chosen_tells live rows uid (rows_have live rows are uid) day))
+train_of_rows live rows uid day found are chosen = ap unless_cancelled (one_answer _ _ _ _ _ chosen (chosen_tells _ rows uid (rows_have _ _ are _) day))
 
 -- for the rows of a table, `link_in` returns the chosen association
 pub link_of_rows : (live : Table) (rows : List Row) (group : Group) (day : ℕ) (found : Option Link) → AreRowsOf live rows
@@ -72,9 +72,8 @@ pub good_rows : (live : Table) (rows : List Row) → HasGoodBodies live → ((ke
     → AreGoodRows rows
 good_rows live [] good each = tt
 good_rows live (row ∷ rows) good each = (
-  good row.0 row.1 (each row.0 row.1 (cons-Contains-first row rows)),
-  good_rows live rows good
-      (λ key body among. each key body (cons-Contains row rows (key, body) among)),
+  good row.0 row.1 (each row.0 row.1 (cons-Contains-first _ rows)),
+  good_rows _ rows good (λ key body among. each key body (cons-Contains _ rows _ among)),
 )
 
 -- if all bodies of a table are well formed, so are the bodies of a UID's schedules
@@ -85,9 +84,8 @@ good_of_uid live uid rows good are = good_rows live rows good (λ key body among
 live_rows : (live : Table) (rows : List Row) → ((key : Key) (body : Body) → Contains rows (key, body) → live key ≡ Some body) → AreLive live rows
 live_rows live [] each = tt
 live_rows live (row ∷ rows) each = (
-  each row.0 row.1 (cons-Contains-first row rows),
-  live_rows live rows
-      (λ key body among. each key body (cons-Contains row rows (key, body) among)),
+  each row.0 row.1 (cons-Contains-first _ rows),
+  live_rows _ rows (λ key body among. each key body (cons-Contains _ rows _ among)),
 )
 
 -- each association at a place is live
@@ -120,40 +118,18 @@ good_calling live place rows good are = good_rows live rows good (calling_each l
 -- schedule
 pub next_is_one : (uid : List ℕ) (day : ℕ) (found : Option Train) (key : Key) (body : Body) (train : Train) → schedule_of key body ≡ Some train
     → with_one_more (on (λ (t : Train). t.key) schedule_choice_cmp) (is_running uid day) found train ≡ next_chosen uid day found key body
-next_is_one uid day found (schedule_key key) (schedule_body lines) train is =
-    let same : record { key = key; lines = lines } ≡ train = some_train (record { key = key; lines = lines }) train is in
-    (λ i. with_one_more (on (λ (t : Train). t.key) schedule_choice_cmp) (is_running uid day) found (sym same i))
-  where
-    some_train : (a b : Train) → Some a ≡ Some b → a ≡ b
-    some_train a b h = cc
-next_is_one uid day found (schedule_key key) (tiploc_body bytes) train is = absurd (no_train train is)
-next_is_one uid day found (schedule_key key) (association_body line) train is = absurd (no_train train is)
-next_is_one uid day found (tiploc_key code) body train is = absurd (no_train train is)
-next_is_one uid day found (association_key key) body train is = absurd (no_train train is)
+next_is_one = search (rules, no_train)
 
 -- updating the best association with the row of an association is the same as updating it with this
 -- association
 pub next_link_is_one : (group : Group) (day : ℕ) (found : Option Link) (key : Key) (body : Body) (link : Link) → association_of key body ≡ Some link
     → with_one_more (on (λ (l : Link). l.key) association_choice_cmp) (is_linked group day) found link ≡ next_link group day found key body
-next_link_is_one group day found (association_key key) (association_body line) link is =
-    let same : record { key = key; line = line } ≡ link = some_link (record { key = key; line = line }) link is in
-    (λ i. with_one_more (on (λ (l : Link). l.key) association_choice_cmp) (is_linked group day) found (sym same i))
-  where
-    some_link : (a b : Link) → Some a ≡ Some b → a ≡ b
-    some_link a b h = cc
-next_link_is_one group day found (association_key key) (tiploc_body bytes) link is = absurd (no_link link is)
-next_link_is_one group day found (association_key key) (schedule_body lines) link is = absurd (no_link link is)
-next_link_is_one group day found (tiploc_key code) body link is = absurd (no_link link is)
-next_link_is_one group day found (schedule_key key) body link is = absurd (no_link link is)
+next_link_is_one = search (rules, no_link)
 
 -- a row that isn't an association leaves the best association unchanged
 pub next_link_is_none : (group : Group) (day : ℕ) (found : Option Link) (key : Key) (body : Body) → association_of key body ≡ None
     → found ≡ next_link group day found key body
-next_link_is_none group day found (association_key key) (association_body line) none = absurd (no_link (record { key = key; line = line }) (sym none))
-next_link_is_none group day found (association_key key) (tiploc_body bytes) none = refl
-next_link_is_none group day found (association_key key) (schedule_body lines) none = refl
-next_link_is_none group day found (tiploc_key code) body none = refl
-next_link_is_none group day found (schedule_key key) body none = refl
+next_link_is_none = search (rules, no_link)
 
 -- the row of a schedule
 abbrev row_of : Train → Row
@@ -201,7 +177,4 @@ train_from_it live rows train day walk found are is_live runs has is =
 pub train_from_told : (live : Table) (rows : List Row) (train : Train) (key : ScheduleKey) (day : ℕ) (walk : List Row) (best found : Option Train)
     → key ≡ train.key → AreRowsOf live rows → IsLiveTrain live train → schedule_runs (first_record train.lines) day ≡ true → HasSchedulesOf live key.uid walk
     → best ≡ chosen_along key.uid day (Some train) walk → found ≡ unless_cancelled best → found ≡ train_in rows train.key.uid day
-train_from_told live rows train key day walk best found same are is_live runs has is told =
-    told
-    ∙ train_from_it live rows train day walk best are is_live runs (subst (λ (k : ScheduleKey). HasSchedulesOf live k.uid walk) same has)
-    (is ∙ ap (λ (k : ScheduleKey). chosen_along k.uid day (Some train) walk) same)
+train_from_told = search (rules, train_from_it)

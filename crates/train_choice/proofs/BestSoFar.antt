@@ -1,5 +1,5 @@
 -- How the best schedule or association changes when one more value is compared with it.
-use Rattle.std.proofs.Common.{◌≡◌, Bool, true, false, cond, refl, sym, ◌∙◌, Some, None}
+use Rattle.std.proofs.Common.{◌≡◌, Bool, true, false, cond, sym, ◌∙◌, Some, rules}
 use Rattle.std.specs.Prelude.{Option}
 use Rattle.std.specs.declared.cmp.Ordering.{Ordering}
 use Rattle.docker_laws.specs.Best.{better, with_one_more}
@@ -8,22 +8,16 @@ use Rattle.train_choice.specs.Ranked.{is_better}
 module _ {A : Type 0} (cmp : A → A → Ordering) (more : A) where
   -- a value that isn't better than the best value so far leaves the best value unchanged
   pub best_stays : (found : Option A) → is_better cmp more found ≡ false → found ≡ better cmp found more
-  best_stays None is = cc
-  best_stays (Some best) is = λ i. cond (sym is i) (Some more) (Some best)
+  best_stays = search rules
 
   -- a value that is better than the best value so far becomes the best value
   pub best_goes : (found : Option A) → is_better cmp more found ≡ true → Some more ≡ better cmp found more
-  best_goes None is = refl
-  best_goes (Some best) is = λ i. cond (sym is i) (Some more) (Some best)
+  best_goes = search rules
 
   -- a value that isn't better than the best value so far leaves the best value unchanged, whether
   -- or not the new value passes the test
   pub not_better : (test : A → Bool) (found : Option A) → is_better cmp more found ≡ false → found ≡ with_one_more cmp test found more
-  not_better test found is = by (test more)
-    where
-      by : (b : Bool) → found ≡ cond b (better cmp found more) found
-      by true = best_stays found is
-      by false = refl
+  not_better = search (rules, best_stays)
 
   -- a value that fails the test leaves the best value unchanged
   pub not_passing : (test : A → Bool) (found : Option A) → test more ≡ false → found ≡ with_one_more cmp test found more

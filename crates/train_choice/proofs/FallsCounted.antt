@@ -1,6 +1,6 @@
 -- `falls_among` returns how often a train passes midnight before the event with a given number. In
 -- these lemmas, `falls` is this number of midnights.
-use Rattle.std.proofs.Common.{◌≡◌, ℕ, ◌≤◌, ◌==◌, List, ap, sym, ◌∙◌, subst, refl, Some, None, Contains, eqb-true, true, false}
+use Rattle.std.proofs.Common.{◌≡◌, ℕ, ◌≤◌, ◌==◌, List, ap, sym, ◌∙◌, subst, refl, Some, None, Contains, eqb-true, true, false, rules}
 use Rattle.std.specs.Prelude.{Option, option_map, find, ◌↔◌, IsSome, IfSome}
 use Rattle.docker_model.specs.docker.Event.{Event, events_of, falls_to}
 use Rattle.cif_laws.proofs.lists.FilteredMembers.{find_some, find_none}
@@ -41,26 +41,20 @@ untold lines number none there = by (find (λ (event : Occurrence). event.number
     by : (event : Option Occurrence) → find (λ (e : Occurrence). e.number == number) (occurrences lines) ≡ event
         → option_map (λ (e : Occurrence). e.falls) event ≡ None → ⊥
     by None h is =
-        let fails = find_none (λ (e : Occurrence). e.number == number) (occurrences lines) (occurrence_of lines there.0) h
-        (map-Contains (occurrence_of lines) (events_of lines) there.0 there.1) in
-        let passes : (there.0.number == number) ≡ true = ap (λ (n : ℕ). there.0.number == n) (sym there.2) ∙ number_itself there.0.number in
+        let fails = find_none _ _ _ h (map-Contains _ _ _ there.1) in
+        let passes : (there.0.number == number) ≡ true = ap (λ (n : ℕ). there.0.number == n) (sym there.2) ∙ number_itself _ in
         let bad : true ≡ false = sym passes ∙ fails in cc
     by (Some event) h is = let bad : Some event.falls ≡ None = is in cc
 
 -- `falls_among` returns `Some` if and only if the schedule has an event with this number
 pub falls_there : (lines : List (List ℕ)) (number : ℕ) (falls : Option ℕ) → falls ≡ falls_among number (occurrences lines)
     → IsSome falls ↔ HasNumber lines number
-falls_there lines number None is = ((λ some. absurd (none_is some)), λ there. absurd (untold lines number (sym is) there))
-  where
-    none_is : false ≡ true → ⊥
-    none_is some = cc
-falls_there lines number (Some falls) is = ((λ some. (told lines number falls (sym is)).there), λ there. refl)
+falls_there = search (rules, untold, told)
 
 -- if `falls_among` returns a number, the train passes midnight that many times before the event
 pub falls_are : (lines : List (List ℕ)) (number : ℕ) (falls : Option ℕ) → falls ≡ falls_among number (occurrences lines)
     → IfSome falls (λ n. n ≡ falls_to lines number)
-falls_are lines number None is = tt
-falls_are lines number (Some falls) is = (told lines number falls (sym is)).is
+falls_are = search (rules, told)
 
 -- suppose that the train passes midnight at most twice before any event. If `falls_among` returns
 -- a number, this number is at most two

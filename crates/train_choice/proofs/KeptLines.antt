@@ -1,13 +1,12 @@
 -- Facts about a schedule whose lines fit its key, and about an association whose record fits its
 -- key.
-use Rattle.std.proofs.Common.{◌≡◌, ℕ, ◌<◌, ◌≤◌, ◌^◌, true, false, List, ◌∷◌, ◌++◌, length, ap, sym, ◌∙◌, subst, inl, inr, ◌⊎◌, All, arith}
-use Rattle.std.specs.Prelude.{IsTrue, ◌==◌, ◌&&◌, nat_le}
+use Rattle.std.proofs.Common.{◌≡◌, ℕ, ◌<◌, ◌≤◌, ◌^◌, false, List, length, ap, All, arith, rules}
+use Rattle.std.specs.Prelude.{◌==◌, ◌&&◌, nat_le}
 use Rattle.std.specs.List.{AllByRecursion}
-use Rattle.std.proofs.lemmas.List.Elements.{All-from_recursion, recursion_from_All}
-use Rattle.docker_model.specs.records.Record.{association, extra_details, HasKind, column, columns}
-use Rattle.docker_model.specs.records.Date.{date_number, end_number, runs_on_weekday, weekday_of}
+use Rattle.std.proofs.lemmas.List.Elements.{recursion_from_All}
+use Rattle.docker_model.specs.records.Record.{association, HasKind, columns}
 use Rattle.docker_model.specs.records.Field.{HasGoodFields, is_deletion}
-use Rattle.docker_model.specs.file.File.{AreExtraDetails, IsSoundJourney, first_record}
+use Rattle.docker_model.specs.file.File.{AreExtraDetails, first_record}
 use Rattle.docker_model.specs.file.Change.{AssociationKey, ScheduleKey, schedule_key}
 use Rattle.docker_model.specs.docker.Choice.{schedule_runs}
 use Rattle.docker_model.specs.docker.Event.{falls_to}
@@ -24,25 +23,11 @@ pub lines_few : (key : ScheduleKey) (lines : List (List ℕ)) → IsScheduleOf k
 lines_few key lines of = let few = of.few in omega arith
 
 details_good : (extra : List (List ℕ)) → AreExtraDetails extra → AllByRecursion HasGoodFields extra
-details_good extra (inl none) = subst (AllByRecursion HasGoodFields) (sym none) tt
-details_good extra (inr (line, is, kind)) = subst (AllByRecursion HasGoodFields) (sym is) (fields_good extra_details line kind tt, tt)
+details_good = search (rules, fields_good)
 
 -- each line of a schedule has good fields
 pub lines_good : (key : ScheduleKey) (lines : List (List ℕ)) → IsScheduleOf key lines → All HasGoodFields lines
-lines_good key lines of =
-    subst (All HasGoodFields) (sym of.schedule.whole)
-    (All-from_recursion HasGoodFields (of.schedule.basic ∷ of.schedule.extra ++ of.schedule.journey) (
-      of.schedule.fields,
-      all_append HasGoodFields of.schedule.extra of.schedule.journey (details_good of.schedule.extra of.schedule.details)
-          (journey of.schedule.sound),
-    ))
-  where
-    journey : IsTrue (is_deletion of.schedule.basic) ⊎ IsSoundJourney of.schedule.journey → AllByRecursion HasGoodFields of.schedule.journey
-    journey (inl deletion) =
-        let stays : is_deletion of.schedule.basic ≡ false = subst (λ (ls : List (List ℕ)). is_deletion (first_record ls) ≡ false) of.schedule.whole
-        (first_stays key lines of) in
-        let bad : true ≡ false = sym deletion ∙ stays in cc
-    journey (inr sound) = recursion_from_All HasGoodFields of.schedule.journey sound.fields
+lines_good = search (rules, all_append, details_good, first_stays, recursion_from_All)
 
 -- a train passes midnight at most twice before any event
 pub falls_few : (key : ScheduleKey) (lines : List (List ℕ)) (number : ℕ) → IsScheduleOf key lines → falls_to lines number ≤ 2
@@ -58,14 +43,7 @@ same_key a b h = cc
 pub runs_by_key : (key : ScheduleKey) (lines : List (List ℕ)) (day : ℕ) → IsScheduleOf key lines
     → (nat_le key.runs_from day && runs_until (columns 16 21 (first_record lines)) (columns 22 28 (first_record lines)) day)
     ≡ schedule_runs (first_record lines) day
-runs_by_key key lines day of =
-    (λ i. nat_le (sym (same_key (record {
-      uid = columns 4 9 (first_record lines);
-      runs_from = date_number (columns 10 15 (first_record lines));
-      indicator = column 80 (first_record lines);
-    }) key of.key_is) i).runs_from day && runs_until (columns 16 21 (first_record lines)) (columns 22 28 (first_record lines)) day)
-    ∙ three_tests (nat_le (date_number (columns 10 15 (first_record lines))) day) (nat_le day (end_number (columns 16 21 (first_record lines))))
-    (runs_on_weekday (columns 22 28 (first_record lines)) (weekday_of day))
+runs_by_key = search (rules, same_key, three_tests)
 
 pub ruleset kept_lines = (first_kind, first_good, first_stays, first_there, lines_few, lines_good, runs_by_key)
 

@@ -1,12 +1,10 @@
 -- The remembered train identities and associations are correct, and each look-up preserves their correctness.
-use Rattle.std.proofs.Common.{◌≡◌, ℕ, Bool, true, false, cond, List, refl, ap, sym, ◌∙◌, subst, Some}
-use Rattle.std.specs.Prelude.{Option, option_map, ◌&&◌, ◌==◌}
+use Rattle.std.proofs.Common.{◌≡◌, ℕ, Bool, true, false, cond, List, refl, sym, ◌∙◌, subst, Some, rules}
+use Rattle.std.specs.Prelude.{Option, option_map, ◌&&◌}
 use Rattle.std.specs.declared.cmp.Ordering.{Ordering}
 use Rattle.std.specs.BTreeMap.{BTreeMap, get, Updates}
-use Rattle.std.specs.Str.{bytes_eq}
 use Rattle.std.specs.declared.cmp.Ordering.TheVariants.{Equal}
-use Rattle.std.specs.Ordering.{on, ordering_then, nat_cmp, is_eq}
-use Rattle.std.specs.Cmp.{tied_then, unsigned_tied}
+use Rattle.std.specs.Ordering.{on, nat_cmp, is_eq}
 use Rattle.std.proofs.lemmas.Map.Lookups.{exact_bytes, exact_unsigned}
 use Rattle.std.proofs.lemmas.Map.Text.{is_eq-slice_cmp}
 use Rattle.cif_laws.proofs.orders.AtMost.{eq_is}
@@ -61,25 +59,12 @@ exact_group a b e =
     }
 
 regrouped : (a b c d : Bool) → (a && (b && (c && d))) ≡ (a && b && c && d)
-regrouped true true true d = refl
-regrouped true true false d = refl
-regrouped true false c d = refl
-regrouped false b c d = refl
+regrouped = search rules
 
 -- the group of an association compares as equal to another group if and only if the association
 -- belongs to that group
 at_group : (key : AssociationKey) (group : Group) → is_eq (group_cmp (group_of key) group) ≡ is_of_group group key
-at_group key group =
-    sym (tied_then (bytes_cmp key.base group.base) (ordering_then (bytes_cmp key.associated group.associated) rest))
-    ∙ (λ i. is_eq-slice_cmp key.base group.base i && sym (tied_then (bytes_cmp key.associated group.associated) rest) i)
-    ∙ (λ i. bytes_eq key.base group.base
-    && (is_eq-slice_cmp key.associated group.associated i && sym (tied_then (bytes_cmp key.location group.location) (nat_cmp key.suffix group.suffix)) i))
-    ∙ (λ i. bytes_eq key.base group.base && (bytes_eq key.associated group.associated
-    && (is_eq-slice_cmp key.location group.location i && unsigned_tied key.suffix group.suffix i)))
-    ∙ regrouped (bytes_eq key.base group.base) (bytes_eq key.associated group.associated) (bytes_eq key.location group.location) (key.suffix == group.suffix)
-  where
-    rest : Ordering
-    rest = ordering_then (bytes_cmp key.location group.location) (nat_cmp key.suffix group.suffix)
+at_group = search (rules, is_eq-slice_cmp, regrouped)
 
 own_group : (key : AssociationKey) (group : Group) → is_of_group group key ≡ true → group_of key ≡ group
 own_group key group is = exact_group (group_of key) group (eq_is (group_cmp (group_of key) group) (at_group key group ∙ is))
@@ -90,16 +75,14 @@ pub counts_told : (live : Table) (place : List ℕ) (day : ℕ) (best : GroupLin
     → AreDayLinks live place day best → key.location ≡ place → Some link ≡ get group_cmp best (group_of key)
     → answer ≡ is_eq (association_key_cmp link.key key)
     → (rows : List Row) → AreRowsOf live rows → answer ≡ counts_as (link_in rows (group_of key) day) key
-counts_told live place day best key link answer are here kept is rows each =
-    is ∙ ap (λ (found : Option Link). counts_as found key) (kept ∙ are (group_of key) here rows each)
+counts_told = search rules
 
 -- suppose that a map has the associations chosen at a place on a day. If the map has an association
 -- for a group at the place, the chosen association of the group has the same record
 pub record_told : (live : Table) (place : List ℕ) (day : ℕ) (best : GroupLinks) (group : Group) (link : Link) (line : List ℕ)
     → AreDayLinks live place day best → group.location ≡ place → Some link ≡ get group_cmp best group → line ≡ link.line
     → (rows : List Row) → AreRowsOf live rows → Some line ≡ option_map (λ (l : Link). l.line) (link_in rows group day)
-record_told live place day best group link line are here kept is rows each =
-    ap Some is ∙ ap (option_map (λ (l : Link). l.line)) (kept ∙ are group here rows each)
+record_told = search rules
 
 module _ (day : ℕ) (link : Link) where
   abbrev by_key : Link → Link → Ordering
@@ -107,11 +90,7 @@ module _ (day : ℕ) (link : Link) where
 
   -- an association that doesn't run on the day leaves every group's best association unchanged
   pub not_running : (before : GroupLinks) → association_runs link.line day ≡ false → HasOneMore day before link before
-  not_running before idle = λ group. by (get group_cmp before group) (is_of_group group link.key)
-    where
-      by : (found : Option Link) (b : Bool) → found ≡ cond (b && association_runs link.line day) (better by_key found link) found
-      by found true = λ i. cond (sym idle i) (better by_key found link) found
-      by found false = refl
+  not_running = search rules
 
   -- an association that isn't better than its group's best association leaves every group's best
   -- association unchanged
@@ -122,12 +101,10 @@ module _ (day : ℕ) (link : Link) where
       whether found true same = same
       whether found false same = refl
 
-      by : (group : Group) (b : Bool) → is_of_group group link.key ≡ b
-          → get group_cmp before group
+      by : (group : Group) (b : Bool) → is_of_group group link.key ≡ b → get group_cmp before group
           ≡ cond (b && association_runs link.line day) (better by_key (get group_cmp before group) link) (get group_cmp before group)
-      by group true own = whether (get group_cmp before group) (association_runs link.line day)
-          (best_stays by_key link (get group_cmp before group)
-          (subst (λ (g : Group). is_better by_key link (get group_cmp before g) ≡ false) (own_group link.key group own) is))
+      by group true own = whether (get group_cmp before group) (association_runs link.line day) (best_stays _ link _
+          (subst (λ (g : Group). is_better by_key link (get group_cmp before g) ≡ false) (own_group link.key _ own) is))
       by group false other = refl
 
   -- an association that runs on the day, and is better than its group's best association, replaces
@@ -135,14 +112,4 @@ module _ (day : ℕ) (link : Link) where
   pub best_of_group : (before after : GroupLinks) → association_runs link.line day ≡ true
       → is_better by_key link (get group_cmp before (group_of link.key)) ≡ true → Updates group_cmp before after (group_of link.key) (Some link)
       → HasOneMore day before link after
-  best_of_group before after runs is updates = λ group.
-      updates.0 group ∙ (λ i. cond (at_group link.key group i) (Some link) (get group_cmp before group)) ∙ by group (is_of_group group link.key) refl
-    where
-      by : (group : Group) (b : Bool) → is_of_group group link.key ≡ b
-          → cond b (Some link) (get group_cmp before group)
-          ≡ cond (b && association_runs link.line day) (better by_key (get group_cmp before group) link) (get group_cmp before group)
-      by group true own =
-          best_goes by_key link (get group_cmp before group)
-          (subst (λ (g : Group). is_better by_key link (get group_cmp before g) ≡ true) (own_group link.key group own) is)
-          ∙ (λ i. cond (sym runs i) (better by_key (get group_cmp before group) link) (get group_cmp before group))
-      by group false other = refl
+  best_of_group = search (rules, at_group, best_goes, own_group)

@@ -1,7 +1,8 @@
 -- A train passes midnight before some event if and only if some time in its schedule is below the
 -- preceding time.
-use Rattle.std.proofs.Common.{◌≡◌, ℕ, ◌+◌, ◌==◌, ◌<◌, Bool, true, false, cond, List, [], ◌∷◌, ◌++◌, refl, sym, ◌∙◌, subst, Some, None, All, arith}
-use Rattle.std.specs.Prelude.{Option, ◌||◌, not, nat_lt}
+use Rattle.std.proofs.Common.{◌≡◌, ℕ, ◌+◌, true, cond, List, [], ◌∷◌, ◌++◌, refl, sym, ◌∙◌, subst, Some, None, All, arith}
+use Rattle.std.proofs.Common.{rules}
+use Rattle.std.specs.Prelude.{Option, nat_lt}
 use Rattle.std.proofs.lemmas.Bool.{ltb-true}
 use Rattle.std.proofs.lemmas.List.Elements.{All-from_recursion, recursion_from_All}
 use Rattle.docker_model.specs.records.Field.{HasGoodFields}
@@ -19,12 +20,7 @@ last_or_midnight None = 0
 last_or_midnight (Some last) = last
 
 fall_is : (last : Option ℕ) (time : ℕ) → fall_at last time ≡ cond (nat_lt time (last_or_midnight last)) 1 0
-fall_is None time = by (nat_lt time 0) refl
-  where
-    by : (b : Bool) → nat_lt time 0 ≡ b → ◌≡◌ {A = ℕ} 0 (cond b 1 0)
-    by false h = refl
-    by true h = let low : time < 0 = ltb-true time 0 h in absurd (omega arith)
-fall_is (Some last) time = refl
+fall_is = search (rules, ltb-true)
 
 sum : (a b c : ℕ) → a ≡ 0 → b ≡ c → a + b ≡ c
 sum a b c none same = omega arith
@@ -40,27 +36,7 @@ Told p line times (Some last) =
 
 told : (p : Progress) (line : List ℕ) (times : Times) → p.falls ≡ 0 → Told p line times (ascends (last_or_midnight p.last) times)
 told p line [] zero = (zero, refl, λ rest. refl)
-told p line (time ∷ times) zero = by (nat_lt time.1 (last_or_midnight p.last)) refl (told (past_time p time) line times)
-  where
-    falls_are : (b : Bool) → nat_lt time.1 (last_or_midnight p.last) ≡ b → p.falls + fall_at p.last time.1 ≡ cond b 1 0
-    falls_are b h = sum p.falls (fall_at p.last time.1) (cond b 1 0) zero (fall_is p.last time.1 ∙ (λ i. cond (h i) 1 0))
-
-    behind : (found : Option ℕ) → p.falls + fall_at p.last time.1 ≡ 0 → Told (past_time p time) line times found → Told p line (time ∷ times) found
-    behind None none late = λ rest.
-        (λ i. not (none i == 0) || some_late (occurrences_at (past_time p time) line times ++ rest)) ∙ late rest
-    behind (Some last) none (falls, same, early) = (
-      falls,
-      same,
-      λ rest.
-          (λ i. not (none i == 0) || some_late (occurrences_at (past_time p time) line times ++ rest)) ∙ early rest,
-    )
-
-    by : (b : Bool) → nat_lt time.1 (last_or_midnight p.last) ≡ b
-        → (p.falls + fall_at p.last time.1 ≡ 0 → Told (past_time p time) line times (ascends time.1 times))
-        → Told p line (time ∷ times) (cond b None (ascends time.1 times))
-    by true h rec = λ rest.
-        (λ i. not (falls_are true h i == 0) || some_late (occurrences_at (past_time p time) line times ++ rest))
-    by false h rec = behind (ascends time.1 times) (falls_are false h) (rec (falls_are false h))
+told p line (time ∷ times) zero = grind (arith, sum, fall_is, (told (past_time p time) line times))
 
 along : (p : Progress) (lines : List (List ℕ)) → p.falls ≡ 0 → falls_along (last_or_midnight p.last) lines ≡ some_late (occurrences_from p lines)
 along p [] zero = refl
@@ -95,5 +71,4 @@ rest_good lines rest line good is = All-from_recursion HasGoodFields rest (recur
 -- passes midnight in the lines after the first
 pub goes_on : (last time : ℕ) (line : List ℕ) (rest lines : List (List ℕ)) → lines ≡ line ∷ rest → ascends last (times_of line) ≡ Some time
     → falls_along time rest ≡ falls_along last lines
-goes_on last time line rest lines is up =
-    (λ i. falls_after (sym up i) (λ next. falls_along next rest)) ∙ (λ i. falls_along last (sym is i))
+goes_on = search rules

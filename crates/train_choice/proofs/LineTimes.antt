@@ -1,9 +1,9 @@
 -- The columns in which a line has its times depend on the line's kind.
-use Rattle.std.proofs.Common.{◌≡◌, ℕ, List, ap, sym, ◌∙◌, Some, true}
+use Rattle.std.proofs.Common.{◌≡◌, ℕ, List, Some, true, rules}
 use Rattle.docker_model.specs.records.Record.{origin_location, intermediate_location, terminating_location, HasKind, columns}
 use Rattle.docker_model.specs.records.Clock.{half_minutes, is_present_time, is_scheduled_time}
 use Rattle.docker_model.specs.records.Field.{HasGoodFields}
-use Rattle.docker_model.specs.file.Journey.{arrival, departure, timed, times_by_kind, times_of}
+use Rattle.docker_model.specs.file.Journey.{arrival, departure, timed, times_of}
 use Rattle.cif_laws.proofs.records.Columns.{good_fields}
 use Rattle.cif_laws.proofs.records.ScheduledTimes.{time_there}
 
@@ -30,16 +30,12 @@ terminus_arrival line is good = (good_fields terminating_location line is good).
 -- an origin has only a departure
 pub origin_time : (line : List ℕ) → HasKind origin_location line → HasGoodFields line
     → timed departure (Some (half_minutes (columns 11 15 line))) ≡ times_of line
-origin_time line is good =
-    ap (timed departure) (sym (time_there (columns 11 15 line) (origin_departure line is good)))
-    ∙ (λ i. times_by_kind (sym is i) line)
+origin_time = search (rules, time_there, origin_departure)
 
 -- a terminus has only an arrival
 pub terminus_time : (line : List ℕ) → HasKind terminating_location line → HasGoodFields line
     → timed arrival (Some (half_minutes (columns 11 15 line))) ≡ times_of line
-terminus_time line is good =
-    ap (timed arrival) (sym (time_there (columns 11 15 line) (terminus_arrival line is good)))
-    ∙ (λ i. times_by_kind (sym is i) line)
+terminus_time = search (rules, time_there, terminus_arrival)
 
 -- all facts about the times in a line, as one set of rules
 pub ruleset line_times = (origin_departure, call_arrival, call_departure, call_pass, terminus_arrival, origin_time, terminus_time)

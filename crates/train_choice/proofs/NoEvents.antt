@@ -1,5 +1,5 @@
 -- A schedule without a journey has no events.
-use Rattle.std.proofs.Common.{◌≡◌, ℕ, true, false, List, [], ◌∷◌, ◌++◌, refl, sym, ◌∙◌, subst, inl, inr, ◌⊎◌, Contains, None, append-nil}
+use Rattle.std.proofs.Common.{◌≡◌, ℕ, true, false, List, [], ◌∷◌, ◌++◌, refl, sym, ◌∙◌, subst, inl, inr, ◌⊎◌, Contains, None, append-nil, rules}
 use Rattle.std.specs.Prelude.{find, codes}
 use Rattle.std.specs.List.{AllByRecursion}
 use Rattle.std.proofs.lemmas.List.Elements.{Contains-append_right}
@@ -22,9 +22,7 @@ no_times_met p (line ∷ lines) none =
     ∙ no_times_met (past_times (turned p line) (times_of line)) lines none.1
 
 details_timeless : (extra : List (List ℕ)) → AreExtraDetails extra → AllByRecursion (λ (line : List ℕ). times_of line ≡ []) extra
-details_timeless extra (inl none) = subst (AllByRecursion (λ (line : List ℕ). times_of line ≡ [])) (sym none) tt
-details_timeless extra (inr (line, is, kind)) =
-    subst (AllByRecursion (λ (l : List ℕ). times_of l ≡ [])) (sym is) ((λ i. times_by_kind (kind i) line), tt)
+details_timeless = search rules
 
 -- a schedule without an LO, or without an LT, has no events
 pub no_events : (key : ScheduleKey) (lines : List (List ℕ)) → IsScheduleOf key lines

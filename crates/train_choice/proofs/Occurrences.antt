@@ -1,11 +1,10 @@
 -- A walk over a schedule's lines yields exactly the schedule's events, in order.
-use Rattle.std.proofs.Common.{◌≡◌, ℕ, ◌+◌, Bool, true, false, cond, List, [], ◌∷◌, ◌++◌, map, length}
+use Rattle.std.proofs.Common.{◌≡◌, ℕ, ◌+◌, Bool, true, false, cond, List, [], ◌∷◌, ◌++◌, map, length, rules}
 use Rattle.std.proofs.Common.{refl, ap, sym, ◌∙◌, subst, arith, Some, None, append_assoc, append-nil, length-append}
-use Rattle.std.specs.Prelude.{Option, codes, option_map, find}
-use Rattle.std.specs.Str.{bytes_eq}
+use Rattle.std.specs.Prelude.{Option, codes}
 use Rattle.std.proofs.lemmas.List.{map-append, length-map}
 use Rattle.std.proofs.lemmas.Slice.Eq.{bytes_eq-Decides}
-use Rattle.docker_model.specs.records.Record.{Kind, change_en_route, kind_of, identities, columns}
+use Rattle.docker_model.specs.records.Record.{Kind, change_en_route, kind_of, columns}
 use Rattle.docker_model.specs.file.Journey.{Occasion, times_by_kind, times_of, times_along, fall_count}
 use Rattle.docker_model.specs.docker.Event.{Event, event_line, event_identity, changed_identity, has_identity}
 use Rattle.docker_model.specs.file.File.{first_record}
@@ -34,11 +33,7 @@ last_behind times time = by None times
     by o (x ∷ xs) = by (Some x) xs
 
 met_one_more : (times : List ℕ) (p : Progress) (time : Occasion × ℕ) → HasMet times p → HasMet (times ++ time.1 ∷ []) (past_time p time)
-met_one_more times p time has = record {
-  number_is = (let long = length-append times (time.1 ∷ []) in let number = has.number_is in omega arith);
-  falls_are = (λ i. has.falls_are i + fall_at (has.last_is i) time.1) ∙ sym (falls_more times time.1);
-  last_is = sym (last_behind times time.1);
-}
+met_one_more = search (rules, length-append, falls_more, last_behind)
 
 -- for one line, the events of the walk equal the schedule's events at this line. `place` is the
 -- index of the line in the schedule
@@ -73,8 +68,7 @@ module _ (whole : List (List ℕ)) (place : ℕ) (line : List ℕ) (identity : L
 times_passed : (before : List ℕ) (times : Times) (p : Progress) → HasMet before p → HasMet (before ++ clock_times times) (past_times p times)
 times_passed before [] p has = subst (λ (ts : List ℕ). HasMet ts p) (sym (append-nil before)) has
 times_passed before (time ∷ times) p has =
-    subst (λ (ts : List ℕ). HasMet ts (past_times (past_time p time) times)) (append_assoc before (time.1 ∷ []) (clock_times times))
-    (times_passed (before ++ time.1 ∷ []) times (past_time p time) (met_one_more before p time has))
+    grind (arith, append_assoc, met_one_more, (times_passed (before ++ time.1 ∷ []) times (past_time p time) (met_one_more before p time has)))
 
 identity_stays : (p : Progress) (times : Times) → (past_times p times).identity ≡ p.identity
 identity_stays p [] = refl
@@ -82,9 +76,7 @@ identity_stays p (time ∷ times) = identity_stays (past_time p time) times
 
 -- a line with the record identity CR is a change en route
 change_by_identity : (line : List ℕ) → has_identity (codes "CR") line ≡ true → kind_of line ≡ Some change_en_route
-change_by_identity line is =
-    let begins : columns 1 2 line ≡ codes "CR" = (bytes_eq-Decides (columns 1 2 line) (codes "CR")).0 is in
-    ap (λ (field : List ℕ). option_map (λ (pair : List ℕ × Kind). pair.1) (find (λ (pair : List ℕ × Kind). bytes_eq pair.0 field) identities)) begins
+change_by_identity = search (rules, bytes_eq-Decides)
 
 change_has_no_times : (line : List ℕ) → has_identity (codes "CR") line ≡ true → times_of line ≡ []
 change_has_no_times line is = ap (λ (kind : Option Kind). times_by_kind kind line) (change_by_identity line is)
@@ -94,12 +86,7 @@ change_has_no_times line is = ap (λ (kind : Option Kind). times_by_kind kind li
 -- the basic schedule
 identity_more : (basic front : List (List ℕ)) (line : List ℕ) (p : Progress) → p.identity ≡ changed_identity (last_change front) (first_record basic)
     → (turned p line).identity ≡ changed_identity (last_change (front ++ line ∷ [])) (first_record basic)
-identity_more basic front line p same =
-    by (has_identity (codes "CR") line) ∙ ap (λ (o : Option (List ℕ)). changed_identity o (first_record basic)) (sym (change_more front line))
-  where
-    by : (b : Bool) → cond b (columns 13 16 line) p.identity ≡ changed_identity (cond b (Some line) (last_change front)) (first_record basic)
-    by true = refl
-    by false = same
+identity_more = search (rules, change_more)
 
 -- if a walk has yielded the events of a prefix of a schedule's lines, it then yields the events of
 -- the remaining lines
@@ -176,5 +163,4 @@ all_met lines =
 -- first line, the walk yields the schedule's events
 pub events_met : (lines walked : List (List ℕ)) (identity : List ℕ) (events : List Occurrence) → walked ≡ lines → identity ≡ columns 33 36 (first_record lines)
     → events ≡ occurrences_from (record { number = 1; falls = 0; last = None; identity = identity }) walked → events ≡ occurrences lines
-events_met lines walked identity events same named is =
-    is ∙ (λ i. occurrences_from (record { number = 1; falls = 0; last = None; identity = named i }) (same i)) ∙ all_met lines
+events_met = search (rules, all_met)

@@ -1,6 +1,6 @@
 -- The fields that determine on which days a basic schedule or an association runs. Each of these
 -- fields is well formed if the record has good fields.
-use Rattle.std.proofs.Common.{◌≡◌, ℕ, List, true, false, Bool, cond, [], ◌∷◌, ◌++◌, subst, refl}
+use Rattle.std.proofs.Common.{◌≡◌, ℕ, List, true, false, Bool, cond, [], ◌∷◌, ◌++◌, subst, rules}
 use Rattle.std.specs.Prelude.{ℕ, ◌&&◌}
 use Rattle.std.specs.List.{AllByRecursion}
 use Rattle.docker_model.specs.records.Record.{association, HasKind, columns}
@@ -11,8 +11,7 @@ use Rattle.docker_laws.proofs.dockers.KeptSchedules.{schedule_first, schedule_la
 
 -- the conjunction of three tests is associative
 pub three_tests : (a b c : Bool) → (a && (b && c)) ≡ ((a && b) && c)
-three_tests true b c = refl
-three_tests false b c = refl
+three_tests = search rules
 
 pub ruleset schedule_fields = (schedule_first, schedule_last, schedule_days, three_tests)
 
@@ -28,8 +27,7 @@ association_later deletion =
 association_behind : (line : List ℕ) → HasKind association line → HasGoodFields line → is_deletion line ≡ false
     → AllByRecursion (IsGoodIn line) (association_later false)
 unfolding association_later
-association_behind line is good stays =
-    subst (λ b. AllByRecursion (IsGoodIn line) (association_later b)) stays (good_fields association line is good).1.1
+association_behind line is good stays = subst (λ b. AllByRecursion (IsGoodIn line) (association_later b)) stays (good_fields _ line is good).1.1
 
 -- the last date of an association is an end date: a date, or `999999` for no end
 pub association_last : (line : List ℕ) → HasKind association line → HasGoodFields line → is_deletion line ≡ false → is_end_date (columns 22 27 line) ≡ true

@@ -1,6 +1,7 @@
 -- The lines up to and including the last line at a place. The search for this line begins at the
 -- end.
-use Rattle.std.proofs.Common.{◌≡◌, ◌≤◌, ◌<◌, ◌^◌, ◌+◌, ℕ, Bool, true, false, List, [], ◌∷◌, ◌++◌, length, refl, ap, ◌∙◌, All, arith}
+use Rattle.std.proofs.Common.{◌≡◌, ◌≤◌, ◌<◌, ◌^◌, ◌+◌, ℕ, Bool, true, false, List, [], ◌∷◌, ◌++◌, length, All, arith, rules}
+use Rattle.std.proofs.lemmas.Grind.{common_steps}
 use Rattle.std.specs.List.{AllByRecursion}
 use Rattle.std.proofs.lemmas.List.Elements.{All-from_recursion, recursion_from_All}
 use Rattle.docker_model.specs.records.Field.{HasGoodFields}
@@ -12,50 +13,40 @@ use Rattle.train_choice.proofs.KeptLines.{lines_good, lines_few}
 -- if the lines up to the last line at a place include a line, they also include the line before
 -- that line
 kept : (named : Bool) (line last : List ℕ) (lines : List (List ℕ)) → before_named named line (lines ++ last ∷ []) ≡ (line ∷ lines) ++ last ∷ []
-kept named line last [] = refl
-kept named line last (next ∷ lines) = refl
+kept = grind (common_steps, arith)
 
 -- if the last line is at the place, the lines up to the last line at the place are all lines
 pub last_named : (place last : List ℕ) (lines : List (List ℕ)) → names_place place last ≡ true
     → up_to_last place (lines ++ last ∷ []) ≡ lines ++ last ∷ []
 last_named place last [] named = λ i. before_named (named i) last []
-last_named place last (line ∷ lines) named =
-    ap (before_named (names_place place line) line) (last_named place last lines named) ∙ kept (names_place place line) line last lines
+last_named place last (line ∷ lines) named = grind (arith, kept, (last_named place last lines named))
 
 -- if the last line isn't at the place, removing it leaves the lines up to the last line at the
 -- place unchanged
 pub last_elsewhere : (place last : List ℕ) (lines : List (List ℕ)) → names_place place last ≡ false
     → up_to_last place (lines ++ last ∷ []) ≡ up_to_last place lines
 last_elsewhere place last [] elsewhere = λ i. before_named (elsewhere i) last []
-last_elsewhere place last (line ∷ lines) elsewhere =
-    ap (before_named (names_place place line) line) (last_elsewhere place last lines elsewhere)
+last_elsewhere place last (line ∷ lines) elsewhere = grind (arith, (last_elsewhere place last lines elsewhere))
 
 good_before : (P : List ℕ → Type 0) (named : Bool) (line : List ℕ) (lines : List (List ℕ)) → P line → AllByRecursion P lines
     → AllByRecursion P (before_named named line lines)
-good_before P true line [] good rest = (good, tt)
-good_before P false line [] good rest = tt
-good_before P named line (next ∷ lines) good rest = (good, rest)
+good_before = search rules
 
 all_before : (P : List ℕ → Type 0) (place : List ℕ) (lines : List (List ℕ)) → AllByRecursion P lines → AllByRecursion P (up_to_last place lines)
 all_before P place [] good = tt
-all_before P place (line ∷ lines) good =
-    good_before P (names_place place line) line (up_to_last place lines) good.0 (all_before P place lines good.1)
+all_before P place (line ∷ lines) good = grind (arith, good_before, (all_before P place lines good.1))
 
 -- a property of all lines holds for the lines up to the last line at a place
 pub all_up_to : (P : List ℕ → Type 0) (place : List ℕ) (lines : List (List ℕ)) → All P lines → All P (up_to_last place lines)
-all_up_to P place lines good =
-    All-from_recursion P (up_to_last place lines) (all_before P place lines (recursion_from_All P lines good))
+all_up_to P place lines good = All-from_recursion P (up_to_last place lines) (all_before _ _ _ (recursion_from_All P lines good))
 
 few_before : (named : Bool) (line : List ℕ) (lines : List (List ℕ)) (n : ℕ) → length lines ≤ n → length (before_named named line lines) ≤ n + 1
-few_before true line [] n few = omega arith
-few_before false line [] n few = omega arith
-few_before named line (next ∷ lines) n few = omega arith
+few_before = search rules
 
 -- the number of lines up to the last line at a place is at most the number of all lines
 pub few_up_to : (place : List ℕ) (lines : List (List ℕ)) → length (up_to_last place lines) ≤ length lines
 few_up_to place [] = omega arith
-few_up_to place (line ∷ lines) =
-    let few = few_before (names_place place line) line (up_to_last place lines) (length lines) (few_up_to place lines) in omega arith
+few_up_to place (line ∷ lines) = grind (arith, few_before, (few_up_to place lines))
 
 -- the lines of a schedule up to its last line at a place have good fields
 pub lines_to_good : (place : List ℕ) (key : ScheduleKey) (lines : List (List ℕ)) → IsScheduleOf key lines
@@ -65,7 +56,4 @@ lines_to_good place key lines of = all_up_to HasGoodFields place lines (lines_go
 -- the number of a schedule's lines up to its last line at a place fits in 32 bits
 pub lines_to_few : (place : List ℕ) (key : ScheduleKey) (lines : List (List ℕ)) → IsScheduleOf key lines
     → length (up_to_last place lines) < 2 ^ 32
-lines_to_few place key lines of =
-    let few = lines_few key lines of in
-    let fewer = few_up_to place lines in
-    omega arith
+lines_to_few = search (rules, lines_few, few_up_to)

@@ -1,10 +1,10 @@
 -- Properties of a walk that are preserved when the walk moves to the next line.
-use Rattle.std.proofs.Common.{◌≡◌, ℕ, ◌+◌, ◌*◌, ◌≤◌, List, [], ◌∷◌, ◌++◌, length, ap, sym, ◌∙◌, subst, refl, All, arith}
+use Rattle.std.proofs.Common.{◌≡◌, ℕ, ◌+◌, ◌*◌, ◌≤◌, List, [], ◌∷◌, length, ap, ◌∙◌, subst, refl, All, arith, rules}
 use Rattle.std.proofs.lemmas.List.Elements.{All-from_recursion, recursion_from_All}
 use Rattle.docker_model.specs.records.Field.{HasGoodFields}
 use Rattle.docker_model.specs.file.Journey.{Occasion, times_of}
 use Rattle.train_choice.specs.Meaning.{times_meant}
-use Rattle.train_choice.specs.Occurrences.{Progress, turned, occurrences_at, occurrences_from, past_times}
+use Rattle.train_choice.specs.Occurrences.{Progress, turned, occurrences_at}
 use Rattle.train_choice.specs.EventWalk.{progress_of, events_here, progress_after_line, events_left, HasRoom, CanWalk}
 use Rattle.train_choice.specs.declared.walk.EventWalk.{EventWalk}
 
@@ -22,10 +22,7 @@ pub goes_on : (before ended after : EventWalk) (lines rest : List (List ℕ)) (l
     → events_here ended ≡ [] → progress_after_line ended ≡ progress_after_line before → after.line.now ≡ line → times_meant after.times ≡ times_of line
     → progress_of after ≡ turned (progress_of ended) line
     → events_left before lines ≡ events_left after rest
-goes_on before ended after lines rest line is none_before none behind at times progress =
-    (λ i. none_before i ++ occurrences_from (sym behind i) (is i))
-    ∙ (λ i. occurrences_from (past_times (progress_of ended) (no_times (progress_of ended) ended.line.now (times_meant ended.times) none i)) (line ∷ rest))
-    ∙ (λ i. occurrences_at (sym progress i) (sym at i) (sym times i) ++ occurrences_from (past_times (sym progress i) (sym times i)) rest)
+goes_on = search (rules, no_times)
 
 -- after the walk has moved to the next line, it can continue over the remaining lines
 pub still_can : (before ended after : EventWalk) (lines rest : List (List ℕ)) (line : List ℕ) → lines ≡ line ∷ rest → CanWalk before lines

@@ -5,7 +5,6 @@ use Rattle.train_choice.proofs.Along.{chosen_of_uid}
 use Rattle.train_choice.proofs.choice.chosen_in.Goals as goal
 
 pub returns : goal.returns
-returns c =
-    chosen_of_uid (live_in c.args.timetable.now) c.args.uid.now c.args.day c.schedules_of.result c.best_of.result
+returns c = chosen_of_uid _ _ _ _ _
     (subst (λ (t : Timetable). HasSchedulesOf (live_in t) c.args.uid.now c.schedules_of.result) c.without_hint-from.ensures c.schedules_of.ensures.has)
     c.best_of.ensures

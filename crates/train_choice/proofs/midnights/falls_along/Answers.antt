@@ -9,8 +9,7 @@ ascending_to-requires c = record {
 
 pub loop-line-preserved : goal.loop-line-preserved
 loop-line-preserved c = record {
-  same = goes_on c.loop-line.last c.in-Some-ascending_to.time c.in-Some.line.now c.in-Some.rest.now c.loop-line.behind.now c.in-Some.ensures.cases.0
-      (sym c.ascending_to.ensures ∙ c.in-Some-ascending_to.is)
+  same = goes_on _ _ _ _ _ c.in-Some.ensures.cases.0 (sym c.ascending_to.ensures ∙ c.in-Some-ascending_to.is)
       ∙ c.loop-line.invariant.same;
-  good = rest_good c.loop-line.behind.now c.in-Some.rest.now c.in-Some.line.now c.loop-line.invariant.good c.in-Some.ensures.cases.0;
+  good = rest_good _ _ _ c.loop-line.invariant.good c.in-Some.ensures.cases.0;
 }

@@ -10,8 +10,7 @@ invariant_of-self c = record {
 
 pub advance-requires : goal.advance-requires
 advance-requires c = record {
-  good = next_good c.lines.self-inside.walk c.lines.self-inside.lines.now c.in_ok-line.rest.now c.in_ok-line.line.now
-      c.in_ok-line.ensures.cases.0 c.lines.invariant.can;
+  good = next_good _ _ _ _ c.in_ok-line.ensures.cases.0 c.lines.invariant.can;
 }
 
 pub lines-preserved : goal.lines-preserved
