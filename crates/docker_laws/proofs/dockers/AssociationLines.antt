@@ -1,6 +1,7 @@
 -- Lemmas on the docker line of an association for one start day of the base train. The association
 -- lines of a docker are exactly these lines, for all associations and start days.
-use Rattle.std.proofs.Common.{◌≡◌, ℕ, List, [], ◌∷◌, refl, ap, sym, ◌∙◌, subst, inl, inr, Some, None, Bool, true, false, cond, Contains, eqb-true, arith}
+use Rattle.std.proofs.Common.{◌≡◌, ℕ, List, [], ◌∷◌, refl, ap, sym, ◌∙◌, subst, Some, None, Bool, true, false, cond, Contains, eqb-true, arith}
+use Rattle.std.proofs.Common.{rules}
 use Rattle.std.specs.Prelude.{Option, not, ◌&&◌, ◌==◌}
 use Rattle.std.specs.Ordering.{is_eq}
 use Rattle.std.specs.Cmp.{tied_itself}
@@ -15,7 +16,7 @@ use Rattle.docker_model.specs.docker.Choice.{TrainRuns, Group, group_of, IsChose
 use Rattle.docker_model.specs.docker.DockerLine.{DockerLine, docker_line_cmp, line_of_association}
 use Rattle.docker_model.specs.docker.Association.{category_occasion, is_date_indicator, partner_start, IsPartnerIdentity, IsAssociationLine}
 use Rattle.docker_laws.specs.LiveRows.{Link, IsTrainOn, TellsTrains, IsLinkOn, TellsLinks}
-use Rattle.docker_laws.specs.Gathering.{start_days, counts_as, identity_of, partner_identity, line_at, line_with, is_in_force}
+use Rattle.docker_laws.specs.Gathering.{start_days, counts_as, partner_identity, line_at, line_with, is_in_force}
 use Rattle.cif_laws.proofs.lists.Membership.{nil-Contains, Contains-single, single-Contains}
 use Rattle.cif_laws.proofs.lists.BoolsAndOptions.{both, not_true}
 use Rattle.cif_laws.proofs.orders.Orders.{association_key_total, exact_association_key}
@@ -52,12 +53,7 @@ module _ (live : Table) (trains : List ℕ → ℕ → Option Train) (links : Gr
   -- `partner_identity` computes the train identity that a docker line shows for the associated
   -- train
   partner_is : (uid : List ℕ) (start : Option ℕ) → IsPartnerIdentity live uid start (partner_identity trains uid start)
-  partner_is uid None = refl
-  partner_is uid (Some start) = by (trains uid start) (tell uid start)
-    where
-      by : (found : Option Train) → IsTrainOn live uid start found → IsPartnerIdentity live uid (Some start) (identity_of found)
-      by None none = inr (none, refl)
-      by (Some train) runs = inl (train.key, train.lines, runs, refl)
+  partner_is = search rules
 
   -- ---- an association may have a docker line if and only if it passes `is_in_force`
 
@@ -92,11 +88,7 @@ module _ (live : Table) (trains : List ℕ → ℕ → Option Train) (links : Gr
       true_false bad = cc
 
   no_letter : (key : AssociationKey) → ¬ (key.indicator ≡ 67) → not (key.indicator == 67) ≡ true
-  no_letter key other = by (key.indicator == 67) refl
-    where
-      by : (b : Bool) → (key.indicator == 67) ≡ b → not b ≡ true
-      by true h = absurd (other (eqb-true _ _ h))
-      by false h = refl
+  no_letter = search (rules, eqb-true)
 
   in_force_forth : (key : AssociationKey) (line : List ℕ) (start : ℕ) → IsInForce live start key line → is_in_force links start key line ≡ true
   in_force_forth key line start is = (λ i. counted i && no_letter key is.no_cancellation i && is.date_indicator i)
@@ -117,17 +109,16 @@ module _ (live : Table) (trains : List ℕ → ℕ → Option Train) (links : Gr
       → (base : Train) → TrainRuns live key.base start base.key base.lines → (at : Option Event) → first_event_at base.lines key.location key.suffix ≡ at
       → (docker_line : DockerLine) → Contains (line_at trains day start key line occasion base at) docker_line
       → IsOfAssociation live place day key start docker_line
-  made_at key line start here force occasion category base runs None at_is docker_line among = absurd (nil-Contains docker_line among)
+  made_at key line start here force occasion category base runs None at_is docker_line among = absurd (nil-Contains _ among)
   made_at key line start here force occasion category base runs (Some event) at_is docker_line among = by (event_day start base.lines event == day) refl among
     where
       the_line : DockerLine
-      the_line =
-          line_of_association occasion key.indicator base.key start base.lines event key.associated
+      the_line = line_of_association occasion key.indicator base.key start base.lines event key.associated
           (partner_identity trains key.associated (partner_start (column 37 line) start))
 
       by : (b : Bool) → (event_day start base.lines event == day) ≡ b → Contains (cond b (the_line ∷ []) []) docker_line
           → IsOfAssociation live place day key start docker_line
-      by false h inside = absurd (nil-Contains docker_line inside)
+      by false h inside = absurd (nil-Contains _ inside)
       by true h inside = record {
         made = record {
           start = start;
@@ -144,10 +135,10 @@ module _ (live : Table) (trains : List ℕ → ℕ → Option Train) (links : Gr
           event = event;
           first_there = at_is;
           identity = partner_identity trains key.associated (partner_start (column 37 line) start);
-          partner = partner_is key.associated (partner_start (column 37 line) start);
+          partner = partner_is _ _;
           here = here;
           today = eqb-true _ _ h;
-          is = sym (Contains-single the_line docker_line inside);
+          is = sym (Contains-single _ _ inside);
         };
         of_key = refl;
         of_start = refl;
@@ -161,20 +152,19 @@ module _ (live : Table) (trains : List ℕ → ℕ → Option Train) (links : Gr
       with_base : IsInForce live start key line → (occasion : Occasion) → category_occasion (columns 35 36 line) ≡ Some occasion → (found : Option Train)
           → IsTrainOn live key.base start found
           → Contains (line_with trains day start key line (Some occasion) found) docker_line → IsOfAssociation live place day key start docker_line
-      with_base force occasion category None none inside = absurd (nil-Contains docker_line inside)
-      with_base force occasion category (Some base) runs inside =
-          made_at key line start here force occasion category base runs (first_event_at base.lines key.location key.suffix) refl docker_line inside
+      with_base force occasion category None none inside = absurd (nil-Contains _ inside)
+      with_base force occasion category (Some base) runs inside = made_at _ _ _ here force _ category _ runs _ refl _ inside
 
       with_category : IsInForce live start key line → (category : Option Occasion) → category_occasion (columns 35 36 line) ≡ category
           → Contains (line_with trains day start key line category (trains key.base start)) docker_line → IsOfAssociation live place day key start docker_line
-      with_category force None is inside = absurd (nil-Contains docker_line inside)
+      with_category force None is inside = absurd (nil-Contains _ inside)
       with_category force (Some occasion) is inside = with_base force occasion is (trains key.base start) (tell key.base start) inside
 
       by : (b : Bool) → is_in_force links start key line ≡ b
           → Contains (cond b (line_with trains day start key line (category_occasion (columns 35 36 line)) (trains key.base start)) []) docker_line
           → IsOfAssociation live place day key start docker_line
-      by false h inside = absurd (nil-Contains docker_line inside)
-      by true h inside = with_category (in_force_back key line start is_live h) (category_occasion (columns 35 36 line)) refl inside
+      by false h inside = absurd (nil-Contains _ inside)
+      by true h inside = with_category (in_force_back _ _ _ is_live h) (category_occasion (columns 35 36 line)) refl inside
 
   -- each docker line of an association is among the lines that `link_piece` computes for this
   -- association and for the start day of the line's base train
@@ -182,12 +172,10 @@ module _ (live : Table) (trains : List ℕ → ℕ → Option Train) (links : Gr
       → Contains (link_piece trains links day made.key made.association made.start) docker_line
   link_piece_forth docker_line made =
       subst (λ b. Contains (cond b (line_with trains day made.start made.key made.association (category_occasion (columns 35 36 made.association))
-      (trains made.key.base made.start)) []) docker_line)
-      (sym (in_force_forth made.key made.association made.start
+      (trains made.key.base made.start)) []) docker_line) (sym (in_force_forth _ _ _
       (record { chosen = made.chosen; no_cancellation = made.no_cancellation; date_indicator = made.date_indicator })))
       (subst (λ category. Contains (line_with trains day made.start made.key made.association category (trains made.key.base made.start)) docker_line)
-      (sym made.category)
-      (by (trains made.key.base made.start) (tell made.key.base made.start)))
+      (sym made.category) (by (trains made.key.base made.start) (tell made.key.base made.start)))
     where
       the_identity : List ℕ
       the_identity = partner_identity trains made.key.associated (partner_start (column 37 made.association) made.start)
@@ -199,20 +187,18 @@ module _ (live : Table) (trains : List ℕ → ℕ → Option Train) (links : Gr
           → Contains (line_at trains day made.start made.key made.association made.occasion base (Some made.event)) docker_line
       at_day base keys lines =
           let today : (event_day made.start base.lines made.event == day) ≡ true =
-          (λ i. event_day made.start (lines i) made.event == day) ∙ (λ i. made.today i == day) ∙ number_itself day in
-          let identities = one_identity live made.key.associated (partner_start (column 37 made.association) made.start) made.identity the_identity made.partner
-          (partner_is made.key.associated (partner_start (column 37 made.association) made.start)) in
+          (λ i. event_day made.start (lines i) made.event == day) ∙ (λ i. made.today i == day) ∙ number_itself _ in
+          let identities = one_identity _ _ _ _ _ made.partner (partner_is _ _) in
           let line_is : docker_line ≡ the_line base made.event =
           made.is ∙ (λ i. line_of_association made.occasion made.key.indicator (sym keys i) made.start (sym lines i) made.event made.key.associated
           (identities i)) in
-          subst (λ b. Contains (cond b (the_line base made.event ∷ []) []) docker_line) (sym today) (single-Contains (the_line base made.event) docker_line
-          (sym line_is))
+          subst (λ b. Contains (cond b (the_line base made.event ∷ []) []) docker_line) (sym today) (single-Contains _ _ (sym line_is))
 
       by : (found : Option Train) → IsTrainOn live made.key.base made.start found
           → Contains (line_with trains day made.start made.key made.association (Some made.occasion) found) docker_line
       by None none = absurd (none made.base_key made.base made.base_runs)
       by (Some base) runs =
-          let same = one_train live made.key.base made.start base.key made.base_key base.lines made.base runs made.base_runs in
+          let same = one_train _ _ _ _ _ _ _ runs made.base_runs in
           let first : first_event_at base.lines made.key.location made.key.suffix ≡ Some made.event = ap
           (λ ls. first_event_at ls made.key.location made.key.suffix) same.1 ∙ made.first_there in
           subst (λ at. Contains (line_at trains day made.start made.key made.association made.occasion base at) docker_line) (sym first)

@@ -1,12 +1,14 @@
 -- The best element of a list can be computed element by element. Of the elements that pass a test,
 -- the best element is the one that comes first in an order.
-use Rattle.std.proofs.Common.{◌≡◌, List, [], ◌∷◌, ◌++◌, refl, ap, sym, ◌∙◌, subst, inl, inr, ◌⊎◌, Some, None, Bool, true, false, cond, Contains}
+use Rattle.std.proofs.Common.{◌≡◌, List, [], ◌∷◌, ◌++◌, refl, sym, ◌∙◌, subst, inl, inr, ◌⊎◌, Some, None, Bool, true, false, cond, Contains}
+use Rattle.std.proofs.lemmas.Grind.{common_steps}
+use Rattle.std.proofs.Common.{arith}
 use Rattle.std.specs.Prelude.{Option}
 use Rattle.std.specs.declared.cmp.Ordering.{Ordering}
 use Rattle.std.specs.declared.cmp.Ordering.TheVariants.{Less, Equal, Greater}
-use Rattle.std.specs.Ordering.{is_lt, ordering_reverse}
+use Rattle.std.specs.Ordering.{is_lt}
 use Rattle.std.specs.Cmp.{IsTotalOrder}
-use Rattle.std.proofs.lemmas.List.Elements.{Contains-append_left, Contains-append_right, Contains-append_cases}
+use Rattle.std.proofs.lemmas.List.Elements.{Contains-append_right, Contains-append_cases}
 use Rattle.docker_model.specs.state.Order.{IsAtMost}
 use Rattle.docker_laws.specs.Best.{IsBest, better, with_one_more}
 use Rattle.cif_laws.proofs.lists.Membership.{nil-Contains, Contains-single, single-Contains}
@@ -19,20 +21,7 @@ module _ {A : Type 0} {cmp : A → A → Ordering} (total : IsTotalOrder cmp) (t
 
   -- appending an element that fails the test leaves the best element unchanged
   fails : (xs : List A) (x : A) (found : Option A) → test x ≡ false → IsBest cmp test xs found → IsBest cmp test (xs ++ x ∷ []) found
-  fails xs x None h none = λ z among. by z (Contains-append_cases xs (x ∷ []) z among)
-    where
-      by : (z : A) → Contains xs z ⊎ Contains (x ∷ []) z → test z ≡ false
-      by z (inl here) = none z here
-      by z (inr last) = subst (λ v. test v ≡ false) (Contains-single x z last) h
-  fails xs x (Some b) h best = (
-    Contains-append_left xs (x ∷ []) b best.0,
-    best.1,
-    λ z among passes. by z passes (Contains-append_cases xs (x ∷ []) z among),
-  )
-    where
-      by : (z : A) → test z ≡ true → Contains xs z ⊎ Contains (x ∷ []) z → IsAtMost cmp b z
-      by z passes (inl here) = best.2 z here passes
-      by z passes (inr last) = absurd (let bad : true ≡ false = sym passes ∙ ap test (sym (Contains-single x z last)) ∙ h in cc)
+  fails = grind (common_steps, arith)
 
   -- if a list has no best element, an appended element that passes the test is the best element
   first_one : (xs : List A) (x : A) → test x ≡ true → IsBest cmp test xs None → IsBest cmp test (xs ++ x ∷ []) (Some x)
@@ -56,14 +45,7 @@ module _ {A : Type 0} {cmp : A → A → Ordering} (total : IsTotalOrder cmp) (t
   -- appending an element that doesn't come before the best element leaves the best element
   -- unchanged
   stays : (xs : List A) (x b : A) → ¬ (cmp x b ≡ Less) → IsBest cmp test xs (Some b) → IsBest cmp test (xs ++ x ∷ []) (Some b)
-  stays xs x b not_below best = (Contains-append_left xs (x ∷ []) b best.0, best.1, λ z among passes. by z passes (Contains-append_cases xs (x ∷ []) z among))
-    where
-      at_most : IsAtMost cmp b x
-      at_most greater = not_below (total.antisymm x b ∙ ap ordering_reverse greater)
-
-      by : (z : A) → test z ≡ true → Contains xs z ⊎ Contains (x ∷ []) z → IsAtMost cmp b z
-      by z passes (inl here) = best.2 z here passes
-      by z passes (inr last) = subst (IsAtMost cmp b) (Contains-single x z last) at_most
+  stays = grind (common_steps, arith)
 
   -- `with_one_more` computes the best element of the list after an element is appended
   pub best_more : (xs : List A) (x : A) (found : Option A) → IsBest cmp test xs found → IsBest cmp test (xs ++ x ∷ []) (with_one_more cmp test found x)

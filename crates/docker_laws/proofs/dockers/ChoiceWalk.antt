@@ -1,5 +1,5 @@
 -- The chosen schedule and the chosen association can be computed by a walk over rows.
-use Rattle.std.proofs.Common.{◌≡◌, ℕ, List, [], ◌∷◌, ◌++◌, refl, ap, sym, ◌∙◌, subst, None, append-nil}
+use Rattle.std.proofs.Common.{◌≡◌, ℕ, List, [], ◌∷◌, ◌++◌, refl, None, append-nil, rules}
 use Rattle.std.specs.Prelude.{Option}
 use Rattle.std.specs.Ordering.{on}
 use Rattle.std.specs.Cmp.{IsTotalOrder, on_total}
@@ -8,7 +8,6 @@ use Rattle.docker_model.specs.file.Change.{Key, tiploc_key, association_key, sch
 use Rattle.docker_model.specs.state.Row.{Row}
 use Rattle.docker_model.specs.docker.Choice.{schedule_choice_cmp, association_choice_cmp, Group, Train}
 use Rattle.docker_laws.specs.LiveRows.{Link, schedule_of, association_of, schedules_in, associations_in, is_running, is_linked}
-use Rattle.docker_laws.specs.Best.{IsBest}
 use Rattle.docker_laws.specs.ChoiceWalk.{IsChosenSoFar, next_chosen, IsLinkSoFar, next_link}
 use Rattle.docker_laws.proofs.dockers.BestSoFar.{best_of_none, best_more}
 use Rattle.docker_laws.proofs.dockers.OneChoice.{schedule_choice_total, association_choice_total}
@@ -29,18 +28,12 @@ module _ (uid : List ℕ) (day : ℕ) where
 
   other_row : (rows : List Row) (row : Row) (found : Option Train) → schedules_in (row ∷ []) ≡ [] → IsChosenSoFar uid day rows found
       → IsChosenSoFar uid day (rows ++ row ∷ []) found
-  other_row rows row found none best =
-      subst (λ trains. IsBest (on (λ (train : Train). train.key) schedule_choice_cmp) (is_running uid day) trains found)
-      (sym (trains_more rows row ∙ ap (λ more. schedules_in rows ++ more) none ∙ append-nil (schedules_in rows))) best
+  other_row = search (rules, trains_more, append-nil)
 
   -- `next_chosen` computes the chosen schedule after one more row is appended to the rows
   pub chosen_more : (rows : List Row) (key : Key) (body : Body) (found : Option Train) → IsChosenSoFar uid day rows found
       → IsChosenSoFar uid day (rows ++ (key, body) ∷ []) (next_chosen uid day found key body)
-  chosen_more rows (schedule_key key) (schedule_body lines) found best =
-      subst (λ trains. IsBest (on (λ (train : Train). train.key) schedule_choice_cmp) (is_running uid day) trains
-      (next_chosen uid day found (schedule_key key) (schedule_body lines)))
-      (sym (trains_more rows (schedule_key key, schedule_body lines)))
-      (best_more train_total (is_running uid day) (schedules_in rows) (record { key = key; lines = lines }) found best)
+  chosen_more rows (schedule_key key) (schedule_body lines) found best = search (rules, trains_more, best_more, train_total)
   chosen_more rows (schedule_key key) (tiploc_body bytes) found best = other_row rows (schedule_key key, tiploc_body bytes) found refl best
   chosen_more rows (schedule_key key) (association_body line) found best = other_row rows (schedule_key key, association_body line) found refl best
   chosen_more rows (tiploc_key code) body found best = other_row rows (tiploc_key code, body) found refl best
@@ -56,18 +49,12 @@ module _ (group : Group) (day : ℕ) where
 
   other_link_row : (rows : List Row) (row : Row) (found : Option Link) → associations_in (row ∷ []) ≡ [] → IsLinkSoFar group day rows found
       → IsLinkSoFar group day (rows ++ row ∷ []) found
-  other_link_row rows row found none best =
-      subst (λ links. IsBest (on (λ (link : Link). link.key) association_choice_cmp) (is_linked group day) links found)
-      (sym (links_more rows row ∙ ap (λ more. associations_in rows ++ more) none ∙ append-nil (associations_in rows))) best
+  other_link_row = search (rules, links_more, append-nil)
 
   -- `next_link` computes the chosen association after one more row is appended to the rows
   pub link_more : (rows : List Row) (key : Key) (body : Body) (found : Option Link) → IsLinkSoFar group day rows found
       → IsLinkSoFar group day (rows ++ (key, body) ∷ []) (next_link group day found key body)
-  link_more rows (association_key key) (association_body line) found best =
-      subst (λ links. IsBest (on (λ (link : Link). link.key) association_choice_cmp) (is_linked group day) links
-      (next_link group day found (association_key key) (association_body line)))
-      (sym (links_more rows (association_key key, association_body line)))
-      (best_more link_total (is_linked group day) (associations_in rows) (record { key = key; line = line }) found best)
+  link_more rows (association_key key) (association_body line) found best = search (rules, links_more, best_more, link_total)
   link_more rows (association_key key) (tiploc_body bytes) found best = other_link_row rows (association_key key, tiploc_body bytes) found refl best
   link_more rows (association_key key) (schedule_body lines) found best = other_link_row rows (association_key key, schedule_body lines) found refl best
   link_more rows (tiploc_key code) body found best = other_link_row rows (tiploc_key code, body) found refl best

@@ -1,23 +1,23 @@
 -- The first 56 columns of the lines of a detailed docker are the lines of the docker.
-use Rattle.std.proofs.Common.{◌≡◌, ℕ, suc, ◌+◌, ◌-◌, ◌*◌, ◌%◌, ◌<◌, ◌≤◌, List, [], ◌∷◌, ◌++◌, length, length-append, length-drop, length-take-le}
-use Rattle.std.proofs.Common.{append-nil, append_assoc, Contains, refl, ap, sym, ◌∙◌, subst, inl, inr, Bool, true, false, cond, Some, None, arith}
-use Rattle.std.specs.Prelude.{Option, codes, decimal, drop, map, nat_lt, ◌==◌, ◌^◌}
+use Rattle.std.proofs.Common.{◌≡◌, ℕ, suc, ◌+◌, ◌*◌, ◌%◌, ◌<◌, ◌≤◌, List, [], ◌∷◌, ◌++◌, length, length-append, length-drop, length-take-le}
+use Rattle.std.proofs.lemmas.Grind.{common_steps}
+use Rattle.std.proofs.Common.{rules}
+use Rattle.std.proofs.Common.{append-nil, append_assoc, Contains, refl, ap, sym, ◌∙◌, subst, inl, inr, true, Some, None, arith}
+use Rattle.std.specs.Prelude.{Option, codes, decimal, drop, map, ◌^◌}
 use Rattle.std.specs.List.{AllByRecursion, AllZip, flat_map, zip}
 use Rattle.std.proofs.lemmas.Bool.{eqb-true, ltb-true, ltb-false}
 use Rattle.std.proofs.lemmas.Fmt.{decimal_by_steps_wide, length-decimal-le_wide}
 use Rattle.std.proofs.lemmas.List.{length-map}
 use Rattle.std.proofs.lemmas.List.Concat.{flat_map-append}
 use Rattle.std.proofs.lemmas.List.Elements.{All-append, All-contains, All-drop, All-from_recursion, All-take}
-use Rattle.docker_model.specs.records.Record.{Kind, columns, kind_of, is_printable, IsRecord, IsTextOfLength}
-use Rattle.docker_model.specs.records.Record.{header, tiploc_insert, tiploc_amend, tiploc_delete, association, basic_schedule, extra_details}
-use Rattle.docker_model.specs.records.Record.{origin_location, intermediate_location, terminating_location, change_en_route, trailer}
+use Rattle.docker_model.specs.records.Record.{columns, is_printable, IsRecord, IsTextOfLength}
+use Rattle.docker_model.specs.records.Record.{association}
 use Rattle.docker_model.specs.records.Field.{IsTiploc}
 use Rattle.docker_model.specs.records.PrintedNumber.{number_text}
 use Rattle.docker_model.specs.records.PrintedTime.{spaces}
 use Rattle.docker_model.specs.file.File.{first_record}
 use Rattle.docker_model.specs.file.Change.{Body, tiploc_key, association_key, schedule_key, ScheduleKey, tiploc_body, association_body, schedule_body}
-use Rattle.docker_model.specs.records.Clock.{scheduled_time}
-use Rattle.docker_model.specs.file.Journey.{Occasion, arrival, departure, pass, timed, times_of, times_by_kind}
+use Rattle.docker_model.specs.file.Journey.{Occasion, timed, times_of}
 use Rattle.docker_model.specs.state.State.{HasGoodBodies, IsScheduleOf, IsAssociationOf}
 use Rattle.docker_model.specs.state.Table.{Table}
 use Rattle.docker_model.specs.docker.Event.{Event, events_of, event_line, has_identity}
@@ -49,51 +49,33 @@ kept : (count column : ℕ) (text rest : List ℕ) → IsPlain text → column +
     → columns_from count column (text ++ rest) ≡ text ++ columns_from count (column + length text) rest
 kept count column [] rest plain fits = let same : column ≡ column + 0 = omega arith in ap (λ c. columns_from count c rest) same
 kept count column (b ∷ text) rest plain fits =
-    by (kept count (column + 1) text rest (plain_rest b text plain) (omega arith)
-    ∙ ap (λ c. text ++ columns_from count c rest) (let same : (column + 1) + length text ≡ column + suc (length text) = omega arith in same))
-    (b == 10) (nat_lt column count) refl refl
-  where
-    low : 32 ≤ b
-    low = plain_first b text plain
-
-    by : columns_from count (column + 1) (text ++ rest) ≡ text ++ columns_from count (column + suc (length text)) rest → (t u : Bool)
-        → (b == 10) ≡ t → nat_lt column count ≡ u
-        → cond t (10 ∷ columns_from count 0 (text ++ rest))
-        (cond u (b ∷ columns_from count (column + 1) (text ++ rest)) (columns_from count (column + 1) (text ++ rest)))
-        ≡ b ∷ (text ++ columns_from count (column + suc (length text)) rest)
-    by next true u feed within = let is : b ≡ 10 = eqb-true b 10 feed in let least = low in absurd (omega arith)
-    by next false true feed within = ap (λ bytes. b ∷ bytes) next
-    by next false false feed outside = let past = ltb-false column count outside in absurd (omega arith)
+    grind (
+      arith,
+      plain_rest,
+      plain_first,
+      eqb-true,
+      ltb-false,
+      (kept count (column + 1) text rest (plain_rest b text plain) (omega arith) ∙ ap (λ c. text ++ columns_from count c rest) (let same : (column + 1) + length text ≡ column + suc (length text) = omega arith in same)),
+    )
 
 -- a text after the kept columns is dropped
 dropped : (count column : ℕ) (text rest : List ℕ) → IsPlain text → count ≤ column
     → columns_from count column (text ++ rest) ≡ columns_from count (column + length text) rest
 dropped count column [] rest plain past = let same : column ≡ column + 0 = omega arith in ap (λ c. columns_from count c rest) same
 dropped count column (b ∷ text) rest plain past =
-    by (dropped count (column + 1) text rest (plain_rest b text plain) (omega arith)
-    ∙ ap (λ c. columns_from count c rest) (let same : (column + 1) + length text ≡ column + suc (length text) = omega arith in same))
-    (b == 10) (nat_lt column count) refl refl
-  where
-    low : 32 ≤ b
-    low = plain_first b text plain
-
-    by : columns_from count (column + 1) (text ++ rest) ≡ columns_from count (column + suc (length text)) rest → (t u : Bool)
-        → (b == 10) ≡ t → nat_lt column count ≡ u
-        → cond t (10 ∷ columns_from count 0 (text ++ rest))
-        (cond u (b ∷ columns_from count (column + 1) (text ++ rest)) (columns_from count (column + 1) (text ++ rest)))
-        ≡ columns_from count (column + suc (length text)) rest
-    by next true u feed within = let is : b ≡ 10 = eqb-true b 10 feed in let least = low in absurd (omega arith)
-    by next false true feed within = let before = ltb-true column count within in absurd (omega arith)
-    by next false false feed outside = next
+    grind (
+      arith,
+      plain_rest,
+      plain_first,
+      eqb-true,
+      ltb-true,
+      (dropped count (column + 1) text rest (plain_rest b text plain) (omega arith) ∙ ap (λ c. columns_from count c rest) (let same : (column + 1) + length text ≡ column + suc (length text) = omega arith in same)),
+    )
 
 -- the first columns of a line, and of the lines after it
 line_cut : (count : ℕ) (front back rest : List ℕ) → IsWide count front → IsPlain back
     → first_columns count (ended (front ++ back) ++ rest) ≡ ended front ++ first_columns count rest
-line_cut count front back rest wide plain =
-    ap (first_columns count) (append_assoc (front ++ back) (10 ∷ []) rest ∙ append_assoc front back (10 ∷ rest))
-    ∙ kept count 0 front (back ++ 10 ∷ rest) wide.plain (let long = wide.long in omega arith)
-    ∙ ap (λ bytes. front ++ bytes) (dropped count (0 + length front) back (10 ∷ rest) plain (let long = wide.long in omega arith))
-    ∙ sym (append_assoc front (10 ∷ []) (first_columns count rest))
+line_cut = search (rules, append_assoc, kept, dropped)
 
 -- ---- the parts of a detailed line
 
@@ -107,57 +89,24 @@ wide_found None is = wide_spaces 80
 wide_found (Some line) is = wide_record line (is line refl)
 
 plain_decimal : (n : ℕ) → n < 10 ^ 64 → IsPlain (decimal n)
-plain_decimal n small =
-    decimal_by_steps_wide (λ m ds. IsPlain ds) (λ m low. (wide_byte (48 + m) (omega arith)).plain)
-    (λ m ds low is. All-append (λ b. 32 ≤ b) ds ((48 + m % 10) ∷ []) is (wide_byte (48 + m % 10) (omega arith)).plain) n small
+plain_decimal n small = decimal_by_steps_wide (λ m ds. IsPlain ds) (λ m low. (wide_byte _ (omega arith)).plain)
+    (λ m ds low is. All-append (λ b. 32 ≤ b) ds ((48 + m % 10) ∷ []) is (wide_byte _ (omega arith)).plain) n small
 
 -- a number has at least the width of its column
 plain_number : (n : ℕ) → n < 10 ^ 64 → IsWide (length (number_text n)) (number_text n)
-plain_number n small = record {
-  long = refl;
-  plain = All-append (λ b. 32 ≤ b) (spaces (10 - length (decimal n))) (decimal n) (wide_spaces (10 - length (decimal n))).plain (plain_decimal n small);
-}
+plain_number = grind (common_steps, arith, wide_spaces, plain_decimal)
 
 -- a number of at most ten digits has the width of its column
 wide_number : (n : ℕ) → n < 10 ^ 10 → IsWide 10 (number_text n)
-wide_number n fits = record {
-  long =
-      let blank = (wide_spaces (10 - length (decimal n))).long in
-      let most = length-decimal-le_wide 10 n (omega arith) fits (omega arith) in
-      let both = length-append (spaces (10 - length (decimal n))) (decimal n) in
-      omega arith;
-  plain = (plain_number n (omega arith)).plain;
-}
+wide_number = grind (common_steps, arith, wide_spaces, length-decimal-le_wide, length-append, plain_number)
 
 -- ---- the number of an event
 
 timed_once : (occasion : Occasion) (time : Option ℕ) → length (timed occasion time) ≤ 1
-timed_once occasion None = omega arith
-timed_once occasion (Some time) = omega arith
+timed_once = search rules
 
 few_times : (line : List ℕ) → length (times_of line) ≤ 3
-few_times line = by (kind_of line)
-  where
-    three : (a b c : List (Occasion × ℕ)) → length a ≤ 1 → length b ≤ 1 → length c ≤ 1 → length ((a ++ b) ++ c) ≤ 3
-    three a b c one two last = let whole = length-append (a ++ b) c in let front = length-append a b in omega arith
-
-    by : (kind : Option Kind) → length (times_by_kind kind line) ≤ 3
-    by None = omega arith
-    by (Some header) = omega arith
-    by (Some tiploc_insert) = omega arith
-    by (Some tiploc_amend) = omega arith
-    by (Some tiploc_delete) = omega arith
-    by (Some association) = omega arith
-    by (Some basic_schedule) = omega arith
-    by (Some extra_details) = omega arith
-    by (Some change_en_route) = omega arith
-    by (Some trailer) = omega arith
-    by (Some origin_location) = let once = timed_once departure (scheduled_time (columns 11 15 line)) in omega arith
-    by (Some terminating_location) = let once = timed_once arrival (scheduled_time (columns 11 15 line)) in omega arith
-    by (Some intermediate_location) =
-        three (timed arrival (scheduled_time (columns 11 15 line))) (timed pass (scheduled_time (columns 21 25 line)))
-        (timed departure (scheduled_time (columns 16 20 line))) (timed_once arrival (scheduled_time (columns 11 15 line)))
-        (timed_once pass (scheduled_time (columns 21 25 line))) (timed_once departure (scheduled_time (columns 16 20 line)))
+few_times = search (rules, length-append, timed_once)
 
 times_long : (lines : List (List ℕ)) → length (flat_map times_of lines) ≤ 3 * length lines
 times_long [] = omega arith
@@ -234,8 +183,7 @@ wide_origin_of live place day line origin good (inr from) fits =
 -- a line that comes from somewhere is a line of the docker
 pub from_docker : (live : Table) (place : List ℕ) (day : ℕ) (line : DockerLine) (origin : List ℕ) → IsOrigin live place day line origin
     → IsDockerLine live place day line
-from_docker live place day line origin (inl from) = inl from.line_is
-from_docker live place day line origin (inr from) = inr from.line_is
+from_docker = search rules
 
 -- ---- the heading and the last line
 
@@ -255,8 +203,7 @@ wide_described live place good = by (live (tiploc_key place)) refl
     by (Some (schedule_body lines)) h = wide_spaces 26
 
 wide_word : IsWide 7 (codes "DOCKER ")
-wide_word = wide_text 7 (codes "DOCKER ")
-    (refl, All-from_recursion (λ b. is_printable b ≡ true) (codes "DOCKER ") (refl, (refl, (refl, (refl, (refl, (refl, (refl, tt))))))))
+wide_word = search (rules, wide_text)
 
 wide_heading : (live : Table) (place : List ℕ) (day : ℕ) → HasGoodBodies live → IsTiploc place → IsWide 56 (heading live place day)
 wide_heading live place day good tiploc =
@@ -277,12 +224,10 @@ module _ (live : Table) (place : List ℕ) (day : ℕ) (good : HasGoodBodies liv
   lines_cut [] [] come rest = refl
   lines_cut [] (origin ∷ origins) come rest = absurd come
   lines_cut (line ∷ lines) [] come rest = absurd come
-  lines_cut (line ∷ lines) (origin ∷ origins) come rest =
-      ap (first_columns 56) (append_assoc (ended (line_text line ++ origin)) more rest)
-      ∙ line_cut 56 (line_text line) origin (more ++ rest)
-      (wide_line line (wide_docker_line live place day line good (from_docker live place day line origin come.0)))
-      (plain_origin live place day line origin good come.0)
-      ∙ ap (λ bytes. ended (line_text line) ++ bytes) (lines_cut lines origins come.1 rest)
+  lines_cut (line ∷ lines) (origin ∷ origins) come rest = ap (first_columns 56) (append_assoc (ended (line_text line ++ origin)) more rest)
+      ∙ line_cut _ (line_text line) _ (more ++ rest) (wide_line _ (wide_docker_line live _ day _ good (from_docker live _ day _ origin come.0)))
+      (plain_origin _ place _ line _ good come.0)
+      ∙ ap (λ bytes. ended (line_text line) ++ bytes) (lines_cut lines _ come.1 rest)
       ∙ sym (append_assoc (ended (line_text line)) (flat_map (λ it. ended (line_text it)) lines) (first_columns 56 rest))
     where
       more : List ℕ

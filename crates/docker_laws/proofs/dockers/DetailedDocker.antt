@@ -1,6 +1,6 @@
 -- The detailed dockers of a summary are fixed by the summary's files, and are the detailed dockers of
 -- the files' plain table. The same is true of detailed dockers without the short-term plan.
-use Rattle.std.proofs.Common.{◌≡◌, ℕ, List, sym, subst}
+use Rattle.std.proofs.Common.{◌≡◌, ℕ, List, sym, subst, rules}
 use Rattle.std.specs.Prelude.{◌↔◌}
 use Rattle.docker_model.specs.records.Date.{IsDay}
 use Rattle.docker_model.specs.state.Lapse.{IsDayRefused}
@@ -8,7 +8,7 @@ use Rattle.docker_model.specs.state.State.{State, live_table}
 use Rattle.docker_model.specs.state.Summary.{IsSummary}
 use Rattle.docker_model.specs.state.Table.{Table, IsPlainTable}
 use Rattle.docker_model.specs.docker.DetailedText.{IsDetailedText}
-use Rattle.docker_model.specs.docker.Permanent.{is_permanent, permanent_table}
+use Rattle.docker_model.specs.docker.Permanent.{permanent_table}
 use Rattle.docker_model.specs.run.Knowledge.{AreFiles, HaveSameFiles}
 use Rattle.state_laws.proofs.states.CountedRows.{counted_bodies}
 use Rattle.docker_laws.proofs.dockers.FewMidnights.{bodies_few}
@@ -28,35 +28,30 @@ module _ (place : List ℕ) where
   Permanent live day text = IsDetailedText (permanent_table live) place day text
 
   detailed_lapses : StaysLapsed Detailed
-  detailed_lapses horizon live day text is_day good from =
-      detailed_text_iff horizon (day_bound horizon is_day) live (bodies_few live good) place day from text
+  detailed_lapses = search (rules, detailed_text_iff, day_bound, bodies_few)
 
   permanent_lapses : StaysLapsed Permanent
   permanent_lapses horizon live day text is_day good from =
-      subst (λ (t : Table). IsDetailedText (permanent_table live) place day text ↔ IsDetailedText t place day text) (sym (lapses_alike horizon live))
-      (detailed_text_iff horizon (day_bound horizon is_day) (permanent_table live)
-      (bodies_few (permanent_table live) (counted_bodies is_permanent live good)) place day from text)
+      subst (λ (t : Table). IsDetailedText (permanent_table live) place day text ↔ IsDetailedText t place day text) (sym (lapses_alike _ live))
+      (detailed_text_iff _ (day_bound horizon is_day) _ (bodies_few (permanent_table live) (counted_bodies _ live good)) _ day from _)
 
   one_detailed : IsOneText Detailed
   one_detailed live day text other = one_detailed_text live place day text other
 
   one_permanent : IsOneText Permanent
-  one_permanent live day text other = one_detailed_text (permanent_table live) place day text other
+  one_permanent = search (rules, one_detailed_text)
 
--- a detailed docker printed from a summary is the detailed docker of the plain table
 pub detailed_is_plain : (files : List (List (List ℕ))) (horizon : ℕ) (state : State) (table : Table) (place : List ℕ) (day : ℕ) (text : List ℕ)
     → AreFiles files → IsDay horizon → IsSummary files horizon state → IsPlainTable files table → ¬ IsDayRefused horizon day
     → IsDetailedText (live_table state) place day text ↔ IsDetailedText table place day text
-detailed_is_plain files horizon state table place day text =
-    text_is_plain (λ live d t. IsDetailedText live place d t) (detailed_lapses place) files horizon state table day text
+detailed_is_plain files horizon state table place day text = text_is_plain _ (detailed_lapses place) _ _ _ _ _ _
 
 -- a permanent detailed docker printed from a summary is the permanent detailed docker of the plain
 -- table
 pub permanent_detailed_is_plain : (files : List (List (List ℕ))) (horizon : ℕ) (state : State) (table : Table) (place : List ℕ) (day : ℕ) (text : List ℕ)
     → AreFiles files → IsDay horizon → IsSummary files horizon state → IsPlainTable files table → ¬ IsDayRefused horizon day
     → IsDetailedText (permanent_table (live_table state)) place day text ↔ IsDetailedText (permanent_table table) place day text
-permanent_detailed_is_plain files horizon state table place day text =
-    text_is_plain (λ live d t. IsDetailedText (permanent_table live) place d t) (permanent_lapses place) files horizon state table day text
+permanent_detailed_is_plain files horizon state table place day text = text_is_plain _ (permanent_lapses place) _ _ _ _ _ _
 
 -- two summaries of the same files have the same detailed docker for each place and each day, unless
 -- the program refuses the docker because of a horizon
@@ -65,8 +60,7 @@ pub detailed_of_files : (files others : List (List (List ℕ))) (horizon theirs 
     → (place : List ℕ) (day : ℕ) → ¬ IsDayRefused horizon day → ¬ IsDayRefused theirs day → (text other : List ℕ)
     → IsDetailedText (live_table one) place day text → IsDetailedText (live_table two) place day other → text ≡ other
 detailed_of_files files others horizon theirs one two are also same is_day day_too is that place =
-    text_of_files (λ live d t. IsDetailedText live place d t) (detailed_lapses place) (one_detailed place) files others horizon theirs one two are also same
-    is_day day_too is that
+    text_of_files _ (detailed_lapses place) (one_detailed place) _ _ _ _ _ _ are also same is_day day_too is that
 
 -- two summaries of the same files have the same permanent detailed docker for each place and each
 -- day, unless the program refuses the docker because of a horizon
@@ -75,5 +69,4 @@ pub permanent_detailed_of_files : (files others : List (List (List ℕ))) (horiz
     → (place : List ℕ) (day : ℕ) → ¬ IsDayRefused horizon day → ¬ IsDayRefused theirs day → (text other : List ℕ)
     → IsDetailedText (permanent_table (live_table one)) place day text → IsDetailedText (permanent_table (live_table two)) place day other → text ≡ other
 permanent_detailed_of_files files others horizon theirs one two are also same is_day day_too is that place =
-    text_of_files (λ live d t. IsDetailedText (permanent_table live) place d t) (permanent_lapses place) (one_permanent place) files others horizon theirs
-    one two are also same is_day day_too is that
+    text_of_files _ (permanent_lapses place) (one_permanent place) _ _ _ _ _ _ are also same is_day day_too is that

@@ -1,8 +1,8 @@
 -- The events of a schedule can be computed by a walk over its records. The walk keeps the number of
 -- falls and the last change en route. A fall is a time that is earlier than the time before it.
-use Rattle.std.proofs.Common.{◌≡◌, ℕ, zero, suc, ◌+◌, ◌<◌, ◌≤◌, Bool, true, false, cond, List, [], ◌∷◌, ◌++◌, map, length, get_or}
-use Rattle.std.proofs.Common.{take, refl, ap, sym, ◌∙◌, subst, arith, Contains, Some, None, append_assoc, append-nil, length-append}
-use Rattle.std.specs.Prelude.{Option, ◌↔◌, nat_lt, filter, codes}
+use Rattle.std.proofs.Common.{◌≡◌, ℕ, zero, suc, ◌+◌, ◌<◌, ◌≤◌, cond, List, [], ◌∷◌, ◌++◌, map, length, get_or, rules}
+use Rattle.std.proofs.Common.{refl, ap, sym, ◌∙◌, subst, arith, Contains, Some, append_assoc, append-nil, length-append}
+use Rattle.std.specs.Prelude.{Option, ◌↔◌, nat_lt, codes}
 use Rattle.std.specs.List.{enumerate_from, last_or, flat_map}
 use Rattle.std.proofs.lemmas.List.{map-append, length-map, get_or-map}
 use Rattle.std.proofs.lemmas.List.FromFn.{length-enumerate_from, get_or-enumerate_from}
@@ -64,22 +64,13 @@ falls_more (first ∷ second ∷ times) time = let rest = falls_more (second ∷
 pub falls_here : (lines : List (List ℕ)) (before later : List ℕ) (time : ℕ) (number : ℕ) → times_along lines ≡ (before ++ time ∷ []) ++ later
     → number ≡ length before + 1
     → falls_to lines number ≡ fall_count before + fall_at (last_time before) time
-falls_here lines before later time number whole is =
-    (λ i. fall_count (take (is i) (whole i)))
-    ∙ ap fall_count (front before time later)
-    ∙ falls_more before time
-  where
-    front : (xs : List ℕ) (x : ℕ) (ys : List ℕ) → take (length xs + 1) ((xs ++ x ∷ []) ++ ys) ≡ xs ++ x ∷ []
-    front xs x ys = ap (take (length xs + 1)) (append_assoc xs (x ∷ []) ys) ∙ take-append-add xs (x ∷ ys) 1
+falls_here = search (rules, falls_more, append_assoc, take-append-add)
 
 -- the times of a schedule are the times of the records before `line`, then the times of `line`, and
 -- then the times of the records after `line`
 pub times_split : (front : List (List ℕ)) (line : List ℕ) (rest : List (List ℕ))
     → times_along (front ++ line ∷ rest) ≡ times_along front ++ (map (λ (time : Occasion × ℕ). time.1) (times_of line) ++ times_along rest)
-times_split front line rest =
-    ap (map (λ (time : Occasion × ℕ). time.1)) (flat_map-append times_of front (line ∷ rest))
-    ∙ map-append (λ (time : Occasion × ℕ). time.1) (flat_map times_of front) (times_of line ++ flat_map times_of rest)
-    ∙ ap (λ more. times_along front ++ more) (map-append (λ (time : Occasion × ℕ). time.1) (times_of line) (flat_map times_of rest))
+times_split = search (rules, flat_map-append, map-append)
 
 -- ---- the walk computes the record and the train identity of an event
 
@@ -93,8 +84,7 @@ line_here front line rest event is = ap (λ n. get_or (front ++ line ∷ rest) n
 -- record
 pub identity_here : (front rest : List (List ℕ)) (event : Event) → event.place ≡ length front → event_identity (front ++ rest) event ≡ changed_identity
     (last_change front) (first_record (front ++ rest))
-identity_here front rest event is =
-    ap (λ before. changed_identity (last_change before) (first_record (front ++ rest))) (ap (λ n. take n (front ++ rest)) is ∙ take-append_seam front rest)
+identity_here = search (rules, take-append_seam)
 
 -- an element that is appended to a list is the last element of the longer list
 last_behind : {A : Type 0} (o : Option A) (xs : List A) (x : A) → last_or o (xs ++ x ∷ []) ≡ Some x
@@ -105,16 +95,7 @@ last_behind o (y ∷ xs) x = last_behind (Some y) xs x
 -- any other record leaves the last change en route unchanged
 pub change_more : (front : List (List ℕ)) (line : List ℕ) → last_change (front ++ line ∷ []) ≡ cond (has_identity (codes "CR") line) (Some line)
     (last_change front)
-change_more front line =
-    ap (last_or None) (filter-append (λ l. has_identity (codes "CR") l) front (line ∷ []))
-    ∙ by (has_identity (codes "CR") line)
-  where
-    kept : List (List ℕ)
-    kept = filter (λ l. has_identity (codes "CR") l) front
-
-    by : (b : Bool) → last_or None (kept ++ cond b (line ∷ []) []) ≡ cond b (Some line) (last_or None kept)
-    by true = last_behind None kept line
-    by false = ap (last_or None) (append-nil kept)
+change_more = search (rules, filter-append, last_behind, append-nil)
 
 -- ---- the events are numbered from 1 to the number of times
 

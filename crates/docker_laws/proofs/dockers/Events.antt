@@ -1,8 +1,8 @@
 -- The events of a schedule have different numbers, and the record of each event is a location
 -- record.
-use Rattle.std.proofs.Common.{◌≡◌, ℕ, zero, suc, ◌+◌, ◌<◌, ◌≤◌, List, [], ◌∷◌, ◌++◌, length, get_or, refl}
+use Rattle.std.proofs.Common.{◌≡◌, ℕ, suc, ◌+◌, ◌<◌, ◌≤◌, List, [], ◌∷◌, ◌++◌, length, get_or, refl, rules}
 use Rattle.std.proofs.Common.{ap, sym, ◌∙◌, subst, inl, inr, ◌⊎◌, Some, None, Contains, map, arith}
-use Rattle.std.specs.Prelude.{Option, slice_index_or}
+use Rattle.std.specs.Prelude.{Option}
 use Rattle.std.specs.List.{enumerate_from}
 use Rattle.std.proofs.lemmas.List.Elements.{Contains-append_cases}
 use Rattle.docker_model.specs.records.Record.{Kind, header, tiploc_insert, tiploc_amend, tiploc_delete, association, basic_schedule, extra_details}
@@ -24,11 +24,7 @@ as_event counted = record { number = counted.0; place = counted.1.0; occasion = 
 
 from_here : {A : Type 0} (n : ℕ) (xs : List A) (z : ℕ × A) → Contains (enumerate_from n xs) z → n ≤ z.0
 from_here n [] z among = absurd (nil-Contains z among)
-from_here n (x ∷ xs) z among = by (from_here (n + 1) xs z) (Contains-cons (n, x) (enumerate_from (n + 1) xs) z among)
-  where
-    by : (Contains (enumerate_from (n + 1) xs) z → n + 1 ≤ z.0) → ((n, x) ≡ z) ⊎ Contains (enumerate_from (n + 1) xs) z → n ≤ z.0
-    by rest (inl e) = let same : n ≡ z.0 = ap (λ (v : ℕ × _). v.0) e in omega arith
-    by rest (inr inside) = let low = rest inside in omega arith
+from_here n (x ∷ xs) z among = grind (arith, (from_here (n + 1) xs z))
 
 counts_up : {A : Type 0} (n : ℕ) (xs : List A) → AllLater (λ (a b : ℕ × A). a.0 < b.0) (enumerate_from n xs)
 counts_up n [] = tt
@@ -71,25 +67,17 @@ pub record IsTimeOf (lines : List (List ℕ)) (event : Event) : Type 0 where
   pub is_time : Contains (times_of (event_line lines event)) (event.occasion, event.time)
 
 same_at : (xs : List (List ℕ)) (k : ℕ) (x : List ℕ) → k < length xs → get_or xs k [] ≡ x → get_or xs k x ≡ x
-same_at [] k x low is = absurd (omega arith)
-same_at (y ∷ ys) zero x low is = is
-same_at (y ∷ ys) (suc k) x low is = same_at ys k x (omega arith) is
+same_at = search rules
 
 -- if the record of an event contains the event's occasion and time, `IsTimeOf` holds
 time_of_line : (lines : List (List ℕ)) (event : Event) (k : ℕ) (line : List ℕ) → k < length lines → get_or lines k [] ≡ line → event.place ≡ k
     → Contains (times_of line) (event.occasion, event.time) → IsTimeOf lines event
-time_of_line lines event k line low is place among =
-    let line_is : event_line lines event ≡ line = ap (λ n. slice_index_or lines n []) place ∙ is in
-    record {
-      among = subst (Contains lines) (sym line_is) (k, low, same_at lines k line low is);
-      is_time = subst (λ l. Contains (times_of l) (event.occasion, event.time)) (sym line_is) among;
-    }
+time_of_line = search (rules, same_at)
 
 -- each time in `placed_times` comes with the index of a record, and is a time of that record
 time_of_placed : (lines : List (List ℕ)) (placed : Placed) → Contains (placed_times lines) placed
     → (line : List ℕ) × (placed.0 < length lines) × (get_or lines placed.0 [] ≡ line) × Contains (times_of line) placed.1
-time_of_placed lines placed among =
-    by (Contains-flat_map (λ (p : ℕ × List ℕ). map (λ (time : Occasion × ℕ). (p.0, time)) (times_of p.1)) (enumerate_from 0 lines) placed among)
+time_of_placed lines placed among = by (Contains-flat_map _ _ _ among)
   where
     IsOfRecord : Type 0
     IsOfRecord = (line : List ℕ) × (placed.0 < length lines) × (get_or lines placed.0 [] ≡ line) × Contains (times_of line) placed.1
@@ -107,8 +95,8 @@ time_of_placed lines placed among =
     by : (piece : ℕ × List ℕ) × Contains (enumerate_from 0 lines) piece × Contains (map (λ (time : Occasion × ℕ). (piece.0, time)) (times_of piece.1)) placed
         → IsOfRecord
     by (piece, there, inside) =
-        let stands = stands_at 0 lines piece [] there in
-        let time = Contains-map (λ (t : Occasion × ℕ). (piece.0, t)) (times_of piece.1) placed inside in
+        let stands = stands_at _ _ _ _ there in
+        let time = Contains-map _ _ _ inside in
         at piece.0 piece.1 stands.0 stands.1 stands.2 stands.3 time.0 time.1 time.2
 
 -- the record of each event contains the event's occasion and time
@@ -132,12 +120,7 @@ abbrev pub IsOfTrain : Occasion → Type 0
 IsOfTrain occasion = (occasion ≡ arrival) ⊎ (occasion ≡ pass) ⊎ (occasion ≡ departure)
 
 timed_is : (occasion : Occasion) (time : Option ℕ) (pair : Occasion × ℕ) → Contains (timed occasion time) pair → pair.0 ≡ occasion
-timed_is occasion None pair among = absurd (nil-Contains pair among)
-timed_is occasion (Some n) pair among = by (Contains-cons (occasion, n) [] pair among)
-  where
-    by : ((occasion, n) ≡ pair) ⊎ Contains [] pair → pair.0 ≡ occasion
-    by (inl e) = sym (ap (λ (v : Occasion × ℕ). v.0) e)
-    by (inr none) = absurd (nil-Contains pair none)
+timed_is = search (rules, nil-Contains)
 
 -- a record with a time is a location record, and the occasion of the time is an arrival, a pass or
 -- a departure

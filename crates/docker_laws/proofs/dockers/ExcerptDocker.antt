@@ -1,14 +1,12 @@
 -- A table and each of its excerpts for a place have the same docker for that place.
-use Rattle.std.proofs.Common.{◌≡◌, ℕ, List, subst, inl, inr, ◌⊎◌, refl, ap, sym, ◌∙◌, Some, None}
+use Rattle.std.proofs.Common.{◌≡◌, ℕ, List, subst, inl, inr, ◌⊎◌, refl, ap, sym, ◌∙◌, Some, None, rules}
 use Rattle.std.specs.Prelude.{Option, ◌↔◌}
-use Rattle.docker_model.specs.records.Record.{column}
 use Rattle.docker_model.specs.file.Journey.{CallsAt}
 use Rattle.docker_model.specs.file.Change.{Key, tiploc_key, schedule_key, association_key, ScheduleKey, AssociationKey, Body, schedule_body, association_body}
 use Rattle.docker_model.specs.state.Table.{Table}
-use Rattle.docker_model.specs.state.State.{HasGoodBodies}
 use Rattle.docker_model.specs.docker.Choice.{IsRunning, TrainRuns, Group, group_of, IsAssociated, IsChosenAssociation}
 use Rattle.docker_model.specs.docker.DockerLine.{DockerLine}
-use Rattle.docker_model.specs.docker.Association.{partner_start, IsIdentityOn, IsPartnerIdentity, IsAssociationLine}
+use Rattle.docker_model.specs.docker.Association.{IsIdentityOn, IsPartnerIdentity, IsAssociationLine}
 use Rattle.docker_model.specs.docker.DockerList.{IsEventLine, IsDockerList}
 use Rattle.docker_model.specs.docker.DockerText.{description_in, docker_text, IsDockerText}
 use Rattle.docker_laws.specs.Excerpt.{IsConcerned, IsNeeded, IsExcerpt}
@@ -27,24 +25,16 @@ turned one other uid same key is = sym (same key is)
 
 running_over : (one other : Table) (uid : List ℕ) (day : ℕ) (key : ScheduleKey) (lines : List (List ℕ)) → HaveSameSchedules one other uid
     → IsRunning one uid day key lines → IsRunning other uid day key lines
-running_over one other uid day key lines same is =
-    record { uid_is = is.uid_is; is_live = sym (same key is.uid_is) ∙ is.is_live; runs_then = is.runs_then }
+running_over = search rules
 
 train_over : (one other : Table) (uid : List ℕ) (day : ℕ) (key : ScheduleKey) (lines : List (List ℕ)) → HaveSameSchedules one other uid
     → TrainRuns one uid day key lines → TrainRuns other uid day key lines
-train_over one other uid day key lines same is = record {
-  chosen = record {
-    running = running_over one other uid day key lines same is.chosen.running;
-    first = λ another others runs. is.chosen.first another others (running_over other one uid day another others (turned one other uid same) runs);
-  };
-  no_cancellation = is.no_cancellation;
-}
+train_over = search (rules, running_over, turned)
 
 identity_over : (one other : Table) (uid identity : List ℕ) (day : ℕ) → HaveSameSchedules one other uid → IsIdentityOn one uid identity day
     → IsIdentityOn other uid identity day
 identity_over one other uid identity day same (inl runs) = inl (runs.0, runs.1, train_over one other uid day runs.0 runs.1 same runs.2, runs.3)
-identity_over one other uid identity day same (inr none) =
-    inr (λ key lines runs. none.0 key lines (train_over other one uid day key lines (turned one other uid same) runs), none.1)
+identity_over one other uid identity day same (inr none) = search (rules, train_over, turned)
 
 partner_over : (one other : Table) (uid : List ℕ) (day : Option ℕ) (identity : List ℕ) → HaveSameSchedules one other uid
     → IsPartnerIdentity one uid day identity → IsPartnerIdentity other uid day identity
@@ -58,15 +48,13 @@ HaveSameAssociations one other group = (key : AssociationKey) → group_of key �
 
 associated_over : (one other : Table) (group : Group) (day : ℕ) (key : AssociationKey) (line : List ℕ) → HaveSameAssociations one other group
     → IsAssociated one group day key line → IsAssociated other group day key line
-associated_over one other group day key line same is =
-    record { group_is = is.group_is; is_live = sym (same key is.group_is) ∙ is.is_live; runs_then = is.runs_then }
+associated_over = search rules
 
 association_over : (one other : Table) (group : Group) (day : ℕ) (key : AssociationKey) (line : List ℕ) → HaveSameAssociations one other group
     → IsChosenAssociation one group day key line → IsChosenAssociation other group day key line
 association_over one other group day key line same is = record {
-  associated = associated_over one other group day key line same is.associated;
-  first = λ another others runs. is.first another others
-      (associated_over other one group day another others (λ link of. sym (same link of)) runs);
+  associated = associated_over _ _ _ _ _ _ same is.associated;
+  first = λ another others runs. is.first another others (associated_over _ _ _ _ _ _ (λ link of. sym (same link of)) runs);
 }
 
 -- ---- if two tables agree wherever the docker depends on them, they have the same docker lines
@@ -99,27 +87,25 @@ event_line_over one other place day covers line is = record {
 association_line_over : (one other : Table) (place : List ℕ) (day : ℕ) → Covers one other place → (line : DockerLine)
     → IsAssociationLine one place day line → IsAssociationLine other place day line
 association_line_over one other place day covers line is =
-    let first = first_event_is is.base is.key.location is.key.suffix is.event is.first_there in
-    let calls = event_calls is.base is.event place first.0 (first.2 ∙ is.here) in
+    let first = first_event_is _ _ _ _ is.first_there in
+    let calls = event_calls _ _ _ first.0 (first.2 ∙ is.here) in
     let of_base = covers.calls is.base_key is.base is.base_runs.chosen.running.is_live calls in
     record {
       start = is.start;
       key = is.key;
       association = is.association;
-      chosen = association_over one other (group_of is.key) is.start is.key is.association (covers.links (group_of is.key) is.here) is.chosen;
+      chosen = association_over _ _ _ _ _ _ (covers.links (group_of is.key) is.here) is.chosen;
       no_cancellation = is.no_cancellation;
       occasion = is.occasion;
       category = is.category;
       date_indicator = is.date_indicator;
       base_key = is.base_key;
       base = is.base;
-      base_runs = train_over one other is.key.base is.start is.base_key is.base
-          (subst (HaveSameSchedules one other) is.base_runs.chosen.running.uid_is of_base) is.base_runs;
+      base_runs = train_over _ _ _ _ _ _ (subst (HaveSameSchedules one other) is.base_runs.chosen.running.uid_is of_base) is.base_runs;
       event = is.event;
       first_there = is.first_there;
       identity = is.identity;
-      partner = partner_over one other is.key.associated (partner_start (column 37 is.association) is.start) is.identity
-          (covers.names is.key is.association is.chosen.associated.is_live is.here) is.partner;
+      partner = partner_over _ _ _ _ _ (covers.names is.key is.association is.chosen.associated.is_live is.here) is.partner;
       here = is.here;
       today = is.today;
       is = is.is;
@@ -127,16 +113,15 @@ association_line_over one other place day covers line is =
 
 line_over : (one other : Table) (place : List ℕ) (day : ℕ) → Covers one other place → (line : DockerLine)
     → IsEventLine one place day line ⊎ IsAssociationLine one place day line → IsEventLine other place day line ⊎ IsAssociationLine other place day line
-line_over one other place day covers line (inl event) = inl (event_line_over one other place day covers line event)
-line_over one other place day covers line (inr association) = inr (association_line_over one other place day covers line association)
+line_over = search (rules, event_line_over, association_line_over)
 
 list_over : (one other : Table) (place : List ℕ) (day : ℕ) → Covers one other place → Covers other one place → (lines : List DockerLine)
     → IsDockerList one place day lines → IsDockerList other place day lines
 list_over one other place day forth back lines is = record {
   ascending = is.ascending;
   members = λ line. (
-    λ among. line_over one other place day forth line ((is.members line).0 among),
-    λ told. (is.members line).1 (line_over other one place day back line told),
+    λ among. line_over _ _ _ _ forth _ ((is.members line).0 among),
+    λ told. (is.members line).1 (line_over _ _ _ _ back _ told),
   );
 }
 
@@ -145,19 +130,11 @@ list_over one other place day forth back lines is = record {
 module _ (place : List ℕ) (live part : Table) (is : IsExcerpt place live part) where
   -- the excerpt equals the table at each key that the docker of the place needs
   pub same_where_needed : (key : Key) → IsNeeded live place key → part key ≡ live key
-  same_where_needed key needed = by (is key)
-    where
-      by : (part key ≡ live key) ⊎ ((part key ≡ None) × ¬ IsNeeded live place key) → part key ≡ live key
-      by (inl same) = same
-      by (inr none) = absurd (none.1 needed)
+  same_where_needed = search rules
 
   -- if the excerpt has a body at a key, the table has the same body at this key
   pub was_there : (key : Key) (body : Body) → part key ≡ Some body → live key ≡ Some body
-  was_there key body there = by (is key)
-    where
-      by : (part key ≡ live key) ⊎ ((part key ≡ None) × ¬ IsNeeded live place key) → live key ≡ Some body
-      by (inl same) = sym same ∙ there
-      by (inr none) = none_some body (sym none.0 ∙ there)
+  was_there = search (rules, none_some)
 
   same_of_uid : (uid : List ℕ) → IsConcerned live place uid → HaveSameSchedules live part uid
   same_of_uid uid concerned key uid_is = sym (same_where_needed (schedule_key key) (subst (IsConcerned live place) (sym uid_is) concerned))
@@ -167,20 +144,14 @@ module _ (place : List ℕ) (live part : Table) (is : IsExcerpt place live part)
 
   calls_concern : (key : ScheduleKey) (lines : List (List ℕ)) → live (schedule_key key) ≡ Some (schedule_body lines) → CallsAt place lines
       → IsConcerned live place key.uid
-  calls_concern key lines is_live calls =
-      inl (record { key = key; lines = lines; uid_is = refl; calling = record { is_live = is_live; calls = calls } })
+  calls_concern = search rules
 
   names_concern : (key : AssociationKey) (line : List ℕ) → live (association_key key) ≡ Some (association_body line) → key.location ≡ place
       → IsConcerned live place key.associated
-  names_concern key line is_live here =
-      inr (record { key = key; line = line; associated_is = refl; linked = record { is_live = is_live; here = here } })
+  names_concern = search rules
 
   forth : Covers live part place
-  forth = record {
-    calls = λ key lines is_live calls. same_of_uid key.uid (calls_concern key lines is_live calls);
-    names = λ key line is_live here. same_of_uid key.associated (names_concern key line is_live here);
-    links = same_links;
-  }
+  forth = search (rules, same_of_uid, calls_concern, names_concern, same_links)
 
   back : Covers part live place
   back = record {
@@ -201,10 +172,6 @@ module _ (place : List ℕ) (live part : Table) (is : IsExcerpt place live part)
   -- a table and its excerpt have the same docker text for the place
   pub excerpt_text_iff : (day : ℕ) (text : List ℕ) → IsDockerText live place day text ↔ IsDockerText part place day text
   excerpt_text_iff day text = (
-    λ told. (told.0, (excerpt_list_iff day told.0).0 told.1, told.2 ∙ sym (text_same day told.0)),
-    λ told. (told.0, (excerpt_list_iff day told.0).1 told.1, told.2 ∙ text_same day told.0),
+    λ told. (told.0, (excerpt_list_iff _ _).0 told.1, told.2 ∙ sym (text_same _ _)),
+    λ told. (told.0, (excerpt_list_iff _ _).1 told.1, told.2 ∙ text_same _ _),
   )
-
-  -- if all bodies of the table are well formed, so are the bodies of the excerpt
-  pub excerpt_good : HasGoodBodies live → HasGoodBodies part
-  excerpt_good good key body there = good key body (was_there key body there)

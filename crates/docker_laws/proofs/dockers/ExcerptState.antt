@@ -1,8 +1,9 @@
 -- An excerpt of a valid state for a place is valid. It has the same dockers for the place as the
 -- state, and the program refuses them for the same days. One excerpt of a state has exactly the
 -- entries whose keys the docker of the place needs.
-use Rattle.std.proofs.Common.{◌++◌, ◌≡◌, ℕ, List, [], ◌∷◌, subst, inl, inr, ◌⊎◌, refl, ap, sym, ◌∙◌, Bool, true, false, cond, Some, None}
-use Rattle.std.specs.Prelude.{Option, ◌↔◌, ◌&&◌, ◌||◌, filter, find, option_and_then}
+use Rattle.std.proofs.Common.{◌++◌, ◌≡◌, ℕ, List, [], ◌∷◌, subst, inl, inr, ◌⊎◌, refl, ap, sym, ◌∙◌, Bool, true, false, Some, None, arith}
+use Rattle.std.proofs.Common.{rules}
+use Rattle.std.specs.Prelude.{Option, ◌&&◌, ◌||◌, filter, find, option_and_then}
 use Rattle.std.specs.List.{list_any}
 use Rattle.std.specs.Str.{bytes_eq}
 use Rattle.std.specs.declared.cmp.Ordering.{Ordering}
@@ -14,7 +15,7 @@ use Rattle.docker_model.specs.file.Change.{Key, tiploc_key, association_key, sch
 use Rattle.docker_model.specs.state.Order.{IsBelow}
 use Rattle.docker_model.specs.state.Stamp.{LedgerItem, Stamp}
 use Rattle.docker_model.specs.state.Op.{Entry, body_of, key_cmp}
-use Rattle.docker_model.specs.state.Lapse.{HasNotToLapse, IsDayRefused}
+use Rattle.docker_model.specs.state.Lapse.{HasNotToLapse}
 use Rattle.docker_model.specs.state.StatePart.{IsStampHere}
 use Rattle.docker_model.specs.state.State.{IsStampIn, IsOpOf, State, IsValid, IsLedger, IsGoodEntry, AreEntries, HaveLapsed, live_table}
 use Rattle.docker_laws.specs.Excerpt.{IsSublist, HasCall, IsNamed, IsNeeded, IsExcerptState}
@@ -37,8 +38,8 @@ use Rattle.state_laws.proofs.indexes.CallsTest.{any_forth, calls_test}
 -- a sublist of this list
 pub some_entries : (ledger : List LedgerItem) (some all : List Keyed) → AreEntries ledger all → IsSublist some all → AreEntries ledger some
 some_entries ledger some all are is = (
-  sublist_all (IsGoodEntry ledger) some all is are.0,
-  ascending_of by_key some (sublist_later (IsBelow by_key) some all is (later_of by_key all are.1)),
+  sublist_all (IsGoodEntry ledger) _ all is are.0,
+  ascending_of _ some (sublist_later _ some _ is (later_of by_key _ are.1)),
 )
   where
     by_key : Keyed → Keyed → Ordering
@@ -48,7 +49,7 @@ some_entries ledger some all are is = (
 pub still_here : (state part : State) (key : Key) (stamp : Stamp) → IsSublist part.entries state.entries → part.ledger ≡ state.ledger
     → IsStampHere state key stamp → IsStampHere part key stamp
 still_here state part key stamp is same here = (
-  (here.0.0, sublist_all (λ (entry : Keyed). IsBelow key_cmp entry.0 key) part.entries state.entries is here.0.1),
+  (here.0.0, sublist_all (λ (entry : Keyed). IsBelow key_cmp entry.0 key) _ state.entries is here.0.1),
   subst (λ ledger. IsStampIn ledger stamp) (sym same) here.1,
 )
 
@@ -59,10 +60,9 @@ pub entries_more : (state : State) (key : Key) (entry : Entry) → AreEntries st
     → AreEntries state.ledger (state.entries ++ (key, entry) ∷ [])
 entries_more state key entry are here of = (
   All-from_recursion (IsGoodEntry state.ledger) (state.entries ++ (key, entry) ∷ [])
-      (all_append (IsGoodEntry state.ledger) state.entries ((key, entry) ∷ []) (recursion_from_All (IsGoodEntry state.ledger) state.entries are.0)
+      (all_append _ _ _ (recursion_from_All (IsGoodEntry state.ledger) state.entries are.0)
       (record { key = here.0.0; stamp = here.1; op = of }, tt)),
-  ascending_last (on (λ (e : Keyed). e.0) key_cmp) state.entries (key, entry) are.1
-      (recursion_from_All (λ (e : Keyed). IsBelow key_cmp e.0 key) state.entries here.0.1),
+  ascending_last _ _ _ are.1 (recursion_from_All (λ (e : Keyed). IsBelow key_cmp e.0 key) state.entries here.0.1),
 )
 
 -- each entry of a state may follow the entries before it
@@ -70,13 +70,11 @@ pub entry_behind : (state : State) (key : Key) (entry : Entry) (rest : List Keye
     → IsStampHere state key entry.stamp × IsOpOf key entry.op
 entry_behind state key entry rest are =
     let among = Contains-append_right state.entries ((key, entry) ∷ rest) (key, entry) (cons-Contains-first {A = Keyed} (key, entry) rest) in
-    let good : IsGoodEntry state.ledger (key, entry) =
-    member_of (IsGoodEntry state.ledger) (state.entries ++ (key, entry) ∷ rest) (key, entry) are.0 among in (
+    let good : IsGoodEntry state.ledger (key, entry) = member_of (IsGoodEntry state.ledger) _ (key, entry) are.0 among in (
       (
         (
           good.key,
-          All-from_recursion (λ (e : Keyed). IsBelow key_cmp e.0 key) state.entries
-              (below_next (on (λ (e : Keyed). e.0) key_cmp) state.entries (key, entry) rest are.1),
+          All-from_recursion (λ (e : Keyed). IsBelow key_cmp e.0 key) state.entries (below_next _ state.entries _ rest are.1),
         ),
         good.stamp,
       ),
@@ -146,13 +144,6 @@ excerpt_again place state part smaller is further = record {
     by key (inl same) = inner key same (is.live key)
     by key (inr none) = inr (none.0, λ needed. none.1 (needed_still key needed))
 
--- the program refuses the dockers of a state and of its excerpt for the same days, since both have
--- the same horizon
-pub excerpt_refuses : (place : List ℕ) (state part : State) (day : ℕ) → IsExcerptState place state part
-    → IsDayRefused state.horizon day ↔ IsDayRefused part.horizon day
-excerpt_refuses place state part day is =
-    (subst (λ horizon. IsDayRefused horizon day) (sym is.horizon), subst (λ horizon. IsDayRefused horizon day) is.horizon)
-
 -- ---- leaving out the keys that fail a test leaves the bodies at all other keys unchanged
 
 module _ (test : Key → Bool) where
@@ -161,30 +152,19 @@ module _ (test : Key → Bool) where
   find_kept : (key : Key) → test key ≡ true → (xs : List Keyed) → find (λ entry. is_eq (key_cmp entry.0 key)) (filter (λ entry. test entry.0) xs)
       ≡ find (λ entry. is_eq (key_cmp entry.0 key)) xs
   find_kept key passes [] = refl
-  find_kept key passes (x ∷ xs) = by (test x.0) (is_eq (key_cmp x.0 key)) refl refl (find_kept key passes xs)
-    where
-      by : (b c : Bool) → test x.0 ≡ b → is_eq (key_cmp x.0 key) ≡ c
-          → find (λ (entry : Keyed). is_eq (key_cmp entry.0 key)) (filter (λ (entry : Keyed). test entry.0) xs)
-          ≡ find (λ (entry : Keyed). is_eq (key_cmp entry.0 key)) xs
-          → find (λ (entry : Keyed). is_eq (key_cmp entry.0 key))
-          (cond b (x ∷ filter (λ (entry : Keyed). test entry.0) xs) (filter (λ (entry : Keyed). test entry.0) xs))
-          ≡ cond c (Some x) (find (λ (entry : Keyed). is_eq (key_cmp entry.0 key)) xs)
-      by true c h g rest = λ i. cond (g i) (Some x) (rest i)
-      by false true h g rest = absurd (let bad : false ≡ true = sym h ∙ ap test (same_key x.0 key g) ∙ passes in cc)
-      by false false h g rest = rest
+  find_kept key passes (x ∷ xs) = grind (arith, same_key, (find_kept key passes xs))
 
   -- a search for a key that fails the test finds no entry in the filtered list
   find_dropped : (key : Key) → test key ≡ false → (xs : List Keyed)
       → find (λ entry. is_eq (key_cmp entry.0 key)) (filter (λ entry. test entry.0) xs) ≡ None
   find_dropped key fails xs = by (find (λ entry. is_eq (key_cmp entry.0 key)) (filter (λ entry. test entry.0) xs)) refl
     where
-      by : (found : Option Keyed) → find (λ (entry : Keyed). is_eq (key_cmp entry.0 key)) (filter (λ (entry : Keyed). test entry.0) xs) ≡ found
-          → found ≡ None
+      by : (found : Option Keyed) → find (λ (entry : Keyed). is_eq (key_cmp entry.0 key)) (filter (λ (entry : Keyed). test entry.0) xs) ≡ found → found ≡ None
       by None h = refl
       by (Some pair) h =
-          let told = find_some (λ (entry : Keyed). is_eq (key_cmp entry.0 key)) (filter (λ (entry : Keyed). test entry.0) xs) pair h in
-          let passed = filter_back (λ (entry : Keyed). test entry.0) xs pair told.0 in
-          absurd (let bad : false ≡ true = sym fails ∙ sym (ap test (same_key pair.0 key told.1)) ∙ passed.1 in cc)
+          let told = find_some _ (filter (λ (entry : Keyed). test entry.0) xs) _ h in
+          let passed = filter_back (λ (entry : Keyed). test entry.0) _ pair told.0 in
+          absurd (let bad : false ≡ true = sym fails ∙ sym (ap test (same_key _ key told.1)) ∙ passed.1 in cc)
 
   -- the state with only the entries whose keys pass the test
   abbrev pub with_passing : State → State
@@ -193,15 +173,12 @@ module _ (test : Key → Bool) where
   -- at a key that passes the test, the state with only the passing entries has the same body as the
   -- whole state
   pub live_kept : (state : State) (key : Key) → test key ≡ true → live_table (with_passing state) key ≡ live_table state key
-  live_kept state key passes =
-      ap (λ (found : Option Keyed).
-      option_and_then (λ (entry : Entry). body_of entry.op) (option_and_then (λ (pair : Keyed). Some pair.1) found)) (find_kept key passes state.entries)
+  live_kept state key passes = ap (λ (found : Option Keyed).
+      option_and_then (λ (entry : Entry). body_of entry.op) (option_and_then (λ (pair : Keyed). Some pair.1) found)) (find_kept _ passes _)
 
   -- at a key that fails the test, the state with only the passing entries has no body
   pub live_dropped : (state : State) (key : Key) → test key ≡ false → live_table (with_passing state) key ≡ None
-  live_dropped state key fails = live_none (with_passing state) key (find_dropped key fails state.entries)
-
--- ---- the keys that the docker of a place needs can be found from the entries
+  live_dropped = search (rules, live_none, find_dropped)
 
 -- whether the entry is a live schedule that has the UID and calls at the place
 abbrev pub calls_as : List ℕ → List ℕ → Keyed → Bool
@@ -229,13 +206,11 @@ is_needed place entries (schedule_key key) = is_concerned place entries key.uid
 
 -- `a || b` is true if `b` is true
 pub or_right : (a b : Bool) → b ≡ true → (a || b) ≡ true
-or_right true b h = refl
-or_right false b h = h
+or_right = search rules
 
 -- `a || b` is true if `a` is true
 pub or_left : (a b : Bool) → a ≡ true → (a || b) ≡ true
-or_left true b h = refl
-or_left false b h = absurd (let bad : false ≡ true = h in cc)
+or_left = search rules
 
 -- if the docker of the place needs a key, the key passes the test `is_needed`
 pub needed_passes : (place : List ℕ) (state : State) (key : Key) → IsNeeded (live_table state) place key → is_needed place state.entries key ≡ true
@@ -245,34 +220,19 @@ needed_passes place state (schedule_key key) concerned = by concerned
   where
     by : HasCall (live_table state) place key.uid ⊎ IsNamed (live_table state) place key.uid → is_concerned place state.entries key.uid ≡ true
     by (inl call) =
-        let found = live_entry state (schedule_key call.key) (schedule_body call.lines) call.calling.is_live in
-        let calls : is_call place found.0.op ≡ true = ap (is_call place) found.2 ∙ (calls_test place call.lines).1 call.calling.calls in
-        let passes = and_true (bytes_eq call.key.uid key.uid) (is_call place found.0.op) ((bytes_eq-Decides call.key.uid key.uid).1 call.uid_is) calls in
-        or_right (list_any (names_as place key.uid) state.entries) (list_any (calls_as place key.uid) state.entries)
-        (any_forth (calls_as place key.uid) state.entries (schedule_key call.key, found.0) found.1 passes)
+        let found = live_entry state _ (schedule_body call.lines) call.calling.is_live in
+        let calls : is_call place found.0.op ≡ true = ap (is_call place) found.2 ∙ (calls_test _ call.lines).1 call.calling.calls in
+        let passes = and_true _ (is_call place found.0.op) ((bytes_eq-Decides call.key.uid key.uid).1 call.uid_is) calls in
+        or_right _ (list_any (calls_as place key.uid) state.entries) (any_forth _ state.entries _ found.1 passes)
     by (inr named) =
-        let found = live_entry state (association_key named.key) (association_body named.line) named.linked.is_live in
+        let found = live_entry state _ (association_body named.line) named.linked.is_live in
         let names : is_name key.uid (name_in (association_key named.key) found.0.op) ≡ true =
         ap (λ op. is_name key.uid (name_in (association_key named.key) op)) found.2 ∙ (bytes_eq-Decides named.key.associated key.uid).1 named.associated_is in
-        let passes =
-        and_true (bytes_eq named.key.location place) (is_name key.uid (name_in (association_key named.key) found.0.op))
+        let passes = and_true _ (is_name key.uid (name_in (association_key named.key) found.0.op))
         ((bytes_eq-Decides named.key.location place).1 named.linked.here) names in
-        or_left (list_any (names_as place key.uid) state.entries) (list_any (calls_as place key.uid) state.entries)
-        (any_forth (names_as place key.uid) state.entries (association_key named.key, found.0) found.1 passes)
+        or_left _ (list_any (calls_as place key.uid) state.entries) (any_forth _ state.entries _ found.1 passes)
 
 -- if a state keeps only the entries whose keys pass the test `is_needed`, the result is an excerpt
 -- of the state
 pub passing_is_excerpt : (place : List ℕ) (state : State) → IsExcerptState place state (with_passing (is_needed place state.entries) state)
-passing_is_excerpt place state = record {
-  horizon = refl;
-  ledger = refl;
-  entries = sublist_filter (λ (entry : Keyed). is_needed place state.entries entry.0) state.entries;
-  live = λ key. by key (is_needed place state.entries key) refl;
-}
-  where
-    by : (key : Key) (b : Bool) → is_needed place state.entries key ≡ b
-        → (live_table (with_passing (is_needed place state.entries) state) key ≡ live_table state key)
-        ⊎ ((live_table (with_passing (is_needed place state.entries) state) key ≡ None) × ¬ IsNeeded (live_table state) place key)
-    by key true h = inl (live_kept (is_needed place state.entries) state key h)
-    by key false h =
-        inr (live_dropped (is_needed place state.entries) state key h, λ needed. (let bad : false ≡ true = sym h ∙ needed_passes place state key needed in cc))
+passing_is_excerpt = search (rules, sublist_filter, live_kept, live_dropped, needed_passes)

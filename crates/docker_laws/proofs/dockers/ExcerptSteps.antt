@@ -1,25 +1,25 @@
 -- Lemmas on the walk that computes an excerpt. They say which entries are in the field `kept` after
 -- each step and at the end. In key order the schedules of one UID are next to each other. The walk
 -- collects them in the field `run`, and then keeps or drops them together.
-use Rattle.std.proofs.Common.{All, ◌≡◌, ℕ, List, [], ◌∷◌, ◌++◌, subst, inl, inr, ◌⊎◌, refl, ap, sym}
+use Rattle.std.proofs.Common.{All, ◌≡◌, ℕ, List, [], ◌∷◌, ◌++◌, subst, inl, inr, ◌⊎◌, refl, ap, sym, arith, rules}
+use Rattle.std.proofs.lemmas.Grind.{common_steps}
 use Rattle.std.proofs.Common.{◌∙◌, Bool, true, false, cond, Some, Contains, append-nil, append_assoc}
 use Rattle.std.specs.Prelude.{Option, ◌||◌, ◌↔◌, filter, fold, option_and_then}
 use Rattle.std.specs.List.{list_any}
-use Rattle.std.specs.Str.{bytes_eq}
 use Rattle.std.specs.Ordering.{on}
 use Rattle.std.proofs.lemmas.Slice.Eq.{bytes_eq-Decides}
 use Rattle.std.proofs.lemmas.List.Elements.{filter-append, filter_map-append, Contains-append_cases, Contains-append_right}
 use Rattle.std.proofs.lemmas.List.Folds.{list_any-append}
 use Rattle.docker_model.specs.file.Change.{Key, tiploc_key, association_key, schedule_key, AssociationKey}
-use Rattle.docker_model.specs.file.Change.{ScheduleKey, tiploc_body, association_body, schedule_body}
+use Rattle.docker_model.specs.file.Change.{ScheduleKey, association_body, schedule_body}
 use Rattle.docker_model.specs.file.Journey.{CallsAt}
-use Rattle.docker_model.specs.state.Op.{Op, deleted, lapsed, put_with, Entry, body_of, key_cmp}
+use Rattle.docker_model.specs.state.Op.{Op, put_with, Entry, body_of, key_cmp}
 use Rattle.docker_model.specs.state.Order.{IsBelow}
 use Rattle.docker_model.specs.state.Stamp.{LedgerItem}
 use Rattle.docker_model.specs.state.State.{State, AreAscending, AreEntries, live_table}
 use Rattle.docker_laws.specs.Excerpt.{IsNeeded, IsConcerned, IsSublist}
 use Rattle.docker_laws.specs.ExcerptWalk.{ExcerptSoFar, nothing_kept, is_here, has_uid, name_in, names_in, is_call, is_run_named, is_run_calling}
-use Rattle.docker_laws.specs.ExcerptWalk.{is_run_needed, kept_after_run, goes_on, with_entry_of, next_kept, kept_from, kept_so_far, excerpt_for}
+use Rattle.docker_laws.specs.ExcerptWalk.{is_run_needed, kept_after_run, goes_on, with_entry_of, next_kept, kept_so_far, excerpt_for}
 use Rattle.cif_laws.proofs.orders.Ascending.{later_of}
 use Rattle.cif_laws.proofs.lists.Membership.{member_of, cons-Contains-first, nil-Contains, Contains-single}
 use Rattle.docker_laws.proofs.dockers.Sublists.{sublist_itself, sublist_append, sublist_onward, sublist_member, sublist_front}
@@ -34,19 +34,12 @@ use Rattle.docker_laws.proofs.dockers.ExcerptWalk.{false_true, uid_once, above_u
 -- ---- a property that each step of a walk preserves holds after each step
 
 fold_more : {A B : Type 0} (f : B → A → B) (first : B) (xs ys : List A) → fold f first (xs ++ ys) ≡ fold f (fold f first xs) ys
-fold_more f first [] ys = refl
-fold_more f first (x ∷ xs) ys = fold_more f (f first x) xs ys
+fold_more = grind (common_steps, arith)
 
 -- `next_kept` computes the fields `kept` and `run` after the walk passes one more entry
 pub so_far_more : (place : List ℕ) (entries : List Keyed) (entry : Keyed)
     → kept_so_far place (entries ++ entry ∷ []) ≡ next_kept place (kept_so_far place entries) entry
 so_far_more place entries entry = fold_more (next_kept place) nothing_kept entries (entry ∷ [])
-
--- a walk that stops after some entries, and then continues over the rest, keeps the same entries as
--- one walk over all entries
-pub kept_from_there : (place : List ℕ) (front rest : List Keyed)
-    → kept_from place (kept_so_far place front) rest ≡ kept_after_run place (kept_so_far place (front ++ rest))
-kept_from_there place front rest = ap (kept_after_run place) (sym (fold_more (next_kept place) nothing_kept front rest))
 
 -- a property that holds before the first entry, and that each step of the walk preserves, holds
 -- after each entry
@@ -54,9 +47,7 @@ module _ (place : List ℕ) (P : List Keyed → ExcerptSoFar → Type 0)
     (step : (done : List Keyed) (so_far : ExcerptSoFar) (x : Keyed) → P done so_far → P (done ++ x ∷ []) (next_kept place so_far x)) where
   onward : (rest done : List Keyed) (so_far : ExcerptSoFar) → P done so_far → P (done ++ rest) (fold (next_kept place) so_far rest)
   onward [] done so_far here = subst (λ xs. P xs so_far) (sym (append-nil done)) here
-  onward (x ∷ rest) done so_far here =
-      subst (λ xs. P xs (fold (next_kept place) (next_kept place so_far x) rest)) (append_assoc done (x ∷ []) rest)
-      (onward rest (done ++ x ∷ []) (next_kept place so_far x) (step done so_far x here))
+  onward (x ∷ rest) done so_far here = grind (arith, append_assoc, (onward rest (done ++ x ∷ []) (next_kept place so_far x) (step done so_far x here)))
 
   all_along : P [] nothing_kept → (entries : List Keyed) → P entries (kept_so_far place entries)
   all_along first entries = onward entries [] nothing_kept first
@@ -65,58 +56,35 @@ module _ (place : List ℕ) (P : List Keyed → ExcerptSoFar → Type 0)
 
 -- the result of `kept_after_run` is a sublist of the concatenation of `kept` and `run`
 pub after_run_within : (place : List ℕ) (so_far : ExcerptSoFar) → IsSublist (kept_after_run place so_far) (so_far.kept ++ so_far.run)
-after_run_within place so_far = by (is_run_needed place so_far)
-  where
-    by : (b : Bool) → IsSublist (cond b (so_far.kept ++ so_far.run) so_far.kept) (so_far.kept ++ so_far.run)
-    by true = sublist_itself (so_far.kept ++ so_far.run)
-    by false = sublist_front so_far.kept so_far.run
+after_run_within = search (rules, sublist_itself, sublist_front)
 
 module _ (place : List ℕ) where
   abbrev Within : List Keyed → ExcerptSoFar → Type 0
   Within done so_far = IsSublist (so_far.kept ++ so_far.run) done
 
   closed_within : (done : List Keyed) (so_far : ExcerptSoFar) (x : Keyed) → Within done so_far → IsSublist (kept_after_run place so_far) done
-  closed_within done so_far x here =
-      sublist_onward (kept_after_run place so_far) (so_far.kept ++ so_far.run) done (after_run_within place so_far) here
+  closed_within = search (rules, sublist_onward, after_run_within)
 
   with_last : (done : List Keyed) (so_far : ExcerptSoFar) (x : Keyed) → Within done so_far
       → IsSublist (kept_after_run place so_far ++ x ∷ []) (done ++ x ∷ [])
-  with_last done so_far x here =
-      sublist_append (kept_after_run place so_far) done (x ∷ []) (x ∷ []) (closed_within done so_far x here) (sublist_itself (x ∷ []))
+  with_last = search (rules, sublist_append, closed_within, sublist_itself)
 
   without_last : (done : List Keyed) (so_far : ExcerptSoFar) (x : Keyed) → Within done so_far
       → IsSublist (kept_after_run place so_far) (done ++ x ∷ [])
-  without_last done so_far x here =
-      sublist_onward (kept_after_run place so_far) done (done ++ x ∷ []) (closed_within done so_far x here) (sublist_front done (x ∷ []))
+  without_last = search (rules, sublist_onward, closed_within, sublist_front)
 
   within_schedule : (done : List Keyed) (so_far : ExcerptSoFar) (key : ScheduleKey) (entry : Entry) → Within done so_far
       → Within (done ++ (schedule_key key, entry) ∷ []) (with_entry_of place so_far (schedule_key key) entry)
-  within_schedule done so_far key entry here = by (goes_on so_far.run key.uid)
-    where
-      x : Keyed
-      x = (schedule_key key, entry)
-
-      by : (b : Bool) → Within (done ++ (schedule_key key, entry) ∷ [])
-          (cond b (record { kept = so_far.kept; run = so_far.run ++ (schedule_key key, entry) ∷ [] })
-          (record { kept = kept_after_run place so_far; run = (schedule_key key, entry) ∷ [] }))
-      by true =
-          subst (λ xs. IsSublist xs (done ++ x ∷ [])) (append_assoc so_far.kept so_far.run (x ∷ []))
-          (sublist_append (so_far.kept ++ so_far.run) done (x ∷ []) (x ∷ []) here (sublist_itself (x ∷ [])))
-      by false = with_last done so_far x here
+  within_schedule = search (rules, append_assoc, sublist_append, sublist_itself, with_last)
 
   within_other : (done : List Keyed) (so_far : ExcerptSoFar) (x : Keyed) (b : Bool) → Within done so_far
       → Within (done ++ x ∷ [])
       (cond b (record { kept = kept_after_run place so_far ++ x ∷ []; run = [] }) (record { kept = kept_after_run place so_far; run = [] }))
-  within_other done so_far x true here =
-      subst (λ xs. IsSublist xs (done ++ x ∷ [])) (sym (append-nil (kept_after_run place so_far ++ x ∷ []))) (with_last done so_far x here)
-  within_other done so_far x false here =
-      subst (λ xs. IsSublist xs (done ++ x ∷ [])) (sym (append-nil (kept_after_run place so_far))) (without_last done so_far x here)
+  within_other = search (rules, append-nil, with_last, without_last)
 
   within_more : (done : List Keyed) (so_far : ExcerptSoFar) (key : Key) (entry : Entry) → Within done so_far
       → Within (done ++ (key, entry) ∷ []) (with_entry_of place so_far key entry)
-  within_more done so_far (schedule_key key) entry here = within_schedule done so_far key entry here
-  within_more done so_far (tiploc_key code) entry here = within_other done so_far (tiploc_key code, entry) (is_here place (tiploc_key code)) here
-  within_more done so_far (association_key key) entry here = within_other done so_far (association_key key, entry) (is_here place (association_key key)) here
+  within_more = search (rules, within_schedule, within_other)
 
   -- the entries in `kept`, followed by the entries in `run`, are a sublist of the entries that the
   -- walk has passed
@@ -127,8 +95,7 @@ module _ (place : List ℕ) where
   -- `kept` and `run`
   pub so_far_good : (ledger : List LedgerItem) (entries : List Keyed) → AreEntries ledger entries
       → AreEntries ledger ((kept_so_far place entries).kept ++ (kept_so_far place entries).run)
-  so_far_good ledger entries are =
-      some_entries ledger ((kept_so_far place entries).kept ++ (kept_so_far place entries).run) entries are (so_far_within entries)
+  so_far_good = search (rules, some_entries, so_far_within)
 
   -- ---- all entries in the field `run` have the same UID
 
@@ -136,8 +103,7 @@ module _ (place : List ℕ) where
   OfOneUid done so_far = (uid : List ℕ) × ((r : Keyed) → Contains so_far.run r → has_uid uid r.0 ≡ true)
 
   goes_first : (run : List Keyed) (uid : List ℕ) → goes_on run uid ≡ true → (first : Keyed) × Contains run first × (has_uid uid first.0 ≡ true)
-  goes_first [] uid h = false_true h
-  goes_first (first ∷ run) uid h = (first, cons-Contains-first first run, h)
+  goes_first = search (rules, false_true, cons-Contains-first)
 
   one_uid_schedule : (done : List Keyed) (so_far : ExcerptSoFar) (key : ScheduleKey) (entry : Entry) → OfOneUid done so_far
       → OfOneUid (done ++ (schedule_key key, entry) ∷ []) (with_entry_of place so_far (schedule_key key) entry)
@@ -162,8 +128,7 @@ module _ (place : List ℕ) where
 
   one_uid_other : (done : List Keyed) (so_far : ExcerptSoFar) (x : Keyed) (b : Bool)
       → OfOneUid done (cond b (record { kept = kept_after_run place so_far ++ x ∷ []; run = [] }) (record { kept = kept_after_run place so_far; run = [] }))
-  one_uid_other done so_far x true = ([], λ r among. absurd (nil-Contains r among))
-  one_uid_other done so_far x false = ([], λ r among. absurd (nil-Contains r among))
+  one_uid_other = search (rules, nil-Contains)
 
   one_uid_more : (done : List Keyed) (so_far : ExcerptSoFar) (key : Key) (entry : Entry) → OfOneUid done so_far
       → OfOneUid (done ++ (key, entry) ∷ []) (with_entry_of place so_far key entry)
@@ -186,12 +151,11 @@ module _ (place : List ℕ) where
   -- because TIPLOCs and associations come before all schedules
   pub no_run_before : (entries : List Keyed) (key : Key) → All (λ (e : Keyed). IsBelow key_cmp e.0 key) entries
       → ((uid : List ℕ) → has_uid uid key ≡ false) → (kept_so_far place entries).run ≡ []
-  no_run_before entries key above never =
-      no_member (kept_so_far place entries).run (λ r among.
+  no_run_before entries key above never = no_member _ (λ r among.
       let of = run_of_one_uid entries in
-      let inside = sublist_member ((kept_so_far place entries).kept ++ (kept_so_far place entries).run) entries r (so_far_within entries)
+      let inside = sublist_member _ entries _ (so_far_within entries)
       (Contains-append_right (kept_so_far place entries).kept (kept_so_far place entries).run r among) in
-      let is = above_uid r.0 key of.0 (member_of (λ (e : Keyed). IsBelow key_cmp e.0 key) entries r above inside) (of.1 r among) in
+      let is = above_uid _ key _ (member_of (λ (e : Keyed). IsBelow key_cmp e.0 key) _ r above inside) (of.1 r among) in
       false_true (sym (never is.0) ∙ is.1))
 
   -- ---- the entries in `kept` name the associated trains of all associations at the place
@@ -206,51 +170,16 @@ module _ (place : List ℕ) where
   AreNamed done so_far = (names_in so_far.kept ≡ names_in (at_place done)) × (names_in so_far.run ≡ [])
 
   names_after_run : (done : List Keyed) (so_far : ExcerptSoFar) → AreNamed done so_far → names_in (kept_after_run place so_far) ≡ names_in (at_place done)
-  names_after_run done so_far here = by (is_run_needed place so_far)
-    where
-      by : (b : Bool) → names_in (cond b (so_far.kept ++ so_far.run) so_far.kept) ≡ names_in (at_place done)
-      by true =
-          names_more so_far.kept so_far.run
-          ∙ ap (λ (names : List (List ℕ)). names_in so_far.kept ++ names) here.1
-          ∙ append-nil (names_in so_far.kept)
-          ∙ here.0
-      by false = here.0
+  names_after_run = search (rules, names_more, append-nil)
 
   named_schedule : (done : List Keyed) (so_far : ExcerptSoFar) (key : ScheduleKey) (entry : Entry) → AreNamed done so_far
       → AreNamed (done ++ (schedule_key key, entry) ∷ []) (with_entry_of place so_far (schedule_key key) entry)
-  named_schedule done so_far key entry here = by (goes_on so_far.run key.uid)
-    where
-      same : at_place (done ++ (schedule_key key, entry) ∷ []) ≡ at_place done
-      same = filter-append (λ (e : Keyed). is_here place e.0) done ((schedule_key key, entry) ∷ []) ∙ append-nil (at_place done)
-
-      by : (b : Bool) → AreNamed (done ++ (schedule_key key, entry) ∷ [])
-          (cond b (record { kept = so_far.kept; run = so_far.run ++ (schedule_key key, entry) ∷ [] })
-          (record { kept = kept_after_run place so_far; run = (schedule_key key, entry) ∷ [] }))
-      by true = (
-        here.0 ∙ ap names_in (sym same),
-        names_more so_far.run ((schedule_key key, entry) ∷ []) ∙ append-nil (names_in so_far.run) ∙ here.1,
-      )
-      by false = (names_after_run done so_far here ∙ ap names_in (sym same), refl)
+  named_schedule = search (rules, filter-append, append-nil, names_more, names_after_run)
 
   named_other : (done : List Keyed) (so_far : ExcerptSoFar) (x : Keyed) (b : Bool) → is_here place x.0 ≡ b → AreNamed done so_far
       → AreNamed (done ++ x ∷ [])
       (cond b (record { kept = kept_after_run place so_far ++ x ∷ []; run = [] }) (record { kept = kept_after_run place so_far; run = [] }))
-  named_other done so_far x b h here = by b same
-    where
-      same : at_place (done ++ x ∷ []) ≡ at_place done ++ cond b (x ∷ []) []
-      same =
-          filter-append (λ (e : Keyed). is_here place e.0) done (x ∷ []) ∙ (λ i. at_place done ++ cond (h i) (x ∷ []) [])
-
-      by : (c : Bool) → at_place (done ++ x ∷ []) ≡ at_place done ++ cond c (x ∷ []) []
-          → AreNamed (done ++ x ∷ []) (cond c (record { kept = kept_after_run place so_far ++ x ∷ []; run = [] })
-          (record { kept = kept_after_run place so_far; run = [] }))
-      by true is = (
-        names_more (kept_after_run place so_far) (x ∷ [])
-            ∙ ap (λ (names : List (List ℕ)). names ++ names_in (x ∷ [])) (names_after_run done so_far here)
-            ∙ sym (ap names_in is ∙ names_more (at_place done) (x ∷ [])),
-        refl,
-      )
-      by false is = (names_after_run done so_far here ∙ sym (ap names_in (is ∙ append-nil (at_place done))), refl)
+  named_other = search (rules, filter-append, names_more, names_after_run, append-nil)
 
   named_more : (done : List Keyed) (so_far : ExcerptSoFar) (key : Key) (entry : Entry) → AreNamed done so_far
       → AreNamed (done ++ (key, entry) ∷ []) (with_entry_of place so_far key entry)
@@ -268,36 +197,19 @@ module _ (place : List ℕ) where
   -- before
   pub names_stay : (entries : List Keyed) (key : ScheduleKey) (entry : Entry)
       → names_in (kept_so_far place (entries ++ (schedule_key key, entry) ∷ [])).kept ≡ names_in (kept_so_far place entries).kept
-  names_stay entries key entry =
-      let same : at_place (entries ++ (schedule_key key, entry) ∷ []) ≡ at_place entries =
-      filter-append (λ (e : Keyed). is_here place e.0) entries ((schedule_key key, entry) ∷ []) ∙ append-nil (at_place entries) in
-      names_so_far (entries ++ (schedule_key key, entry) ∷ []) ∙ ap names_in same ∙ sym (names_so_far entries)
-
--- ---- each step of the walk keeps, drops or postpones an entry
+  names_stay = search (rules, filter-append, append-nil, names_so_far)
 
 module _ (place : List ℕ) (so_far : ExcerptSoFar) where
   -- a schedule that has the UID of the entries in `run` is appended to `run`
   pub joins_run : (key : ScheduleKey) (entry : Entry) → goes_on so_far.run key.uid ≡ true
       → next_kept place so_far (schedule_key key, entry) ≡ record { kept = so_far.kept; run = so_far.run ++ (schedule_key key, entry) ∷ [] }
-  joins_run key entry goes = λ i.
-      cond (goes i) (record { kept = so_far.kept; run = so_far.run ++ (schedule_key key, entry) ∷ [] })
-      (record { kept = kept_after_run place so_far; run = (schedule_key key, entry) ∷ [] })
+  joins_run = search rules
 
   -- when the walk comes to a schedule whose UID isn't the UID of the entries in `run`, it keeps or
   -- drops these entries. After this step, `run` has only the schedule
   pub begins_run : (key : ScheduleKey) (entry : Entry) → goes_on so_far.run key.uid ≡ false
       → next_kept place so_far (schedule_key key, entry) ≡ record { kept = kept_after_run place so_far; run = (schedule_key key, entry) ∷ [] }
-  begins_run key entry stops = λ i.
-      cond (stops i) (record { kept = so_far.kept; run = so_far.run ++ (schedule_key key, entry) ∷ [] })
-      (record { kept = kept_after_run place so_far; run = (schedule_key key, entry) ∷ [] })
-
-  -- if the docker needs the entries in `run`, `kept_after_run` appends them to the kept entries
-  pub keeps_run : is_run_needed place so_far ≡ true → kept_after_run place so_far ≡ so_far.kept ++ so_far.run
-  keeps_run needed = λ i. cond (needed i) (so_far.kept ++ so_far.run) so_far.kept
-
-  -- if the docker doesn't need the entries in `run`, `kept_after_run` drops them
-  pub drops_run : is_run_needed place so_far ≡ false → kept_after_run place so_far ≡ so_far.kept
-  drops_run unneeded = λ i. cond (unneeded i) (so_far.kept ++ so_far.run) so_far.kept
+  begins_run = search rules
 
   -- if the field `run` is empty, `kept_after_run` leaves the kept entries unchanged
   pub ends_none : so_far.run ≡ [] → kept_after_run place so_far ≡ so_far.kept
@@ -307,20 +219,16 @@ module _ (place : List ℕ) (so_far : ExcerptSoFar) where
       → ◌≡◌ {A = ExcerptSoFar}
       (cond b (record { kept = kept_after_run place so_far ++ x ∷ []; run = [] }) (record { kept = kept_after_run place so_far; run = [] }))
       (record { kept = so_far.kept ++ x ∷ []; run = [] })
-  here_then x true h none = λ i. record { kept = ends_none none i ++ x ∷ []; run = [] }
-  here_then x false h none = false_true h
+  here_then = search (rules, ends_none, false_true)
 
   -- the TIPLOC of the place is kept, and so is an association at the place
   pub keeps_here : (key : Key) (entry : Entry) → is_here place key ≡ true → so_far.run ≡ []
       → next_kept place so_far (key, entry) ≡ record { kept = so_far.kept ++ (key, entry) ∷ []; run = [] }
-  keeps_here (schedule_key key) entry here none = false_true here
-  keeps_here (tiploc_key code) entry here none = here_then (tiploc_key code, entry) (is_here place (tiploc_key code)) here none
-  keeps_here (association_key key) entry here none = here_then (association_key key, entry) (is_here place (association_key key)) here none
+  keeps_here = search (rules, false_true, here_then)
 
   elsewhere_then : (x : Keyed) (b : Bool) → b ≡ false → so_far.run ≡ []
       → cond b (record { kept = kept_after_run place so_far ++ x ∷ []; run = [] }) (record { kept = kept_after_run place so_far; run = [] }) ≡ so_far
-  elsewhere_then x true h none = absurd (let bad : true ≡ false = h in cc)
-  elsewhere_then x false h none = let back : [] ≡ so_far.run = sym none in λ i. record { kept = ends_none none i; run = back i }
+  elsewhere_then = search (rules, ends_none)
 
   -- passing the TIPLOC of a place other than the excerpt's place, or an association at such a
   -- place, leaves `kept` and `run` unchanged
@@ -328,19 +236,12 @@ module _ (place : List ℕ) (so_far : ExcerptSoFar) where
       → next_kept place so_far (key, entry) ≡ so_far
   drops_elsewhere (schedule_key key) entry never elsewhere none = false_true (sym (never key.uid) ∙ (bytes_eq-Decides key.uid key.uid).1 refl)
   drops_elsewhere (tiploc_key code) entry never elsewhere none = elsewhere_then (tiploc_key code, entry) (is_here place (tiploc_key code)) elsewhere none
-  drops_elsewhere (association_key key) entry never elsewhere none =
-      elsewhere_then (association_key key, entry) (is_here place (association_key key)) elsewhere none
+  drops_elsewhere (association_key key) entry never elsewhere none = search (rules, elsewhere_then)
 
--- `is_run_named` holds for a list of schedules if and only if the UID of the first schedule is in
 -- `names`
 pub named_iff : (names : List (List ℕ)) (key : ScheduleKey) (entry : Entry) (others : List Keyed)
     → (is_run_named names ((schedule_key key, entry) ∷ others) ≡ true) ↔ Contains names key.uid
-named_iff names key entry others = (
-  λ h.
-      let found = any_back (λ name. bytes_eq key.uid name) names h in
-      subst (Contains names) (sym ((bytes_eq-Decides key.uid found.0).0 found.2)) found.1,
-  λ among. any_forth (λ name. bytes_eq key.uid name) names key.uid among ((bytes_eq-Decides key.uid key.uid).1 refl),
-)
+named_iff = grind (common_steps, arith, any_back, bytes_eq-Decides, any_forth)
 
 -- the docker needs the schedules in `run` if and only if one of two things is true. Either their
 -- UID belongs to the associated train of a kept association, or one of these schedules is live and
@@ -371,16 +272,13 @@ run_needed_iff place so_far key entry others is =
 
 -- for any Boolean `b`, "`b` or false" is `b`
 pub or_false : (b : Bool) → (b || false) ≡ b
-or_false true = refl
-or_false false = refl
+or_false = search rules
 
 -- `is_run_calling` holds for a list with one more entry if it holds for the list, or if the new
 -- entry is a schedule that calls at the place. Otherwise it doesn't hold
 pub calls_more : (place : List ℕ) (run : List Keyed) (entry : Keyed)
     → is_run_calling place (run ++ entry ∷ []) ≡ (is_run_calling place run || is_call place entry.1.op)
-calls_more place run entry =
-    list_any-append (λ (e : Keyed). is_call place e.1.op) run (entry ∷ [])
-    ∙ ap (λ b. is_run_calling place run || b) (or_false (is_call place entry.1.op))
+calls_more = search (rules, list_any-append, or_false)
 
 -- if an entry is appended to a list, the UID of the entry's associated train is appended to the
 -- UIDs that the list names. If the entry has no associated train, these UIDs are unchanged
@@ -396,11 +294,7 @@ live_of state up key entry among =
     ap (λ (found : Option Entry). option_and_then (λ (e : Entry). body_of e.op) found) ((entry_at_iff state up key entry).1 among)
 
 call_back : (place : List ℕ) (op : Op) → is_call place op ≡ true → (lines : List (List ℕ)) × (op ≡ put_with (schedule_body lines)) × CallsAt place lines
-call_back place deleted h = false_true h
-call_back place lapsed h = false_true h
-call_back place (put_with (tiploc_body bytes)) h = false_true h
-call_back place (put_with (association_body line)) h = false_true h
-call_back place (put_with (schedule_body lines)) h = (lines, refl, (calls_test place lines).0 h)
+call_back = search (rules, false_true, calls_test)
 
 -- the entry is a live association whose associated train has this UID
 record NamesIt (key : Key) (op : Op) (name : List ℕ) : Type 0 where
@@ -411,24 +305,14 @@ record NamesIt (key : Key) (op : Op) (name : List ℕ) : Type 0 where
   name_is : association.associated ≡ name
 
 name_back : (key : Key) (op : Op) (name : List ℕ) → name_in key op ≡ Some name → NamesIt key op name
-name_back (association_key key) (put_with (association_body line)) name h =
-    let same : key.associated ≡ name = cc in record { association = key; line = line; key_is = refl; op_is = refl; name_is = same }
-name_back (association_key key) (put_with (tiploc_body bytes)) name h = none_some name h
-name_back (association_key key) (put_with (schedule_body lines)) name h = none_some name h
-name_back (association_key key) deleted name h = none_some name h
-name_back (association_key key) lapsed name h = none_some name h
-name_back (tiploc_key code) op name h = none_some name h
-name_back (schedule_key key) op name h = none_some name h
+name_back = search (rules, none_some)
 
 uid_back : (uid : List ℕ) (key : Key) → has_uid uid key ≡ true → (schedule : ScheduleKey) × (key ≡ schedule_key schedule) × (schedule.uid ≡ uid)
-uid_back uid (schedule_key key) h = (key, refl, (bytes_eq-Decides key.uid uid).0 h)
-uid_back uid (tiploc_key code) h = false_true h
-uid_back uid (association_key key) h = false_true h
+uid_back = search (rules, bytes_eq-Decides, false_true)
 
 at_location : (place : List ℕ) (key : Key) (association : AssociationKey) → key ≡ association_key association → is_here place key ≡ true
     → association.location ≡ place
-at_location place key association is here =
-    (bytes_eq-Decides association.location place).0 (subst (λ k. is_here place k ≡ true) is here)
+at_location = search (rules, bytes_eq-Decides)
 
 module _ (place : List ℕ) (state : State) (up : AreAscending state.entries) where
   concerned_back : (uid : List ℕ) → (list_any (names_as place uid) state.entries ≡ true) ⊎ (list_any (calls_as place uid) state.entries ≡ true)
@@ -463,10 +347,7 @@ module _ (place : List ℕ) (state : State) (up : AreAscending state.entries) wh
       })
 
   passes_needed : (key : Key) → is_needed place state.entries key ≡ true → IsNeeded (live_table state) place key
-  passes_needed (tiploc_key code) h = (bytes_eq-Decides code place).0 h
-  passes_needed (association_key key) h = (bytes_eq-Decides key.location place).0 h
-  passes_needed (schedule_key key) h =
-      concerned_back key.uid (either (list_any (names_as place key.uid) state.entries) (list_any (calls_as place key.uid) state.entries) h)
+  passes_needed = search (rules, bytes_eq-Decides, concerned_back, either, names_as, calls_as)
 
   -- an entry is in the excerpt if and only if it is in the state and the docker of the place needs
   -- the entry's key
@@ -474,9 +355,9 @@ module _ (place : List ℕ) (state : State) (up : AreAscending state.entries) wh
       → Contains (excerpt_for place state).entries (key, entry) ↔ (Contains state.entries (key, entry) × IsNeeded (live_table state) place key)
   excerpt_members key entry =
       subst (λ (kept : List Keyed). Contains kept (key, entry) ↔ (Contains state.entries (key, entry) × IsNeeded (live_table state) place key))
-      (sym (walk_keeps place state.entries (later_of (on (λ (e : Keyed). e.0) key_cmp) state.entries up))) (
+      (sym (walk_keeps place _ (later_of (on (λ (e : Keyed). e.0) key_cmp) _ up))) (
         λ among.
-            let told = filter_back (λ (e : Keyed). is_needed place state.entries e.0) state.entries (key, entry) among in
-            (told.0, passes_needed key told.1),
-        λ told. filter_forth (λ (e : Keyed). is_needed place state.entries e.0) state.entries (key, entry) told.0 (needed_passes place state key told.1),
+            let told = filter_back (λ (e : Keyed). is_needed place state.entries e.0) _ (key, entry) among in
+            (told.0, passes_needed _ told.1),
+        λ told. filter_forth (λ (e : Keyed). is_needed place state.entries e.0) _ (key, entry) told.0 (needed_passes _ state _ told.1),
       )

@@ -1,6 +1,7 @@
 -- A loop can compute an excerpt from three values. They are the kept entries, the entries for the
 -- schedules of the current UID, and a flag that says whether the docker needs these schedules.
-use Rattle.std.proofs.Common.{◌≡◌, ℕ, List, [], ◌∷◌, ◌++◌, subst, refl, ap, sym, ◌∙◌, Bool, true, false, cond, Contains}
+use Rattle.std.proofs.Common.{◌≡◌, ℕ, List, [], ◌∷◌, ◌++◌, subst, ap, sym, ◌∙◌, Bool, true, false, cond, Contains, arith, rules}
+use Rattle.std.proofs.lemmas.Grind.{common_steps}
 use Rattle.std.specs.Prelude.{◌||◌, ◌↔◌}
 use Rattle.docker_model.specs.file.Change.{Key, schedule_key, ScheduleKey}
 use Rattle.docker_model.specs.state.Op.{Entry}
@@ -8,8 +9,8 @@ use Rattle.docker_model.specs.state.Stamp.{LedgerItem}
 use Rattle.docker_model.specs.state.State.{State, AreEntries}
 use Rattle.docker_model.specs.state.StatePart.{IsAboveEntries}
 use Rattle.docker_laws.specs.Excerpt.{IsSublist}
-use Rattle.docker_laws.specs.ExcerptWalk.{ExcerptSoFar, is_here, has_uid, names_in, is_call, is_run_named, is_run_calling}
-use Rattle.docker_laws.specs.ExcerptWalk.{kept_after_run, goes_on, next_kept, kept_so_far, excerpt_for, HasKept}
+use Rattle.docker_laws.specs.ExcerptWalk.{ExcerptSoFar, is_here, has_uid, names_in, is_call, is_run_named}
+use Rattle.docker_laws.specs.ExcerptWalk.{kept_after_run, goes_on, next_kept, kept_so_far, HasKept}
 use Rattle.state_laws.proofs.states.PlainTable.{Keyed}
 use Rattle.docker_laws.proofs.dockers.ExcerptWalk.{false_true, same_tests}
 use Rattle.docker_laws.proofs.dockers.ExcerptSteps.{so_far_more, so_far_within, so_far_good, no_run_before, names_stay, joins_run}
@@ -19,13 +20,7 @@ abbrev at : List Keyed → List Keyed → ExcerptSoFar
 at kept run = record { kept = kept; run = run }
 
 or_assoc : (a b c : Bool) → (a || (b || c)) ≡ ((a || b) || c)
-or_assoc true b c = refl
-or_assoc false b c = refl
-
--- before the loop comes to the first entry, the lists `kept` and `run` are empty, and the flag says
--- that the docker needs no schedules
-pub kept_first : (place : List ℕ) → HasKept place [] [] [] false
-kept_first place = record { so_far = refl; is_needed = refl }
+or_assoc = search rules
 
 module _ (place : List ℕ) (entries kept run : List Keyed) (needed : Bool) (has : HasKept place entries kept run needed) where
   -- `next_kept` computes the lists `kept` and `run` after the loop passes one more entry
@@ -34,20 +29,13 @@ module _ (place : List ℕ) (entries kept run : List Keyed) (needed : Bool) (has
 
   same_name : (names : List (List ℕ)) (rest : List Keyed) (uid : List ℕ) (x : Keyed) → goes_on rest uid ≡ true
       → is_run_named names (rest ++ x ∷ []) ≡ is_run_named names rest
-  same_name names [] uid x goes = false_true goes
-  same_name names (first ∷ rest) uid x goes = refl
+  same_name = search (rules, false_true)
 
   -- a schedule that has the UID of the entries in `run` is appended to `run`. The docker then needs
   -- these entries if it needed them before, or if the schedule calls at the place
   pub kept_joins : (key : ScheduleKey) (entry : Entry) → goes_on run key.uid ≡ true
       → HasKept place (entries ++ (schedule_key key, entry) ∷ []) kept (run ++ (schedule_key key, entry) ∷ []) (needed || is_call place entry.op)
-  kept_joins key entry goes = record {
-    so_far = next_is (schedule_key key, entry) ∙ joins_run place (at kept run) key entry goes;
-    is_needed =
-        (λ i. same_name (names_in kept) run key.uid (schedule_key key, entry) goes i || calls_more place run (schedule_key key, entry) i)
-        ∙ or_assoc (is_run_named (names_in kept) run) (is_run_calling place run) (is_call place entry.op)
-        ∙ ap (λ b. b || is_call place entry.op) has.is_needed;
-  }
+  kept_joins = search (rules, next_is, joins_run, same_name, calls_more, or_assoc)
 
   -- `kept_after_run` appends the entries in `run` to the kept entries if they are needed, and drops
   -- them otherwise
@@ -56,10 +44,7 @@ module _ (place : List ℕ) (entries kept run : List Keyed) (needed : Bool) (has
 
   began : (key : ScheduleKey) (entry : Entry) → goes_on run key.uid ≡ false
       → kept_so_far place (entries ++ (schedule_key key, entry) ∷ []) ≡ at (cond needed (kept ++ run) kept) ((schedule_key key, entry) ∷ [])
-  began key entry stops =
-      next_is (schedule_key key, entry)
-      ∙ begins_run place (at kept run) key entry stops
-      ∙ ap (λ (xs : List Keyed). at xs ((schedule_key key, entry) ∷ [])) ended
+  began = search (rules, next_is, begins_run, ended)
 
   still_names : (key : ScheduleKey) (entry : Entry) → goes_on run key.uid ≡ false → names_in (cond needed (kept ++ run) kept) ≡ names_in kept
   still_names key entry stops =
@@ -109,24 +94,10 @@ module _ (place : List ℕ) (state : State) (kept run : List Keyed) (needed : Bo
   -- the TIPLOC of the place is kept, and so is an association at the place
   pub kept_here : (key : Key) (entry : Entry) → IsAboveEntries state key → ((uid : List ℕ) → has_uid uid key ≡ false) → is_here place key ≡ true
       → HasKept place (state.entries ++ (key, entry) ∷ []) (kept ++ (key, entry) ∷ []) [] false
-  kept_here key entry above never here = record {
-    so_far = next_is place state.entries kept run needed has (key, entry) ∙ keeps_here place (at kept run) key entry here (kept_alone key above never);
-    is_needed = refl;
-  }
+  kept_here = grind (common_steps, arith, next_is, keeps_here, kept_alone)
 
   -- the TIPLOC of a place other than the excerpt's place isn't kept, and neither is an association
   -- at such a place
   pub kept_elsewhere : (key : Key) (entry : Entry) → IsAboveEntries state key → ((uid : List ℕ) → has_uid uid key ≡ false) → is_here place key ≡ false
       → HasKept place (state.entries ++ (key, entry) ∷ []) kept [] false
-  kept_elsewhere key entry above never elsewhere = record {
-    so_far =
-        next_is place state.entries kept run needed has (key, entry)
-        ∙ drops_elsewhere place (at kept run) key entry never elsewhere (kept_alone key above never)
-        ∙ ap (at kept) (kept_alone key above never);
-    is_needed = refl;
-  }
-
-  -- at the end of the loop, the entries of the excerpt are the entries in `kept`, followed by the
-  -- entries in `run` if the docker needs them
-  pub kept_last : (excerpt_for place state).entries ≡ cond needed (kept ++ run) kept
-  kept_last = ap (kept_after_run place) has.so_far ∙ ended place state.entries kept run needed has
+  kept_elsewhere = grind (common_steps, arith, next_is, drops_elsewhere, kept_alone)

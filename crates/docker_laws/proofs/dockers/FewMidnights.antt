@@ -1,13 +1,9 @@
 -- If the bodies of a table are well formed, its schedules pass midnight at most twice. So each
 -- event is at most two days after the start day of its train.
-use Rattle.std.proofs.Common.{◌≡◌, ℕ, ◌+◌, ◌≤◌, List, take, drop, subst, inl, inr, ◌⊎◌, ap, sym, ◌∙◌, Some, arith}
-use Rattle.std.specs.Prelude.{IsTrue}
+use Rattle.std.proofs.Common.{◌≡◌, ℕ, ◌+◌, ◌≤◌, List, subst, Some, rules}
 use Rattle.std.proofs.lemmas.Bool.{eqb-true}
 use Rattle.std.proofs.lemmas.List.{take-append-drop}
-use Rattle.docker_model.specs.records.Record.{column}
-use Rattle.docker_model.specs.records.Field.{is_deletion}
 use Rattle.docker_model.specs.file.Journey.{times_along, fall_count, midnights}
-use Rattle.docker_model.specs.file.File.{IsSchedule, IsSoundJourney, first_record}
 use Rattle.docker_model.specs.file.Change.{schedule_key, ScheduleKey, schedule_body}
 use Rattle.docker_model.specs.state.Table.{Table}
 use Rattle.docker_model.specs.state.State.{HasGoodBodies, IsScheduleOf}
@@ -23,20 +19,7 @@ HasFewMidnights live = (key : ScheduleKey) (lines : List (List ℕ)) → live (s
 
 -- a well-formed schedule passes midnight at most twice
 pub few_midnights : (key : ScheduleKey) (lines : List (List ℕ)) → IsScheduleOf key lines → midnights lines ≤ 2
-few_midnights key lines of = by of.schedule.sound
-  where
-    is : IsSchedule lines
-    is = of.schedule
-
-    by : IsTrue (is_deletion is.basic) ⊎ IsSoundJourney is.journey → midnights lines ≤ 2
-    by (inl deletion) =
-        let first : column 3 is.basic ≡ 78 = subst (λ (ls : List (List ℕ)). column 3 (first_record ls) ≡ 78) is.whole of.new in
-        let letter : column 3 is.basic ≡ 68 = eqb-true (column 3 is.basic) 68 deletion in
-        absurd (omega (arith, first, letter))
-    by (inr good) =
-        let falls : midnights is.journey ≤ 2 = good.falls in
-        let same : midnights lines ≡ midnights is.journey = ap midnights is.whole ∙ midnights_of_journey is.basic is.extra is.journey is.kind is.details in
-        subst (λ n. n ≤ 2) (sym same) falls
+few_midnights = search (rules, eqb-true, midnights_of_journey)
 
 -- if all bodies of a table are well formed, its schedules pass midnight at most twice
 pub bodies_few : (live : Table) → HasGoodBodies live → HasFewMidnights live
@@ -46,13 +29,8 @@ bodies_few live good key lines is = few_midnights key lines (good (schedule_key 
 
 -- up to an event, a schedule passes midnight at most as often as in its whole journey
 pub falls_below : (lines : List (List ℕ)) (number : ℕ) → falls_to lines number ≤ midnights lines
-falls_below lines number =
-    subst (λ times. falls_to lines number ≤ fall_count times) (take-append-drop number (times_along lines))
-    (fewer_falls (take number (times_along lines)) (drop number (times_along lines)))
+falls_below lines number = subst (λ times. falls_to lines number ≤ fall_count times) (take-append-drop number (times_along lines)) (fewer_falls _ _)
 
 -- a train with an event on a day started at most two days before that day
 pub starts_near : (start : ℕ) (lines : List (List ℕ)) (event : Event) (day : ℕ) → midnights lines ≤ 2 → event_day start lines event ≡ day → day ≤ start + 2
-starts_near start lines event day few today =
-    let falls = falls_below lines event.number in
-    let is : start + falls_to lines event.number ≡ day = today in
-    omega arith
+starts_near = search (rules, falls_below)

@@ -1,20 +1,21 @@
 -- The state that is computed from the changes of one file, entry by entry, is the summary of the
 -- file. The join of an empty state with a valid state is the valid state.
-use Rattle.std.proofs.Common.{◌≡◌, ℕ, List, [], ◌∷◌, length, append-nil, refl, ap, sym, ◌∙◌, subst, inl}
-use Rattle.std.proofs.Common.{inr, ◌⊎◌, Some, None, Bool, true, false, Contains, All, ◌≤◌, arith}
+use Rattle.std.proofs.Common.{◌≡◌, ℕ, List, [], ◌∷◌, length, append-nil, refl, ap, sym, ◌∙◌, subst, inl, rules}
+use Rattle.std.proofs.lemmas.Grind.{common_steps}
+use Rattle.std.proofs.Common.{inr, ◌⊎◌, Some, Bool, true, false, Contains, All, ◌≤◌, arith}
 use Rattle.std.specs.Prelude.{Option, ◌↔◌, ◌==◌}
 use Rattle.std.specs.declared.cmp.Ordering.{Ordering}
 use Rattle.std.specs.declared.cmp.Ordering.TheVariants.{Less, Equal, Greater}
-use Rattle.std.specs.Ordering.{ordering_reverse, ordering_then}
+use Rattle.std.specs.Ordering.{ordering_reverse}
 use Rattle.std.specs.Cmp.{tied_itself}
 use Rattle.std.specs.List.{AllByRecursion}
 use Rattle.std.proofs.Math.Nat.{max-eq_right}
 use Rattle.std.proofs.lemmas.Bool.{eqb-true, eq-eqb}
 use Rattle.docker_model.specs.file.File.{IsFile, most_records}
 use Rattle.docker_model.specs.file.Change.{Key, changes}
-use Rattle.docker_model.specs.state.Order.{IsBelow, IsAtMost}
-use Rattle.docker_model.specs.state.Stamp.{FileStamp, LedgerItem, ledger_item_of, file_stamp_of, file_stamp_cmp, stamp_cmp, IsFloor, IsKept}
-use Rattle.docker_model.specs.state.Op.{Entry, key_cmp, entry_cmp, op_cmp}
+use Rattle.docker_model.specs.state.Order.{IsAtMost}
+use Rattle.docker_model.specs.state.Stamp.{FileStamp, LedgerItem, ledger_item_of, file_stamp_of, file_stamp_cmp, IsFloor, IsKept}
+use Rattle.docker_model.specs.state.Op.{Entry, key_cmp, entry_cmp}
 use Rattle.docker_model.specs.state.Lapse.{lapse_entry, HasNotToLapse}
 use Rattle.docker_model.specs.state.State.{State, AreAscending, IsGreatestAmong, IsGoodEntry, IsValid, IsJoin}
 use Rattle.docker_model.specs.state.Summary.{IsSummary}
@@ -36,9 +37,7 @@ use Rattle.docker_laws.proofs.dockers.ThinState.{no_lapse}
 -- ---- two keys can't each be below the other
 
 not_both : (a b : Key) → key_cmp a b ≡ Less → ¬ (key_cmp b a ≡ Less)
-not_both a b less back =
-    let greater : key_cmp a b ≡ Greater = key_total.antisymm a b ∙ ap ordering_reverse back in
-    cc
+not_both = search (rules, key_total)
 
 not_itself : (a : Key) → ¬ (key_cmp a a ≡ Less)
 not_itself a less = let tied = tied_itself key_total a in cc
@@ -50,13 +49,12 @@ not_itself a less = let tied = tied_itself key_total a in cc
 -- before
 member_forth : (entry : Keyed) (entries : List Keyed) → AreAscending entries → (z : Keyed) → Contains (with_earlier entry entries) z
     → Contains entries z ⊎ ((entry ≡ z) × NoEntry entries entry.0)
-member_forth entry [] up z among = inr (Contains-single entry z among, λ other inside. nil-Contains (entry.0, other) inside)
-member_forth entry (first ∷ entries) up z among = by (key_cmp entry.0 first.0) refl (member_forth entry entries up.1 z) among
+member_forth entry [] up z among = inr (Contains-single entry _ among, λ other inside. nil-Contains (entry.0, other) inside)
+member_forth entry (first ∷ entries) up z among = by (key_cmp entry.0 first.0) refl (member_forth _ entries up.1 _) among
   where
     key_below : key_cmp entry.0 first.0 ≡ Less → (other : Entry) → (first ≡ (entry.0, other)) ⊎ Contains entries (entry.0, other) → ⊥
     key_below less other (inl same) = not_itself entry.0 (subst (λ (k : Key). key_cmp entry.0 k ≡ Less) (ap (λ (pair : Keyed). pair.0) same) less)
-    key_below less other (inr inside) =
-        not_both entry.0 first.0 less (below_by_recursion (λ (later : Keyed). key_cmp first.0 later.0 ≡ Less) entries (entry.0, other) up.0 inside)
+    key_below less other (inr inside) = not_both _ first.0 less (below_by_recursion _ entries _ up.0 inside)
 
     key_above : key_cmp entry.0 first.0 ≡ Greater → NoEntry entries entry.0 → (other : Entry)
         → (first ≡ (entry.0, other)) ⊎ Contains entries (entry.0, other) → ⊥
@@ -68,39 +66,38 @@ member_forth entry (first ∷ entries) up z among = by (key_cmp entry.0 first.0)
 
     before : key_cmp entry.0 first.0 ≡ Less → (entry ≡ z) ⊎ Contains (first ∷ entries) z
         → Contains (first ∷ entries) z ⊎ ((entry ≡ z) × NoEntry (first ∷ entries) entry.0)
-    before less (inl same) = inr (same, λ other inside. key_below less other (Contains-cons first entries (entry.0, other) inside))
+    before less (inl same) = inr (same, λ other inside. key_below less other (Contains-cons first _ (entry.0, other) inside))
     before less (inr later) = inl later
 
     onward : key_cmp entry.0 first.0 ≡ Greater → Contains entries z ⊎ ((entry ≡ z) × NoEntry entries entry.0)
         → Contains (first ∷ entries) z ⊎ ((entry ≡ z) × NoEntry (first ∷ entries) entry.0)
-    onward greater (inl inside) = inl (cons-Contains first entries z inside)
-    onward greater (inr new) = inr (new.0, λ other inside. key_above greater new.1 other (Contains-cons first entries (entry.0, other) inside))
+    onward greater (inl inside) = inl (cons-Contains _ entries _ inside)
+    onward greater (inr new) = inr (new.0, λ other inside. key_above greater new.1 other (Contains-cons first _ (entry.0, other) inside))
 
     after : key_cmp entry.0 first.0 ≡ Greater → (Contains (with_earlier entry entries) z → Contains entries z ⊎ ((entry ≡ z) × NoEntry entries entry.0))
         → (first ≡ z) ⊎ Contains (with_earlier entry entries) z → Contains (first ∷ entries) z ⊎ ((entry ≡ z) × NoEntry (first ∷ entries) entry.0)
-    after greater rest (inl same) = inl (subst (Contains (first ∷ entries)) same (cons-Contains-first first entries))
+    after greater rest (inl same) = inl (subst (Contains (first ∷ entries)) same (cons-Contains-first _ entries))
     after greater rest (inr later) = onward greater (rest later)
 
     by : (o : Ordering) → key_cmp entry.0 first.0 ≡ o
         → (Contains (with_earlier entry entries) z → Contains entries z ⊎ ((entry ≡ z) × NoEntry entries entry.0))
         → Contains (placed o entry first entries (with_earlier entry entries)) z
         → Contains (first ∷ entries) z ⊎ ((entry ≡ z) × NoEntry (first ∷ entries) entry.0)
-    by Less h rest inside = before h (Contains-cons entry (first ∷ entries) z inside)
+    by Less h rest inside = before h (Contains-cons _ (first ∷ entries) _ inside)
     by Equal h rest inside = inl inside
-    by Greater h rest inside = after h rest (Contains-cons first (with_earlier entry entries) z inside)
+    by Greater h rest inside = after h rest (Contains-cons first _ z inside)
 
 -- `with_earlier` preserves each entry of the list
 member_still : (entry : Keyed) (entries : List Keyed) (z : Keyed) → Contains entries z → Contains (with_earlier entry entries) z
 member_still entry [] z among = absurd (nil-Contains z among)
-member_still entry (first ∷ entries) z among =
-    by (key_cmp entry.0 first.0) (λ inside. member_still entry entries z inside) (Contains-cons first entries z among)
+member_still entry (first ∷ entries) z among = by (key_cmp entry.0 first.0) (λ inside. member_still _ entries _ inside) (Contains-cons first _ z among)
   where
     by : (o : Ordering) → (Contains entries z → Contains (with_earlier entry entries) z) → (first ≡ z) ⊎ Contains entries z
         → Contains (placed o entry first entries (with_earlier entry entries)) z
-    by Less rest either = cons-Contains entry (first ∷ entries) z among
+    by Less rest either = cons-Contains _ (first ∷ entries) _ among
     by Equal rest either = among
-    by Greater rest (inl same) = subst (Contains (first ∷ with_earlier entry entries)) same (cons-Contains-first first (with_earlier entry entries))
-    by Greater rest (inr inside) = cons-Contains first (with_earlier entry entries) z (rest inside)
+    by Greater rest (inl same) = subst (Contains (first ∷ with_earlier entry entries)) same (cons-Contains-first first _)
+    by Greater rest (inr inside) = cons-Contains first _ z (rest inside)
 
 -- `with_earlier` inserts the entry if no entry in the list has the same key
 member_new : (entry : Keyed) (entries : List Keyed) → NoEntry entries entry.0 → Contains (with_earlier entry entries) entry
@@ -119,31 +116,29 @@ member_new entry (first ∷ entries) none =
 -- `with_earlier` preserves the key order of the list
 still_ascends : (entry : Keyed) (entries : List Keyed) → AreAscending entries → AreAscending (with_earlier entry entries)
 still_ascends entry [] up = (tt, tt)
-still_ascends entry (first ∷ entries) up = by (key_cmp entry.0 first.0) refl (still_ascends entry entries up.1)
+still_ascends entry (first ∷ entries) up = by (key_cmp entry.0 first.0) refl (still_ascends _ entries up.1)
   where
     -- an inserted entry whose key is below the first key is below all entries of the list
     below_all : key_cmp entry.0 first.0 ≡ Less → (z : Keyed) → (first ≡ z) ⊎ Contains entries z → key_cmp entry.0 z.0 ≡ Less
     below_all less z (inl same) = subst (λ (later : Keyed). key_cmp entry.0 later.0 ≡ Less) same less
-    below_all less z (inr inside) =
-        key_total.trans entry.0 first.0 z.0 less (below_by_recursion (λ (later : Keyed). key_cmp first.0 later.0 ≡ Less) entries z up.0 inside)
+    below_all less z (inr inside) = key_total.trans entry.0 first.0 z.0 less (below_by_recursion _ entries _ up.0 inside)
 
     -- if the inserted entry is above the first entry, the first entry is below all entries after it
     above_first : key_cmp entry.0 first.0 ≡ Greater → (z : Keyed) → Contains entries z ⊎ ((entry ≡ z) × NoEntry entries entry.0) → key_cmp first.0 z.0 ≡ Less
-    above_first greater z (inl inside) = below_by_recursion (λ (later : Keyed). key_cmp first.0 later.0 ≡ Less) entries z up.0 inside
+    above_first greater z (inl inside) = below_by_recursion (λ (later : Keyed). key_cmp first.0 later.0 ≡ Less) _ z up.0 inside
     above_first greater z (inr new) =
         subst (λ (later : Keyed). key_cmp first.0 later.0 ≡ Less) new.0 (key_total.antisymm first.0 entry.0 ∙ ap ordering_reverse greater)
 
     by : (o : Ordering) → key_cmp entry.0 first.0 ≡ o → AreAscending (with_earlier entry entries)
         → AreAscending (placed o entry first entries (with_earlier entry entries))
     by Less h rest = (
-      each_member (λ (later : Keyed). key_cmp entry.0 later.0 ≡ Less) (first ∷ entries)
-          (λ z inside. below_all h z (Contains-cons first entries z inside)),
+      each_member _ (first ∷ entries) (λ z inside. below_all h z (Contains-cons _ entries _ inside)),
       up,
     )
     by Equal h rest = up
     by Greater h rest = (
-      each_member (λ (later : Keyed). key_cmp first.0 later.0 ≡ Less) (with_earlier entry entries)
-          (λ z inside. above_first h z (member_forth entry entries up.1 z inside)),
+      each_member (λ (later : Keyed). key_cmp first.0 later.0 ≡ Less) _
+          (λ z inside. above_first h z (member_forth entry _ up.1 z inside)),
       rest,
     )
 
@@ -156,11 +151,7 @@ latest_ascend (entry ∷ entries) = still_ascends entry (latest_entries entries)
 -- if the stamps increase along the list, an entry is less than each later entry with the same key
 not_above : (entry : Keyed) (entries : List Keyed) (key : Key) (last : Entry) → AllByRecursion (Ascends entry) entries → Contains entries (key, last)
     → (other : Entry) → entry ≡ (key, other) → entry_cmp other last ≡ Less
-not_above entry entries key last up inside other same =
-    let of_key : entry.0 ≡ key = ap (λ (pair : Keyed). pair.0) same in
-    let below : IsBelow stamp_cmp entry.1.stamp last.stamp = below_by_recursion (Ascends entry) entries (key, last) up inside of_key in
-    let other_below : IsBelow stamp_cmp other.stamp last.stamp = subst (λ (pair : Keyed). IsBelow stamp_cmp pair.1.stamp last.stamp) same below in
-    (λ i. ordering_then (other_below i) (op_cmp other.op last.op))
+not_above = grind (common_steps, arith, below_by_recursion)
 
 -- if each later entry with the same key has a greater stamp, `latest_entries` keeps the greatest
 -- entry for each key
@@ -250,15 +241,7 @@ module _ (file : List (List ℕ)) where
     },
     at_most_itself file_stamp_total (file_stamp_of file),
   )
-  floor_of false h = (
-    None,
-    λ other among full.
-        let is : ledger_item_of file ≡ other = Contains-single (ledger_item_of file) other among in
-        let same : (ledger_item_of file).indicator ≡ 70 = ap (λ (item : LedgerItem). item.indicator) is ∙ full in
-        let bad : false ≡ true = sym h ∙ eq-eqb (ledger_item_of file).indicator 70 same in
-        (let worse : false ≡ true = bad in cc),
-    tt,
-  )
+  floor_of false h = search (rules, eq-eqb)
 
   abbrev at : (floor : Option FileStamp) × IsFloor (ledger_item_of file ∷ []) floor × IsKept floor (file_stamp_of file)
   at = floor_of ((ledger_item_of file).indicator == 70) refl
@@ -280,25 +263,22 @@ module _ (file : List (List ℕ)) where
     is_floor = at.1;
     ledger_ascends = (tt, tt);
     ledger = λ item. (
-      λ among. (among, subst (λ (i : LedgerItem). IsKept at.0 i.stamp) (Contains-single (ledger_item_of file) item among) at.2),
+      λ among. (among, subst (λ (i : LedgerItem). IsKept at.0 i.stamp) (Contains-single (ledger_item_of file) _ among) at.2),
       λ told. told.0,
     );
     entries_ascend = latest_ascend (entries_of file);
     of_keys = λ key entry. (
       λ among.
-          let greatest = (latest_is (entries_of file) ascends key entry).0 among in
-          (entry, greatest, kept key entry greatest.among, stays entry),
-      λ told.
-          subst (λ (e : Entry). Contains (latest_entries (entries_of file)) (key, e)) (sym (stays told.0) ∙ told.3)
-          ((latest_is (entries_of file) ascends key told.0).1 told.1),
+          let greatest = (latest_is _ ascends key _).0 among in
+          (entry, greatest, kept key _ greatest.among, stays entry),
+      λ told. subst (λ (e : Entry). Contains (latest_entries (entries_of file)) (key, e)) (sym (stays _) ∙ told.3)
+          ((latest_is (entries_of file) ascends _ told.0).1 told.1),
     );
   }
 
   -- `summary_of` computes the summary of the file
   pub summary_is : IsSummary (file ∷ []) 0 (summary_of file)
-  summary_is =
-      reduced_summary (file ∷ []) 0 (summary_of file) refl
-      (subst (λ (entries : List Keyed). IsReduced (ledger_item_of file ∷ []) entries (summary_of file)) (sym (append-nil (entries_of file))) reduced)
+  summary_is = search (rules, reduced_summary, append-nil, entries_of, reduced)
 
   -- the summary of a file is valid
   pub summary_valid : IsFile file → length file ≤ most_records → IsValid (summary_of file)

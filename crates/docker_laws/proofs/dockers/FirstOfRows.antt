@@ -1,7 +1,7 @@
 -- Of all values with a property, a search in a list finds the one that comes first in an order,
 -- under two conditions. The list must have each value with the property, and a value must pass the
 -- test of the search if and only if it has the property.
-use Rattle.std.proofs.Common.{◌≡◌, List, refl, sym, ◌∙◌, Some, None, Bool, true, Contains}
+use Rattle.std.proofs.Common.{◌≡◌, List, refl, Some, None, Bool, true, Contains, rules}
 use Rattle.std.specs.Prelude.{Option, find}
 use Rattle.std.specs.declared.cmp.Ordering.{Ordering}
 use Rattle.std.specs.Cmp.{IsTotalOrder}
@@ -20,8 +20,7 @@ module _ {A : Type 0} {cmp : A → A → Ordering} (total : IsTotalOrder cmp) (t
     (holds : (x : A) → Contains xs x → test x ≡ true → Is x) (among : (x : A) → Is x → Contains xs x) (passes : (x : A) → Is x → test x ≡ true) where
   -- the best element of the list is the first value with the property
   pub best_is_first : (found : Option A) → IsBest cmp test xs found → IsFirst cmp Is found
-  best_is_first None none = λ x is. true_is_not (sym (passes x is) ∙ none x (among x is))
-  best_is_first (Some x) best = (holds x best.0 best.1, λ other is. best.2 other (among other is) (passes other is))
+  best_is_first = search (rules, true_is_not)
 
   -- a search in the list finds the first value with the property
   pub found_is_first : IsFirst cmp Is (find (is_least total test xs) xs)

@@ -1,15 +1,14 @@
 -- The lines that a walk over rows gathers are the lines of the docker, and no two of these lines
 -- tie. After sorting, the lines are the docker list.
-use Rattle.std.proofs.Common.{◌≡◌, ℕ, ◌-◌, ◌<◌, ◌≤◌, lit<, List, [], ◌∷◌, refl, ap, sym, ◌∙◌, subst, inl}
-use Rattle.std.proofs.Common.{inr, ◌⊎◌, Some, Bool, true, false, cond, Contains, arith, ◌++◌, append-nil}
-use Rattle.std.specs.Prelude.{Option, filter, nat_le}
+use Rattle.std.proofs.Common.{◌≡◌, ℕ, ◌<◌, lit<, List, [], ◌∷◌, refl, ap, sym, ◌∙◌, subst, inl, rules}
+use Rattle.std.proofs.Common.{inr, ◌⊎◌, Some, Bool, true, false, cond, Contains}
+use Rattle.std.specs.Prelude.{Option}
 use Rattle.std.specs.List.{flat_map}
 use Rattle.std.specs.List.Sorted.{IsSorted, IsPermutation}
 use Rattle.std.specs.Str.{bytes_eq}
 use Rattle.std.specs.declared.cmp.Ordering.TheVariants.{Equal}
 use Rattle.std.specs.Ordering.{on}
 use Rattle.std.proofs.lemmas.Bool.{leb-true}
-use Rattle.std.proofs.lemmas.Grind.{flat_map-append}
 use Rattle.std.proofs.lemmas.List.Sorted.{Contains-permutation, IsPermutation-sym}
 use Rattle.std.proofs.lemmas.Slice.Eq.{bytes_eq-Decides}
 use Rattle.docker_model.specs.file.Change.{Key, tiploc_key, association_key, schedule_key, AssociationKey}
@@ -45,8 +44,7 @@ IsLineFrom live place day key start line =
 -- each line that satisfies `IsLineFrom` is a line of the docker
 from_is : (live : Table) (place : List ℕ) (day : ℕ) (key : Key) (start : ℕ) (line : DockerLine) → IsLineFrom live place day key start line
     → IsDockerLine live place day line
-from_is live place day key start line (inl (schedule, same, of)) = inl of.made
-from_is live place day key start line (inr (association, same, of)) = inr of.made
+from_is = search rules
 
 -- two lines that tie belong to the same row and the same start day
 same_source : (live : Table) (place : List ℕ) (day : ℕ) (first second : Key) (start other : ℕ) (a b : DockerLine) → IsLineFrom live place day first start a
@@ -72,13 +70,7 @@ counted_up : AllLater (λ (a b : ℕ). a < b) (0 ∷ 1 ∷ 2 ∷ [])
 counted_up = ((lit< tt, (lit< tt, tt)), ((lit< tt, tt), (tt, tt)))
 
 days_differ : (day : ℕ) → AllLater (λ a b. ¬ (a ≡ b)) (start_days day)
-days_differ day =
-    later_map (λ a b. ¬ (a ≡ b)) (λ back. day - back) (filter (λ back. nat_le back day) (0 ∷ 1 ∷ 2 ∷ []))
-    (later_weaker (λ (a b : ℕ). a < b) (λ a b. ¬ (day - a ≡ day - b)) (filter (λ back. nat_le back day) (0 ∷ 1 ∷ 2 ∷ []))
-    (λ a b in_a in_b below same.
-    let high : b ≤ day = leb-true b day (filter_back (λ back. nat_le back day) (0 ∷ 1 ∷ 2 ∷ []) b in_b).1 in
-    omega arith)
-    (later_filter (λ (a b : ℕ). a < b) (λ back. nat_le back day) (0 ∷ 1 ∷ 2 ∷ []) counted_up))
+days_differ = search (rules, later_map, later_weaker, leb-true, filter_back, later_filter, counted_up)
 
 module _ (live : Table) (trains : List ℕ → ℕ → Option Train) (links : Group → ℕ → Option Link) (tell : TellsTrains live trains)
     (tell_links : TellsLinks live links) (place : List ℕ) (day : ℕ) where
@@ -91,28 +83,27 @@ module _ (live : Table) (trains : List ℕ → ℕ → Option Train) (links : Gr
       → SomeStart key line
   unfolding SomeStart
   of_row (schedule_key key) (schedule_body lines) is line among =
-      let found = Contains-flat_map (schedule_piece trains place day key lines) (start_days day) line among in
-      (found.0, inl (key, refl, schedule_piece_back live trains tell place day key lines found.0 is line found.2))
+      let found = Contains-flat_map _ (start_days day) _ among in
+      (found.0, inl (key, refl, schedule_piece_back live _ tell place _ key _ found.0 is _ found.2))
   of_row (schedule_key key) (tiploc_body bytes) is line among = absurd (nil-Contains line among)
-  of_row (schedule_key key) (association_body other) is line among = absurd (nil-Contains line among)
+  of_row (schedule_key key) (association_body other) is line among = absurd (nil-Contains _ among)
   of_row (tiploc_key code) body is line among = absurd (nil-Contains line among)
   of_row (association_key key) (association_body link) is line among = by (bytes_eq key.location place) refl among
     where
       by : (b : Bool) → bytes_eq key.location place ≡ b → Contains (cond b (flat_map (link_piece trains links day key link) (start_days day)) []) line
           → (start : ℕ) × IsLineFrom live place day (association_key key) start line
-      by false h inside = absurd (nil-Contains line inside)
+      by false h inside = absurd (nil-Contains _ inside)
       by true h inside =
-          let found = Contains-flat_map (link_piece trains links day key link) (start_days day) line inside in (
+          let found = Contains-flat_map (link_piece trains links day key link) _ line inside in (
             found.0,
             inr (
               key,
               refl,
-              link_piece_back live trains links tell tell_links place day key link found.0 is
-                  ((bytes_eq-Decides key.location place).0 h) line found.2,
+              link_piece_back _ trains _ tell tell_links place _ key _ found.0 is ((bytes_eq-Decides key.location place).0 h) _ found.2,
             ),
           )
   of_row (association_key key) (tiploc_body bytes) is line among = absurd (nil-Contains line among)
-  of_row (association_key key) (schedule_body lines) is line among = absurd (nil-Contains line among)
+  of_row (association_key key) (schedule_body lines) is line among = absurd (nil-Contains _ among)
 
   -- For each start day, `piece` returns the docker lines of one row. These lines are in the docker,
   -- and no two of them tie
@@ -120,11 +111,8 @@ module _ (live : Table) (trains : List ℕ → ℕ → Option Train) (links : Gr
       → IsLineFrom live place day key start line)
       (apart : (start : ℕ) → AreApart docker_line_cmp (piece start)) where
     pieces_apart : AreApart docker_line_cmp (flat_map piece (start_days day))
-    pieces_apart =
-        later_flat_map (λ (a b : DockerLine). ¬ (docker_line_cmp a b ≡ Equal)) (λ (a b : ℕ). ¬ (a ≡ b)) piece (start_days day) (days_differ day)
-        (λ start among. apart start)
-        (λ start other in_start in_other differ a b in_a in_b e. differ (same_source live place day key key start other a b (back start a in_a)
-        (back other b in_b) e).1)
+    pieces_apart = later_flat_map (λ (a b : DockerLine). ¬ (docker_line_cmp a b ≡ Equal)) _ piece _ (days_differ day) (λ start among. apart start)
+        (λ start other in_start in_other differ a b in_a in_b e. differ (same_source _ place _ key _ start _ a _ (back start a in_a) (back other b in_b) e).1)
 
   row_apart : (key : Key) (body : Body) → live key ≡ Some body → AreApart docker_line_cmp (row_lines trains links place day key body)
   row_apart (schedule_key key) (schedule_body lines) is =
@@ -157,15 +145,11 @@ module _ (live : Table) (trains : List ℕ → ℕ → Option Train) (links : Gr
     -- no two of the gathered lines tie
     pub gathered_apart : AreApart docker_line_cmp (gathered trains links place day rows)
     unfolding SomeStart
-    gathered_apart =
-        later_flat_map (λ (a b : DockerLine). ¬ (docker_line_cmp a b ≡ Equal)) (IsBelow (on (λ (row : Row). row.0) key_cmp))
-        (λ (row : Row). row_lines trains links place day row.0 row.1) rows
-        (later_from_ascending rows walk.ascending)
-        (λ row among. row_apart row.0 row.1 (walk.each row.0 row.1 among))
-        (λ first second in_first in_second below a b in_a in_b e.
-        let one = of_row first.0 first.1 (walk.each first.0 first.1 in_first) a in_a in
-        let two = of_row second.0 second.1 (walk.each second.0 second.1 in_second) b in_b in
-        let keys = (same_source live place day first.0 second.0 one.0 two.0 a b one.1 two.1 e).0 in
+    gathered_apart = later_flat_map _ (IsBelow (on (λ (row : Row). row.0) key_cmp)) _ rows (later_from_ascending rows walk.ascending)
+        (λ row among. row_apart _ row.1 (walk.each row.0 row.1 among)) (λ first second in_first in_second below a b in_a in_b e.
+        let one = of_row _ first.1 (walk.each first.0 first.1 in_first) _ in_a in
+        let two = of_row second.0 _ (walk.each second.0 second.1 in_second) b in_b in
+        let keys = (same_source _ place _ first.0 _ one.0 _ a _ one.1 two.1 e).0 in
         irreflexive key_total first.0 (subst (IsBelow key_cmp first.0) (sym keys) below))
       where
         later_from_ascending : (xs : List Row) → AreInKeyOrder xs → AllLater (IsBelow (on (λ (row : Row). row.0) key_cmp)) xs
@@ -202,18 +186,12 @@ module _ (live : Table) (trains : List ℕ → ℕ → Option Train) (links : Gr
     pub sorted_gathering : HasGoodBodies live → (lines : List DockerLine) → IsPermutation (gathered trains links place day rows) lines
         → IsSorted docker_line_cmp lines → IsDockerList live place day lines
     sorted_gathering good lines same sorted = record {
-      ascending = sort_ascends docker_line_total (gathered trains links place day rows) lines gathered_apart same sorted;
+      ascending = sort_ascends docker_line_total _ _ gathered_apart same sorted;
       members = λ line. (
-        λ among. gathered_back line (Contains-permutation lines (gathered trains links place day rows) line
+        λ among. gathered_back _ (Contains-permutation lines (gathered trains links place day rows) line
             (IsPermutation-sym (gathered trains links place day rows) lines same) among),
-        λ is. Contains-permutation (gathered trains links place day rows) lines line same (gathered_forth good line is),
+        λ is. Contains-permutation (gathered trains links place day rows) lines line same (gathered_forth good _ is),
       );
     }
 
 -- if a row is appended to the rows, the docker lines of this row are appended to the gathered lines
-pub gathered_more : (trains : List ℕ → ℕ → Option Train) (links : Group → ℕ → Option Link) (place : List ℕ) (day : ℕ) (rows : List Row) (key : Key)
-    (body : Body)
-    → gathered trains links place day (rows ++ (key, body) ∷ []) ≡ gathered trains links place day rows ++ row_lines trains links place day key body
-gathered_more trains links place day rows key body =
-    flat_map-append (λ (row : Row). row_lines trains links place day row.0 row.1) rows ((key, body) ∷ [])
-    ∙ ap (λ more. gathered trains links place day rows ++ more) (append-nil (row_lines trains links place day key body))

@@ -1,5 +1,5 @@
 -- A walk over the rows that the indexes list for a place finds each docker line of the place.
-use Rattle.std.proofs.Common.{◌≡◌, ℕ, List, ◌++◌, refl, ap, sym, ◌∙◌, inl, inr, ◌⊎◌, Some, Contains}
+use Rattle.std.proofs.Common.{◌≡◌, ℕ, List, ◌++◌, refl, ap, sym, ◌∙◌, inl, inr, ◌⊎◌, Some, Contains, rules}
 use Rattle.std.specs.Ordering.{on}
 use Rattle.std.proofs.lemmas.List.Elements.{Contains-append_left, Contains-append_right, Contains-append_cases}
 use Rattle.std.specs.List.Sorted.{IsSorted, IsPermutation}
@@ -38,15 +38,11 @@ module _ (live : Table) (place : List ℕ) (linked calling : List Row) (are_link
   -- (`IsWalk`)
   pub indexed_walk : IsWalk live place (linked ++ calling)
   indexed_walk = record {
-    ascending = ascending_of (on (λ (row : Row). row.0) key_cmp) (linked ++ calling)
-        (later_append (IsBelow (on (λ (row : Row). row.0) key_cmp)) linked calling (later_of (on (λ (row : Row). row.0) key_cmp) linked are_linked.ascending)
-        (later_of (on (λ (row : Row). row.0) key_cmp) calling are_calling.ascending) linked_before);
-    each = λ key body among. live_row key body (Contains-append_cases linked calling (key, body) among);
-    schedules = λ key lines is calls.
-        Contains-append_right linked calling (schedule_key key, schedule_body lines)
+    ascending = ascending_of _ _ (later_append _ _ _ (later_of _ _ are_linked.ascending) (later_of _ _ are_calling.ascending) linked_before);
+    each = λ key body among. live_row _ _ (Contains-append_cases linked calling (key, body) among);
+    schedules = λ key lines is calls. Contains-append_right linked calling (schedule_key key, schedule_body lines)
         ((are_calling.members (schedule_key key) (schedule_body lines)).1 (key, lines, refl, refl, record { is_live = is; calls = calls }));
-    associations = λ key line is here.
-        Contains-append_left linked calling (association_key key, association_body line)
+    associations = λ key line is here. Contains-append_left linked calling (association_key key, association_body line)
         ((are_linked.members (association_key key) (association_body line)).1 (key, line, refl, refl, record { is_live = is; here = here }));
   }
 
@@ -57,9 +53,7 @@ pub indexed_docker : (live : Table) (place : List ℕ) (day : ℕ) (rows linked 
     → AreLinked live place linked → AreCalling live place calling
     → IsPermutation (gathered (train_in rows) (link_in rows) place day (linked ++ calling)) lines → IsSorted docker_line_cmp lines
     → IsDockerList live place day lines
-indexed_docker live place day rows linked calling lines good are are_linked are_calling same sorted =
-    sorted_gathering live (train_in rows) (link_in rows) (trains_tell live rows are) (links_tell live rows are) place day (linked ++ calling)
-    (indexed_walk live place linked calling are_linked are_calling) good lines same sorted
+indexed_docker = search (rules, sorted_gathering, trains_tell, links_tell, indexed_walk)
 
 -- the rows of a UID include each of the UID's schedules
 pub of_uid_has : (live : Table) (uid : List ℕ) (rows : List Row) → AreOfUid live uid rows → HasSchedulesOf live uid rows

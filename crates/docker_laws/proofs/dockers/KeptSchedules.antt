@@ -41,8 +41,7 @@ schedule_later deletion = cond deletion [] (checked 16 21 is_end_date ∷ checke
 later_good : (line : List ℕ) → HasKind basic_schedule line → HasGoodFields line → is_deletion line ≡ false
     → AllByRecursion (IsGoodIn line) (schedule_later false)
 unfolding schedule_later
-later_good line is good stays =
-    subst (λ b. AllByRecursion (IsGoodIn line) (schedule_later b)) stays (good_fields basic_schedule line is good).1.1
+later_good line is good stays = subst (λ b. AllByRecursion (IsGoodIn line) (schedule_later b)) stays (good_fields _ line is good).1.1
 
 -- the runs-to field of a good basic schedule is an end date, unless the record is a deletion
 pub schedule_last : (line : List ℕ) → HasKind basic_schedule line → HasGoodFields line → is_deletion line ≡ false → is_end_date (columns 16 21 line) ≡ true

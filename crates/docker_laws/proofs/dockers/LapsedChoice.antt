@@ -1,11 +1,11 @@
 -- A horizon may make rows of a table lapse. On each day that isn't before the horizon, the same
 -- schedules and associations are chosen from the table before and after its rows lapse. A schedule
 -- or an association that runs on such a day doesn't lapse.
-use Rattle.std.proofs.Common.{ℕ, ◌≤◌, List, Bool, true, false, cond, arith}
-use Rattle.std.specs.Prelude.{◌↔◌, ◌&&◌, IsTrue, nat_le}
+use Rattle.std.proofs.Common.{ℕ, ◌≤◌, List, rules}
+use Rattle.std.specs.Prelude.{◌↔◌, IsTrue}
 use Rattle.std.proofs.lemmas.Bool.{leb-true}
 use Rattle.docker_model.specs.records.Record.{columns}
-use Rattle.docker_model.specs.records.Date.{date_number, end_number, is_end_date, no_end_number, runs_on_weekday, weekday_of}
+use Rattle.docker_model.specs.records.Date.{end_number, no_end_number}
 use Rattle.docker_model.specs.file.File.{first_record}
 use Rattle.docker_model.specs.file.Change.{association_key, schedule_key, AssociationKey, ScheduleKey, association_body, schedule_body}
 use Rattle.docker_model.specs.state.Op.{readable_end}
@@ -17,18 +17,12 @@ use Rattle.state_laws.proofs.states.TableLapsed.{live_stays, was_live}
 
 -- a schedule or an association that runs on a day doesn't end before that day
 within_end : (first last days : List ℕ) (day : ℕ) → IsTrue (runs_within first last days day) → day ≤ end_number last
-within_end first last days day runs =
-    let dates = (both (nat_le (date_number first) day && nat_le day (end_number last)) (runs_on_weekday days (weekday_of day)) runs).0 in
-    leb-true day (end_number last) (both (nat_le (date_number first) day) (nat_le day (end_number last)) dates).1
+within_end = search (rules, both, leb-true)
 
 -- if a day isn't before the horizon, and an end date isn't before the day, the end date isn't
 -- before the horizon
 end_reached : (horizon day : ℕ) (last : List ℕ) → horizon ≤ no_end_number → horizon ≤ day → day ≤ end_number last → horizon ≤ readable_end last
-end_reached horizon day last bound from to = by (is_end_date last)
-  where
-    by : (b : Bool) → horizon ≤ cond b (end_number last) no_end_number
-    by true = omega arith
-    by false = bound
+end_reached = search rules
 
 module _ (horizon : ℕ) (bound : horizon ≤ no_end_number) (live : Table) where
   module _ (day : ℕ) (from : horizon ≤ day) where
@@ -45,8 +39,7 @@ module _ (horizon : ℕ) (bound : horizon ≤ no_end_number) (live : Table) wher
 
     running_back : (uid : List ℕ) (key : ScheduleKey) (lines : List (List ℕ)) → IsRunning (lapse_table horizon live) uid day key lines
         → IsRunning live uid day key lines
-    running_back uid key lines is =
-        record { uid_is = is.uid_is; is_live = was_live horizon live (schedule_key key) (schedule_body lines) is.is_live; runs_then = is.runs_then }
+    running_back = search (rules, was_live)
 
     -- on a day that isn't before the horizon, the same schedule of a UID is chosen from the table
     -- before and after its rows lapse
@@ -54,14 +47,12 @@ module _ (horizon : ℕ) (bound : horizon ≤ no_end_number) (live : Table) wher
         (lapse_table horizon live) uid day key lines
     chosen_iff uid key lines = (
       λ is. record {
-        running = running_forth uid key lines is.running;
-        first = λ other others runs. is.first other others
-            (running_back uid other others runs);
+        running = running_forth _ _ _ is.running;
+        first = λ other others runs. is.first other others (running_back _ _ _ runs);
       },
       λ is. record {
-        running = running_back uid key lines is.running;
-        first = λ other others runs. is.first other others
-            (running_forth uid other others runs);
+        running = running_back _ _ _ is.running;
+        first = λ other others runs. is.first other others (running_forth _ _ _ runs);
       },
     )
 
@@ -87,8 +78,7 @@ module _ (horizon : ℕ) (bound : horizon ≤ no_end_number) (live : Table) wher
 
     associated_back : (group : Group) (key : AssociationKey) (line : List ℕ) → IsAssociated (lapse_table horizon live) group day key line
         → IsAssociated live group day key line
-    associated_back group key line is =
-        record { group_is = is.group_is; is_live = was_live horizon live (association_key key) (association_body line) is.is_live; runs_then = is.runs_then }
+    associated_back = search (rules, was_live)
 
     -- on a day that isn't before the horizon, the same association of a group is chosen from the
     -- table before and after its rows lapse
@@ -96,13 +86,11 @@ module _ (horizon : ℕ) (bound : horizon ≤ no_end_number) (live : Table) wher
         (lapse_table horizon live) group day key line
     association_iff group key line = (
       λ is. record {
-        associated = associated_forth group key line is.associated;
-        first = λ other others runs. is.first other others
-            (associated_back group other others runs);
+        associated = associated_forth _ _ _ is.associated;
+        first = λ other others runs. is.first other others (associated_back _ _ _ runs);
       },
       λ is. record {
-        associated = associated_back group key line is.associated;
-        first = λ other others runs. is.first other others
-            (associated_forth group other others runs);
+        associated = associated_back _ _ _ is.associated;
+        first = λ other others runs. is.first other others (associated_forth _ _ _ runs);
       },
     )

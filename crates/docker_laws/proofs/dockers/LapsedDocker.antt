@@ -1,15 +1,15 @@
 -- On each day from the third day after a horizon, a table has the same dockers before and after its
 -- rows lapse with the horizon.
-use Rattle.std.proofs.Common.{◌≡◌, ℕ, ◌+◌, ◌-◌, ◌≤◌, List, ◌++◌, inl, inr, ◌⊎◌, refl, ap, sym, ◌∙◌, Bool, true, false, cond, Some, None, arith}
-use Rattle.std.specs.Prelude.{Option, ◌↔◌, ◌==◌, nat_lt, option_and_then, codes}
+use Rattle.std.proofs.Common.{◌≡◌, ℕ, ◌+◌, ◌≤◌, List, ◌++◌, inl, inr, ◌⊎◌, refl, ap, Some, None, arith}
+use Rattle.std.proofs.Common.{rules}
+use Rattle.std.specs.Prelude.{Option, ◌↔◌, codes}
 use Rattle.std.specs.List.{flat_map}
 use Rattle.docker_model.specs.records.Record.{column}
-use Rattle.docker_model.specs.records.Date.{last_day, no_end_number}
+use Rattle.docker_model.specs.records.Date.{no_end_number}
 use Rattle.docker_model.specs.records.PrintedTime.{spaces, day_text}
-use Rattle.docker_model.specs.file.Change.{tiploc_key, schedule_key, Body, tiploc_body, association_body, schedule_body, ScheduleKey, AssociationKey}
-use Rattle.docker_model.specs.state.Op.{body_end}
+use Rattle.docker_model.specs.file.Change.{tiploc_key, schedule_key, schedule_body, ScheduleKey, AssociationKey}
 use Rattle.docker_model.specs.state.Table.{Table}
-use Rattle.docker_model.specs.state.Lapse.{unlapsed, lapse_table}
+use Rattle.docker_model.specs.state.Lapse.{lapse_table}
 use Rattle.docker_model.specs.docker.Event.{Event, event_day}
 use Rattle.docker_model.specs.docker.Choice.{TrainRuns, group_of, IsChosenAssociation}
 use Rattle.docker_model.specs.docker.DockerLine.{DockerLine}
@@ -28,21 +28,7 @@ text_with place day lines description =
 
 -- the base train starts at most one day after the associated train
 pub partner_after : (indicator start day : ℕ) → partner_start indicator start ≡ Some day → start ≤ day + 1
-partner_after indicator start day is = by (indicator == 78) (indicator == 80) is
-  where
-    later : (b : Bool) → nat_lt start last_day ≡ b → cond b (Some (start + 1)) None ≡ Some day → start ≤ day + 1
-    later true below some = let same : start + 1 ≡ day = cc in omega arith
-    later false below none = cc
-
-    earlier : (b : Bool) → nat_lt 0 start ≡ b → cond b (Some (start - 1)) None ≡ Some day → start ≤ day + 1
-    earlier true above some = let same : start - 1 ≡ day = cc in omega arith
-    earlier false above none = cc
-
-    by : (b c : Bool) → cond b (cond (nat_lt start last_day) (Some (start + 1)) None) (cond c (cond (nat_lt 0 start) (Some (start - 1)) None) (Some start))
-        ≡ Some day → start ≤ day + 1
-    by true c told = later (nat_lt start last_day) refl told
-    by false true told = earlier (nat_lt 0 start) refl told
-    by false false some = let same : start ≡ day = cc in omega arith
+partner_after = search rules
 
 -- ---- if `other` has the trains, associations and identities of `one`, `other` has all docker
 -- lines of `one`
@@ -177,20 +163,15 @@ module _ (horizon : ℕ) (bound : horizon ≤ no_end_number) (live : Table) wher
     }
 
     event_line_iff : (line : DockerLine) → IsEventLine live place day line ↔ IsEventLine (lapse_table horizon live) place day line
-    event_line_iff line =
-        (event_line_over live (lapse_table horizon live) place day over line, event_line_over (lapse_table horizon live) live place day back line)
+    event_line_iff = search (rules, event_line_over, over, back)
 
     association_line_iff : (line : DockerLine) → IsAssociationLine live place day line ↔ IsAssociationLine (lapse_table horizon live) place day line
-    association_line_iff line =
-        (association_line_over live (lapse_table horizon live) place day over line, association_line_over (lapse_table horizon live) live place day back line)
+    association_line_iff = search (rules, association_line_over, over, back)
 
     -- ---- lapsing leaves the list and the text of a docker unchanged
 
     lists_along : (P Q : DockerLine → Type 0) → ((line : DockerLine) → P line ↔ Q line) → (lines : List DockerLine) → Lists P lines → Lists Q lines
-    lists_along P Q same lines is = record {
-      ascending = is.ascending;
-      members = λ line. (λ among. (same line).0 ((is.members line).0 among), λ told. (is.members line).1 ((same line).1 told));
-    }
+    lists_along = search rules
 
     line_iff : (line : DockerLine) → (IsEventLine live place day line ⊎ IsAssociationLine live place day line)
         ↔ (IsEventLine (lapse_table horizon live) place day line ⊎ IsAssociationLine (lapse_table horizon live) place day line)
@@ -210,26 +191,13 @@ module _ (horizon : ℕ) (bound : horizon ≤ no_end_number) (live : Table) wher
     -- and after its rows lapse
     pub docker_list_iff : (lines : List DockerLine) → IsDockerList live place day lines ↔ IsDockerList (lapse_table horizon live) place day lines
     docker_list_iff lines = (
-      lists_along (λ line. IsEventLine live place day line ⊎ IsAssociationLine live place day line)
-          (λ line. IsEventLine (lapse_table horizon live) place day line ⊎ IsAssociationLine (lapse_table horizon live) place day line) line_iff lines,
-      lists_along (λ line. IsEventLine (lapse_table horizon live) place day line ⊎ IsAssociationLine (lapse_table horizon live) place day line)
-          (λ line. IsEventLine live place day line ⊎ IsAssociationLine live place day line) (λ line. ((line_iff line).1, (line_iff line).0)) lines,
+      lists_along _ _ line_iff _,
+      lists_along _ _ (λ line. ((line_iff _).1, (line_iff _).0)) _,
     )
 
     -- lapsing leaves the description of a place unchanged, since TIPLOCs don't lapse
     pub description_stays : description_in (lapse_table horizon live (tiploc_key place)) ≡ description_in (live (tiploc_key place))
-    description_stays = by (live (tiploc_key place))
-      where
-        none_or : (b : Bool) (body : Body) → description_in (Some body) ≡ description_in None → description_in (cond b None (Some body)) ≡ description_in
-            (Some body)
-        none_or true body blank = sym blank
-        none_or false body blank = refl
-
-        by : (found : Option Body) → description_in (option_and_then (unlapsed horizon) found) ≡ description_in found
-        by None = refl
-        by (Some (tiploc_body bytes)) = ap description_in (body_stays horizon (tiploc_body bytes) bound)
-        by (Some (association_body line)) = none_or (nat_lt (body_end (association_body line)) horizon) (association_body line) refl
-        by (Some (schedule_body lines)) = none_or (nat_lt (body_end (schedule_body lines)) horizon) (schedule_body lines) refl
+    description_stays = search (rules, body_stays)
 
     text_stays : (lines : List DockerLine) → docker_text (lapse_table horizon live) place day lines ≡ docker_text live place day lines
     text_stays lines = ap (text_with place day lines) description_stays
@@ -237,7 +205,4 @@ module _ (horizon : ℕ) (bound : horizon ≤ no_end_number) (live : Table) wher
     -- on each day from the third day after the horizon, the table has the same docker text before
     -- and after its rows lapse
     pub docker_text_iff : (text : List ℕ) → IsDockerText live place day text ↔ IsDockerText (lapse_table horizon live) place day text
-    docker_text_iff text = (
-      λ is. (is.0, (docker_list_iff is.0).0 is.1, is.2 ∙ sym (text_stays is.0)),
-      λ is. (is.0, (docker_list_iff is.0).1 is.1, is.2 ∙ text_stays is.0),
-    )
+    docker_text_iff = grind (arith, docker_list_iff, text_stays)

@@ -1,10 +1,9 @@
 -- If a table loses only schedules that run on no start day near a day, the dockers of that day are
 -- unchanged.
-use Rattle.std.proofs.Common.{◌≡◌, ℕ, zero, suc, ◌+◌, ◌-◌, ◌≤◌, List, [], ◌∷◌, subst, inl, inr, ◌⊎◌, refl}
-use Rattle.std.proofs.Common.{ap, sym, ◌∙◌, Bool, true, false, cond, Some, None, Contains, arith}
-use Rattle.std.specs.Prelude.{Option, ◌↔◌, ◌==◌, nat_lt, IsTrue}
+use Rattle.std.proofs.Common.{◌≡◌, ℕ, zero, suc, ◌+◌, ◌-◌, ◌≤◌, List, [], ◌∷◌, subst, inl, inr, ◌⊎◌, refl, rules}
+use Rattle.std.proofs.Common.{ap, sym, ◌∙◌, true, false, Some, None, Contains, arith}
+use Rattle.std.specs.Prelude.{Option, ◌↔◌, IsTrue}
 use Rattle.std.proofs.lemmas.List.Elements.{Contains-append_right}
-use Rattle.docker_model.specs.records.Date.{last_day}
 use Rattle.docker_model.specs.file.Journey.{midnights}
 use Rattle.docker_model.specs.file.File.{first_record}
 use Rattle.docker_model.specs.file.Change.{Key, tiploc_key, schedule_key, association_key, ScheduleKey, AssociationKey, Body, schedule_body, association_body}
@@ -34,15 +33,13 @@ pub near_start : (day start : ℕ) → IsStartNear day start → Contains (near_
 near_start day start near = by ((day + 1) - start) refl near.0 near.1
   where
     first : (x : ℕ) (xs : List ℕ) → x ≡ start → Contains (x ∷ xs) start
-    first x xs same = subst (Contains (x ∷ xs)) same (cons-Contains-first x xs)
+    first x xs same = subst (Contains (x ∷ xs)) same (cons-Contains-first _ _)
 
     by : (back : ℕ) → (day + 1) - start ≡ back → start ≤ day + 1 → day ≤ start + 3 → Contains (near_starts day) start
     by zero h low high = first (day + 1) (day ∷ (day - 1) ∷ (day - 2) ∷ (day - 3) ∷ []) (omega arith)
-    by (suc zero) h low high =
-        Contains-append_right ((day + 1) ∷ []) (day ∷ (day - 1) ∷ (day - 2) ∷ (day - 3) ∷ []) start
+    by (suc zero) h low high = Contains-append_right ((day + 1) ∷ []) (day ∷ (day - 1) ∷ (day - 2) ∷ (day - 3) ∷ []) start
         (first day ((day - 1) ∷ (day - 2) ∷ (day - 3) ∷ []) (omega arith))
-    by (suc (suc zero)) h low high =
-        Contains-append_right ((day + 1) ∷ day ∷ []) ((day - 1) ∷ (day - 2) ∷ (day - 3) ∷ []) start
+    by (suc (suc zero)) h low high = Contains-append_right ((day + 1) ∷ day ∷ []) ((day - 1) ∷ (day - 2) ∷ (day - 3) ∷ []) start
         (first (day - 1) ((day - 2) ∷ (day - 3) ∷ []) (omega arith))
     by (suc (suc (suc zero))) h low high =
         Contains-append_right ((day + 1) ∷ day ∷ (day - 1) ∷ []) ((day - 2) ∷ (day - 3) ∷ []) start (first (day - 2) ((day - 3) ∷ []) (omega arith))
@@ -55,21 +52,7 @@ runs_near_by day start line near runs = any_forth (λ (s : ℕ). schedule_runs l
 
 -- the associated train starts at most one day after the base train
 partner_before : (indicator start day : ℕ) → partner_start indicator start ≡ Some day → day ≤ start + 1
-partner_before indicator start day is = by (indicator == 78) (indicator == 80) is
-  where
-    later : (b : Bool) → cond b (Some (start + 1)) None ≡ Some day → day ≤ start + 1
-    later true some = let same : start + 1 ≡ day = cc in omega arith
-    later false none = cc
-
-    earlier : (b : Bool) → cond b (Some (start - 1)) None ≡ Some day → day ≤ start + 1
-    earlier true some = let same : start - 1 ≡ day = cc in omega arith
-    earlier false none = cc
-
-    by : (b c : Bool) → cond b (cond (nat_lt start last_day) (Some (start + 1)) None) (cond c (cond (nat_lt 0 start) (Some (start - 1)) None) (Some start))
-        ≡ Some day → day ≤ start + 1
-    by true c told = later (nat_lt start last_day) told
-    by false true told = earlier (nat_lt 0 start) told
-    by false false some = let same : start ≡ day = cc in omega arith
+partner_before = search rules
 
 -- a train with an event on the day starts on that day or on one of the two days before it
 pub started : (day start : ℕ) (lines : List (List ℕ)) (event : Event) → midnights lines ≤ 2 → event_day start lines event ≡ day
@@ -80,12 +63,7 @@ started day start lines event few today =
 -- if a train has an event on the day, its associated train starts near the day
 pub partner_near : (day start : ℕ) → (start ≤ day) × (day ≤ start + 2) → (indicator partner : ℕ) → partner_start indicator start ≡ Some partner
     → IsStartNear day partner
-partner_near day start within indicator partner is =
-    let low = within.0 in
-    let high = within.1 in
-    let before = partner_before indicator start partner is in
-    let after = partner_after indicator start partner is in
-    (omega arith, omega arith)
+partner_near = search (rules, partner_before, partner_after)
 
 -- ---- two tables with the same associations, and with the same schedules near a day, have the same
 -- dockers
@@ -111,8 +89,7 @@ record AreAlike (one other : Table) (day : ℕ) : Type 0 where
   links_back : LinksOver other one
 
 turned : (one other : Table) (day : ℕ) → AreAlike one other day → AreAlike other one day
-turned one other day alike =
-    record { runs = alike.runs_back; runs_back = alike.runs; links = alike.links_back; links_back = alike.links }
+turned = search rules
 
 train_over : (one other : Table) (day : ℕ) → AreAlike one other day → (start : ℕ) → IsStartNear day start → (uid : List ℕ) (key : ScheduleKey)
     (lines : List (List ℕ)) → TrainRuns one uid start key lines → TrainRuns other uid start key lines
@@ -133,10 +110,9 @@ association_over one other day alike group start key line is = record {
 
 identity_over : (one other : Table) (day : ℕ) → AreAlike one other day → (start : ℕ) → IsStartNear day start → (uid identity : List ℕ)
     → IsIdentityOn one uid identity start → IsIdentityOn other uid identity start
-identity_over one other day alike start near uid identity (inl runs) =
-    inl (runs.0, runs.1, train_over one other day alike start near uid runs.0 runs.1 runs.2, runs.3)
+identity_over one other day alike start near uid identity (inl runs) = inl (runs.0, runs.1, train_over _ _ _ alike _ near _ _ _ runs.2, runs.3)
 identity_over one other day alike start near uid identity (inr none) =
-    inr (λ key lines runs. none.0 key lines (train_over other one day (turned one other day alike) start near uid key lines runs), none.1)
+    inr (λ key lines runs. none.0 key lines (train_over _ _ _ (turned _ _ _ alike) _ near _ _ _ runs), none.1)
 
 partner_over : (one other : Table) (day : ℕ) → AreAlike one other day → (partner : Option ℕ) → ((start : ℕ) → partner ≡ Some start → IsStartNear day start)
     → (uid identity : List ℕ) → IsPartnerIdentity one uid partner identity → IsPartnerIdentity other uid partner identity
@@ -161,16 +137,15 @@ carries_over one other day alike few = record {
 
 line_over : (one other : Table) (place : List ℕ) (day : ℕ) → CarriesOver one other day → (line : DockerLine)
     → IsEventLine one place day line ⊎ IsAssociationLine one place day line → IsEventLine other place day line ⊎ IsAssociationLine other place day line
-line_over one other place day carries line (inl event) = inl (event_line_over one other place day carries line event)
-line_over one other place day carries line (inr association) = inr (association_line_over one other place day carries line association)
+line_over = search (rules, event_line_over, association_line_over)
 
 list_over : (one other : Table) (place : List ℕ) (day : ℕ) → CarriesOver one other day → CarriesOver other one day → (lines : List DockerLine)
     → IsDockerList one place day lines → IsDockerList other place day lines
 list_over one other place day forth back lines is = record {
   ascending = is.ascending;
   members = λ line. (
-    λ among. line_over one other place day forth line ((is.members line).0 among),
-    λ told. (is.members line).1 (line_over other one place day back line told),
+    λ among. line_over _ _ _ _ forth _ ((is.members line).0 among),
+    λ told. (is.members line).1 (line_over _ _ _ _ back _ told),
   );
 }
 
@@ -188,30 +163,14 @@ IsNearPart day live part = (key : Key) → (part key ≡ live key) ⊎ ((part ke
 module _ (day : ℕ) (live part : Table) (is : IsNearPart day live part) where
   -- if the table `part` has a body at a key, the table `live` has the same body at this key
   was_there : (key : Key) (body : Body) → part key ≡ Some body → live key ≡ Some body
-  was_there key body there = by (is key)
-    where
-      by : (part key ≡ live key) ⊎ ((part key ≡ None) × IsLeftOut day live key) → live key ≡ Some body
-      by (inl same) = sym same ∙ there
-      by (inr none) = none_some body (sym none.0 ∙ there)
+  was_there = search (rules, none_some)
 
   schedule_stays : (key : Key) (lines : List (List ℕ)) → live key ≡ Some (schedule_body lines) → runs_near day (first_record lines) ≡ true
       → part key ≡ Some (schedule_body lines)
-  schedule_stays key lines is_live runs = by (is key)
-    where
-      by : (part key ≡ live key) ⊎ ((part key ≡ None) × IsLeftOut day live key) → part key ≡ Some (schedule_body lines)
-      by (inl same) = same ∙ is_live
-      by (inr none) =
-          let both : Some (schedule_body none.1.0) ≡ Some (schedule_body lines) = sym none.1.1 ∙ is_live in
-          let same : none.1.0 ≡ lines = cc in
-          let bad : false ≡ true = sym none.1.2 ∙ ap (λ (ls : List (List ℕ)). runs_near day (first_record ls)) same ∙ runs in
-          absurd (let worse : false ≡ true = bad in cc)
+  schedule_stays = search rules
 
   association_stays : (key : Key) (line : List ℕ) → live key ≡ Some (association_body line) → part key ≡ Some (association_body line)
-  association_stays key line is_live = by (is key)
-    where
-      by : (part key ≡ live key) ⊎ ((part key ≡ None) × IsLeftOut day live key) → part key ≡ Some (association_body line)
-      by (inl same) = same ∙ is_live
-      by (inr none) = absurd (let bad : Some (schedule_body none.1.0) ≡ Some (association_body line) = sym none.1.1 ∙ is_live in cc)
+  association_stays = search rules
 
   alike : AreAlike live part day
   alike = record {
@@ -236,22 +195,14 @@ module _ (day : ℕ) (live part : Table) (is : IsNearPart day live part) where
     forth = carries_over live part day alike few
 
     back : CarriesOver part live day
-    back =
-        carries_over part live day (turned live part day alike)
-        (λ key lines there. few key lines (was_there (schedule_key key) (schedule_body lines) there))
+    back = search (rules, carries_over, turned, alike, was_there)
 
     -- the tables `live` and `part` have the same docker list on the day
     pub near_list_iff : (place : List ℕ) (lines : List DockerLine) → IsDockerList live place day lines ↔ IsDockerList part place day lines
-    near_list_iff place lines = (list_over live part place day forth back lines, list_over part live place day back forth lines)
+    near_list_iff = search (rules, list_over, forth, back)
 
-  -- the tables `live` and `part` have the same description of a place, since no TIPLOC is left out
   pub near_description : (place : List ℕ) → description_in (part (tiploc_key place)) ≡ description_in (live (tiploc_key place))
-  near_description place = by (is (tiploc_key place))
-    where
-      by : (part (tiploc_key place) ≡ live (tiploc_key place)) ⊎ ((part (tiploc_key place) ≡ None) × IsLeftOut day live (tiploc_key place))
-          → description_in (part (tiploc_key place)) ≡ description_in (live (tiploc_key place))
-      by (inl same) = ap description_in same
-      by (inr none) = ap description_in none.0 ∙ sym (ap description_in none.1.1)
+  near_description = search rules
 
   text_same : (place : List ℕ) (lines : List DockerLine) → docker_text part place day lines ≡ docker_text live place day lines
   text_same place lines = ap (text_with place day lines) (near_description place)
@@ -259,6 +210,6 @@ module _ (day : ℕ) (live part : Table) (is : IsNearPart day live part) where
   -- the tables `live` and `part` have the same docker text on the day
   pub near_text_iff : HasFewMidnights live → (place text : List ℕ) → IsDockerText live place day text ↔ IsDockerText part place day text
   near_text_iff few place text = (
-    λ told. (told.0, (near_list_iff few place told.0).0 told.1, told.2 ∙ sym (text_same place told.0)),
-    λ told. (told.0, (near_list_iff few place told.0).1 told.1, told.2 ∙ text_same place told.0),
+    λ told. (told.0, (near_list_iff few _ told.0).0 told.1, told.2 ∙ sym (text_same place _)),
+    λ told. (told.0, (near_list_iff few _ told.0).1 told.1, told.2 ∙ text_same place _),
   )

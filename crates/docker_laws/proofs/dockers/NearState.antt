@@ -1,11 +1,11 @@
 -- If a valid state keeps only the entries that may count on a day, it is still valid, and its
 -- dockers of that day are unchanged.
-use Rattle.std.proofs.Common.{◌≡◌, ℕ, List, [], ◌∷◌, ◌++◌, inl, inr, ◌⊎◌, refl, ap, sym, ◌∙◌, Bool, true, false, cond, None, Contains, append-nil}
-use Rattle.std.specs.Prelude.{◌↔◌, filter}
-use Rattle.std.proofs.lemmas.List.Elements.{filter-append}
+use Rattle.std.proofs.Common.{◌≡◌, ℕ, List, inl, inr, ◌⊎◌, refl, ap, sym, ◌∙◌, Bool, true, false, None, Contains}
+use Rattle.std.proofs.Common.{rules}
+use Rattle.std.specs.Prelude.{◌↔◌}
 use Rattle.docker_model.specs.file.File.{first_record}
-use Rattle.docker_model.specs.file.Change.{tiploc_body, association_body, schedule_body}
-use Rattle.docker_model.specs.state.Op.{Op, deleted, lapsed, put_with, Entry, body_of}
+use Rattle.docker_model.specs.file.Change.{schedule_body}
+use Rattle.docker_model.specs.state.Op.{Op, put_with, Entry, body_of}
 use Rattle.docker_model.specs.state.State.{State, IsValid, AreAscending, live_table}
 use Rattle.docker_model.specs.docker.DockerLine.{DockerLine}
 use Rattle.docker_model.specs.docker.DockerList.{IsDockerList}
@@ -23,10 +23,7 @@ use Rattle.docker_laws.proofs.dockers.NearDocker.{IsLeftOut, IsNearPart, near_li
 may_not : (day : ℕ) (op : Op) → may_count day op ≡ false
     → (lines : List (List ℕ)) × (op ≡ put_with (schedule_body lines)) × (runs_near day (first_record lines) ≡ false)
 may_not day (put_with (schedule_body lines)) h = (lines, refl, h)
-may_not day (put_with (tiploc_body bytes)) h = absurd (let bad : true ≡ false = h in cc)
-may_not day (put_with (association_body line)) h = absurd (let bad : true ≡ false = h in cc)
-may_not day deleted h = absurd (let bad : true ≡ false = h in cc)
-may_not day lapsed h = absurd (let bad : true ≡ false = h in cc)
+may_not day _ h = absurd (let bad : true ≡ false = h in cc)
 
 -- if a state keeps only the entries that may count on a day, its live table loses only schedules
 -- that run on no start day near the day
@@ -62,41 +59,20 @@ near_part day state up key = by (find_in (near_entries day state.entries) key) (
 
 -- if a valid state keeps only the entries that may count on a day, it is still valid
 pub near_valid : (day : ℕ) (state : State) → IsValid state → IsValid (near_state day state)
-near_valid day state valid =
-    some_valid state (near_state day state) valid refl refl (sublist_filter (λ (entry : Keyed). may_count day entry.1.op) state.entries)
+near_valid = search (rules, some_valid, sublist_filter)
 
 -- if a valid state loses the entries that can't count on a day, its docker lists for that day are
 -- unchanged
 pub near_state_list : (place : List ℕ) (day : ℕ) (state : State) (lines : List DockerLine) → IsValid state
     → IsDockerList (live_table state) place day lines ↔ IsDockerList (live_table (near_state day state)) place day lines
-near_state_list place day state lines valid =
-    near_list_iff day (live_table state) (live_table (near_state day state)) (near_part day state valid.entries.1)
-    (bodies_few (live_table state) (good_bodies state valid)) place lines
+near_state_list place day state lines valid = near_list_iff day _ (live_table (near_state day state)) (near_part _ state valid.entries.1)
+    (bodies_few _ (good_bodies state valid)) place lines
 
 -- if a valid state loses the entries that can't count on a day, its docker texts for that day are
 -- unchanged
 pub near_state_text : (place : List ℕ) (day : ℕ) (state : State) (text : List ℕ) → IsValid state
     → IsDockerText (live_table state) place day text ↔ IsDockerText (live_table (near_state day state)) place day text
-near_state_text place day state text valid =
-    near_text_iff day (live_table state) (live_table (near_state day state)) (near_part day state valid.entries.1)
-    (bodies_few (live_table state) (good_bodies state valid)) place text
+near_state_text place day state text valid = near_text_iff day _ (live_table (near_state day state)) (near_part _ state valid.entries.1)
+    (bodies_few _ (good_bodies state valid)) _ text
 
 -- ---- `near_entries` keeps or drops each entry regardless of the other entries
-
-one_kept : (test : Keyed → Bool) (entry : Keyed) (b : Bool) → test entry ≡ b → filter test (entry ∷ []) ≡ cond b (entry ∷ []) []
-one_kept test entry b h = λ i. cond (h i) (entry ∷ []) []
-
--- `near_entries` keeps an appended entry that may count on the day
-pub near_with : (day : ℕ) (entries : List Keyed) (entry : Keyed) → may_count day entry.1.op ≡ true
-    → near_entries day (entries ++ entry ∷ []) ≡ near_entries day entries ++ entry ∷ []
-near_with day entries entry h =
-    filter-append (λ (e : Keyed). may_count day e.1.op) entries (entry ∷ [])
-    ∙ ap (λ (more : List Keyed). near_entries day entries ++ more) (one_kept (λ (e : Keyed). may_count day e.1.op) entry true h)
-
--- `near_entries` leaves out an appended entry that can't count on the day
-pub near_without : (day : ℕ) (entries : List Keyed) (entry : Keyed) → may_count day entry.1.op ≡ false
-    → near_entries day (entries ++ entry ∷ []) ≡ near_entries day entries
-near_without day entries entry h =
-    filter-append (λ (e : Keyed). may_count day e.1.op) entries (entry ∷ [])
-    ∙ ap (λ (more : List Keyed). near_entries day entries ++ more) (one_kept (λ (e : Keyed). may_count day e.1.op) entry false h)
-    ∙ append-nil (near_entries day entries)

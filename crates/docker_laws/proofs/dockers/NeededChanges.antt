@@ -1,13 +1,13 @@
 -- Of the kept changes, those to schedules that the docker of the place doesn't need may be dropped.
 -- The state made from the other changes has the same docker for the place and the day.
-use Rattle.std.proofs.Common.{◌≡◌, ℕ, ◌≤◌, List, [], ◌∷◌, length, subst, inl, inr, ◌⊎◌, refl, ap, sym, ◌∙◌}
+use Rattle.std.proofs.Common.{◌≡◌, ℕ, ◌≤◌, List, [], ◌∷◌, length, subst, inl, inr, ◌⊎◌, refl, ap, sym, ◌∙◌, arith, rules}
+use Rattle.std.proofs.lemmas.Grind.{common_steps}
 use Rattle.std.proofs.Common.{Bool, true, false, cond, Some, None, Contains}
-use Rattle.std.specs.Prelude.{Option, ◌↔◌, option_and_then, fold}
-use Rattle.std.specs.Str.{bytes_eq}
+use Rattle.std.specs.Prelude.{◌↔◌, fold}
 use Rattle.std.proofs.lemmas.Slice.Eq.{bytes_eq-Decides}
 use Rattle.docker_model.specs.file.File.{IsFile, most_records}
-use Rattle.docker_model.specs.file.Change.{Key, tiploc_key, association_key, schedule_key, ScheduleKey, Body, schedule_body, association_body}
-use Rattle.docker_model.specs.file.Change.{Act, delete, put, Change, changes}
+use Rattle.docker_model.specs.file.Change.{Key, schedule_key, ScheduleKey, Body}
+use Rattle.docker_model.specs.file.Change.{Act, put, Change, changes}
 use Rattle.docker_model.specs.state.Table.{Table, empty_table, after_change}
 use Rattle.docker_model.specs.state.State.{State, IsValid, live_table}
 use Rattle.docker_model.specs.state.Summary.{IsSummary}
@@ -15,11 +15,10 @@ use Rattle.docker_model.specs.docker.DockerLine.{DockerLine}
 use Rattle.docker_model.specs.docker.DockerList.{IsDockerList}
 use Rattle.docker_model.specs.docker.DockerText.{IsDockerText}
 use Rattle.docker_laws.specs.Excerpt.{IsNeeded, IsConcerned, IsExcerpt}
-use Rattle.docker_laws.specs.Thinning.{may_matter, thin_body, thinned, table_of, IsThinning, IsStateOfChanges, is_wanted, wanted_changes, HasUidsOf}
+use Rattle.docker_laws.specs.Thinning.{thinned, table_of, IsThinning, IsStateOfChanges, is_wanted, wanted_changes, HasUidsOf}
 use Rattle.cif_laws.proofs.lists.Membership.{cons-Contains, cons-Contains-first}
 use Rattle.cif_laws.proofs.lists.FilteredMembers.{filter_back}
 use Rattle.cif_laws.proofs.orders.Orders.{same_key}
-use Rattle.cif_laws.proofs.files.ChangeOrder.{Apart}
 use Rattle.state_laws.proofs.indexes.CallsTest.{calls_test, any_forth}
 use Rattle.docker_laws.proofs.dockers.Sublists.{sublist_filter, sublist_later}
 use Rattle.docker_laws.proofs.dockers.ThinChanges.{is_of, left_by, after_there, untouched}
@@ -30,8 +29,7 @@ use Rattle.docker_laws.proofs.dockers.ThinState.{live_is_made, live_of_summary, 
 
 -- an act that leaves a body puts this body
 put_by : (act : Act) (body : Body) → left_by act ≡ Some body → act ≡ put body
-put_by delete body left = absurd (let bad : None ≡ Some body = left in cc)
-put_by (put other) body left = cc
+put_by = search rules
 
 -- if a table has a body at a key after some changes, a change put it, or the table had it before
 put_or_before : (all : List Change) (table : Table) (key : Key) (body : Body) → fold after_change table all key ≡ Some body
@@ -59,12 +57,7 @@ put_or_before (change ∷ all) table key body there = by (put_or_before all (aft
 -- if the table after some changes has a body at a key, one of these changes put it
 pub was_put : (all : List Change) (key : Key) (body : Body) → table_of all key ≡ Some body
     → (change : Change) × Contains all change × (change.key ≡ key) × (change.act ≡ put body)
-was_put all key body there = by (put_or_before all empty_table key body there)
-  where
-    by : ((change : Change) × Contains all change × (change.key ≡ key) × (change.act ≡ put body)) ⊎ (empty_table key ≡ Some body)
-        → (change : Change) × Contains all change × (change.key ≡ key) × (change.act ≡ put body)
-    by (inl found) = found
-    by (inr before) = absurd (let bad : None ≡ Some body = before in cc)
+was_put = search (rules, put_or_before)
 
 -- ---- the table after the wanted changes
 
@@ -102,9 +95,7 @@ module _ (uids : List (List ℕ)) where
 
   -- a schedule with one of the UIDs is wanted
   pub wanted_uid : (key : ScheduleKey) → Contains uids key.uid → is_wanted uids (schedule_key key) ≡ true
-  wanted_uid key among = any_forth (λ uid. bytes_eq uid key.uid) uids key.uid among ((bytes_eq-Decides key.uid key.uid).1 refl)
-
--- ---- the state made from the wanted changes has the same docker as the summary of the file
+  wanted_uid = grind (common_steps, arith, any_forth, bytes_eq-Decides)
 
 module _ (place : List ℕ) (day : ℕ) (file : List (List ℕ)) (is_file : IsFile file) (few : length file ≤ most_records) (kept : List Change)
     (is : IsThinning place day (changes file) kept) (uids : List (List ℕ)) (part : State)
@@ -114,40 +105,29 @@ module _ (place : List ℕ) (day : ℕ) (file : List (List ℕ)) (is_file : IsFi
 
   -- the state made from the wanted changes is valid
   pub wanted_valid : IsValid part
-  wanted_valid =
-      some_valid place day file is_file few kept is wanted
-      (λ change among. (filter_back (λ (one : Change). is_wanted uids one.key) kept change among).0) part of
+  wanted_valid = some_valid _ _ _ is_file few _ is _ (λ change among. (filter_back _ _ _ among).0) _ of
 
   live_wanted : (key : Key) → live_table part key ≡ table_of wanted key
-  live_wanted =
-      live_is_made file wanted part of
-      (sublist_later Apart wanted kept (sublist_filter (λ (one : Change). is_wanted uids one.key) kept) (kept_apart place day file kept is))
+  live_wanted = live_is_made file _ part of
+      (sublist_later _ wanted _ (sublist_filter (λ (one : Change). is_wanted uids one.key) _) (kept_apart place _ file _ is))
 
   module _ (has : HasUidsOf place kept uids) (whole : State) (summary : IsSummary (file ∷ []) 0 whole) where
     abbrev thin : Table
     thin = thinned place day (live_table whole)
 
     table_is_thin : (key : Key) → table_of kept key ≡ thin key
-    table_is_thin key =
-        is.enough key
-        ∙ sym (ap (λ (found : Option Body). cond (may_matter place key) (option_and_then (thin_body place day) found) None)
-        (live_of_summary file whole summary key))
+    table_is_thin = search (rules, live_of_summary)
 
     concerned : (key : ScheduleKey) → IsConcerned thin place key.uid → Contains uids key.uid
     concerned key (inl call) =
-        let found = was_put kept (schedule_key call.key) (schedule_body call.lines) (table_is_thin (schedule_key call.key) ∙ call.calling.is_live) in
-        subst (Contains uids) call.uid_is
-        (has.calls found.0 call.key call.lines found.1 found.2 found.3 ((calls_test place call.lines).1 call.calling.calls))
+        let found = was_put _ _ _ (table_is_thin _ ∙ call.calling.is_live) in
+        subst (Contains uids) call.uid_is (has.calls found.0 call.key call.lines found.1 found.2 found.3 ((calls_test _ _).1 call.calling.calls))
     concerned key (inr named) =
-        let found = was_put kept (association_key named.key) (association_body named.line) (table_is_thin (association_key named.key) ∙ named.linked.is_live) in
+        let found = was_put _ _ _ (table_is_thin _ ∙ named.linked.is_live) in
         subst (Contains uids) named.associated_is (has.names found.0 named.key named.line found.1 found.2 found.3)
 
     not_needed : (key : Key) → is_wanted uids key ≡ false → ¬ IsNeeded thin place key
-    not_needed (tiploc_key code) gone needed = absurd (let bad : true ≡ false = gone in cc)
-    not_needed (association_key key) gone needed = absurd (let bad : true ≡ false = gone in cc)
-    not_needed (schedule_key key) gone needed =
-        let bad : true ≡ false = sym (wanted_uid uids key (concerned key needed)) ∙ gone in
-        absurd (let worse : true ≡ false = bad in cc)
+    not_needed = search (rules, wanted_uid, concerned)
 
     -- the live table of the state is an excerpt of the thinned table
     pub wanted_excerpt : IsExcerpt place thin (live_table part)

@@ -1,8 +1,7 @@
 -- On a day a UID has at most one chosen schedule, and a group at most one chosen association.
-use Rattle.std.proofs.Common.{◌≡◌, ℕ, List, ap, sym, ◌∙◌, Some}
+use Rattle.std.proofs.Common.{◌≡◌, ℕ, List, sym, ◌∙◌, Some, rules}
 use Rattle.std.specs.declared.cmp.Ordering.TheVariants.{Equal}
-use Rattle.std.specs.Ordering.{nat_cmp}
-use Rattle.std.specs.Cmp.{IsTotalOrder, then_total, on_total}
+use Rattle.std.specs.Cmp.{IsTotalOrder}
 use Rattle.std.proofs.lemmas.Cmp.{back_total, nat_cmp_total}
 use Rattle.std.proofs.lemmas.Map.Lookups.{exact_unsigned}
 use Rattle.docker_model.specs.file.Change.{schedule_key, association_key, ScheduleKey, AssociationKey, schedule_body, association_body}
@@ -13,48 +12,29 @@ use Rattle.cif_laws.proofs.orders.AtMost.{level}
 
 -- the order of choice among schedules is total
 pub schedule_choice_total : IsTotalOrder schedule_choice_cmp
-schedule_choice_total =
-    then_total (on_total (λ (k : ScheduleKey). k.indicator) nat_cmp_total) (on_total (λ (k : ScheduleKey). k.runs_from) (back_total nat_cmp_total))
+schedule_choice_total = search (rules, nat_cmp_total, back_total)
 
 -- the order of choice among associations is total
 pub association_choice_total : IsTotalOrder association_choice_cmp
-association_choice_total =
-    then_total (on_total (λ (k : AssociationKey). k.indicator) nat_cmp_total) (on_total (λ (k : AssociationKey). k.start) (back_total nat_cmp_total))
+association_choice_total = search (rules, nat_cmp_total, back_total)
 
 -- two live schedules with the same key have the same records
 pub one_schedule : (live : Table) (a b : ScheduleKey) (xs ys : List (List ℕ)) → a ≡ b → live (schedule_key a) ≡ Some (schedule_body xs)
     → live (schedule_key b) ≡ Some (schedule_body ys) → xs ≡ ys
-one_schedule live a b xs ys same one two =
-    let e : Some (schedule_body xs) ≡ Some (schedule_body ys) = sym one ∙ ap (λ k. live (schedule_key k)) same ∙ two in cc
+one_schedule = search rules
 
 -- two live associations with the same key have the same record
 pub one_association : (live : Table) (a b : AssociationKey) (x y : List ℕ) → a ≡ b → live (association_key a) ≡ Some (association_body x)
     → live (association_key b) ≡ Some (association_body y) → x ≡ y
-one_association live a b x y same one two =
-    let e : Some (association_body x) ≡ Some (association_body y) = sym one ∙ ap (λ k. live (association_key k)) same ∙ two in cc
+one_association = search rules
 
 -- two schedules of one UID that tie in the order of choice have the same key
 pub tied_schedules : (a b : ScheduleKey) → a.uid ≡ b.uid → schedule_choice_cmp a b ≡ Equal → a ≡ b
-tied_schedules a b uids tied =
-    let parts = then_equal (nat_cmp a.indicator b.indicator) (nat_cmp b.runs_from a.runs_from) tied in
-    λ i. record {
-      uid = uids i;
-      runs_from = sym (exact_unsigned b.runs_from a.runs_from parts.1) i;
-      indicator = exact_unsigned a.indicator b.indicator parts.0 i;
-    }
+tied_schedules = search (rules, then_equal, exact_unsigned)
 
 -- two associations of one group that tie in the order of choice have the same key
 pub tied_associations : (a b : AssociationKey) → group_of a ≡ group_of b → association_choice_cmp a b ≡ Equal → a ≡ b
-tied_associations a b groups tied =
-    let parts = then_equal (nat_cmp a.indicator b.indicator) (nat_cmp b.start a.start) tied in
-    λ i. record {
-      base = (groups i).base;
-      associated = (groups i).associated;
-      start = sym (exact_unsigned b.start a.start parts.1) i;
-      location = (groups i).location;
-      suffix = (groups i).suffix;
-      indicator = exact_unsigned a.indicator b.indicator parts.0 i;
-    }
+tied_associations = search (rules, then_equal, exact_unsigned)
 
 -- a UID has at most one chosen schedule on a day
 pub one_chosen : (live : Table) (uid : List ℕ) (day : ℕ) (a b : ScheduleKey) (xs ys : List (List ℕ)) → IsChosen live uid day a xs → IsChosen live uid day b ys

@@ -1,10 +1,8 @@
 -- Docker lines that tie in the order of docker lines are equal. They belong to the same schedule or
 -- association, and to the same start day.
-use Rattle.std.proofs.Common.{◌≡◌, ℕ, List, ap, sym, ◌∙◌, subst, inl, inr, ◌⊎◌, Some, None, Bool, true, false, cond, Contains, arith}
-use Rattle.std.specs.Prelude.{Option, codes, ◌==◌}
-use Rattle.std.specs.Str.{bytes_eq}
+use Rattle.std.proofs.Common.{◌≡◌, ℕ, List, ap, sym, ◌∙◌, subst, inl, inr, ◌⊎◌, Some, None, Contains, rules}
+use Rattle.std.specs.Prelude.{Option}
 use Rattle.std.specs.declared.cmp.Ordering.TheVariants.{Equal}
-use Rattle.std.specs.Ordering.{nat_cmp}
 use Rattle.std.proofs.lemmas.Map.Lookups.{exact_unsigned, exact_bytes}
 use Rattle.std.proofs.lemmas.Bool.{eqb-true}
 use Rattle.std.proofs.lemmas.Slice.Eq.{bytes_eq-Decides}
@@ -12,9 +10,8 @@ use Rattle.docker_model.specs.records.Record.{columns, column}
 use Rattle.docker_model.specs.file.Journey.{Occasion, joining, dividing, next_working}
 use Rattle.docker_model.specs.file.File.{first_record}
 use Rattle.docker_model.specs.file.Change.{ScheduleKey}
-use Rattle.docker_model.specs.state.Order.{bytes_cmp}
 use Rattle.docker_model.specs.state.Table.{Table}
-use Rattle.docker_model.specs.docker.Event.{Event, events_of, event_line, is_at, first_event_at}
+use Rattle.docker_model.specs.docker.Event.{Event, events_of, event_line, first_event_at}
 use Rattle.docker_model.specs.docker.Choice.{TrainRuns, IsChosenAssociation, group_of}
 use Rattle.docker_model.specs.docker.DockerLine.{DockerLine, docker_line_cmp, occasion_rank, associated_uid, line_of_event, line_of_association}
 use Rattle.docker_model.specs.docker.Association.{category_occasion, partner_start, IsIdentityOn, IsPartnerIdentity, IsAssociationLine}
@@ -36,19 +33,7 @@ pub record AreTied (a b : DockerLine) : Type 0 where
 
 -- two docker lines that tie are equal in each field that the order of docker lines compares
 pub tied_lines_agree : (a b : DockerLine) → docker_line_cmp a b ≡ Equal → AreTied a b
-tied_lines_agree a b e =
-    let p = then_equal (nat_cmp a.time b.time) _ e in
-    let q = then_equal (nat_cmp (occasion_rank a.occasion) (occasion_rank b.occasion)) _ p.1 in
-    let r = then_equal (bytes_cmp a.uid b.uid) _ q.1 in
-    let s = then_equal (nat_cmp a.start b.start) _ r.1 in
-    let t = then_equal (nat_cmp a.number b.number) (bytes_cmp (associated_uid a.detail) (associated_uid b.detail)) s.1 in
-    record {
-      occasions = exact_unsigned (occasion_rank a.occasion) (occasion_rank b.occasion) q.0;
-      uids = exact_bytes a.uid b.uid r.0;
-      starts = exact_unsigned a.start b.start s.0;
-      numbers = exact_unsigned a.number b.number t.0;
-      associated = exact_bytes (associated_uid a.detail) (associated_uid b.detail) t.1;
-    }
+tied_lines_agree = search (rules, then_equal, exact_unsigned, exact_bytes)
 
 -- ---- two lines of events that tie are equal
 
@@ -99,38 +84,16 @@ IsOfLink occasion = (occasion ≡ joining) ⊎ (occasion ≡ dividing) ⊎ (occa
 
 -- the occasion of an association's category is a join, a division or a next working
 pub category_is_of_link : (category : List ℕ) (occasion : Occasion) → category_occasion category ≡ Some occasion → IsOfLink occasion
-category_is_of_link category occasion is = first (bytes_eq category (codes "JJ")) is
-  where
-    third : (b : Bool) → cond b (Some next_working) None ≡ Some occasion → IsOfLink occasion
-    third true h = inr (inr (let e : next_working ≡ occasion = cc in sym e))
-    third false h = none_some occasion h
-
-    second : (b : Bool) → cond b (Some dividing) (cond (bytes_eq category (codes "NP")) (Some next_working) None) ≡ Some occasion → IsOfLink occasion
-    second true h = inr (inl (let e : dividing ≡ occasion = cc in sym e))
-    second false h = third (bytes_eq category (codes "NP")) h
-
-    first : (b : Bool) → cond b (Some joining) (cond (bytes_eq category (codes "VV")) (Some dividing)
-        (cond (bytes_eq category (codes "NP")) (Some next_working) None)) ≡ Some occasion → IsOfLink occasion
-    first true h = inl (let e : joining ≡ occasion = cc in sym e)
-    first false h = second (bytes_eq category (codes "VV")) h
+category_is_of_link = search (rules, none_some)
 
 not_both : (a b : Occasion) → IsOfTrain a → IsOfLink b → ¬ (occasion_rank a ≡ occasion_rank b)
-not_both a b (inl e) (inl f) same = let bad : ◌≡◌ {A = ℕ} 0 2 = sym (ap occasion_rank e) ∙ same ∙ ap occasion_rank f in omega arith
-not_both a b (inl e) (inr (inl f)) same = let bad : ◌≡◌ {A = ℕ} 0 3 = sym (ap occasion_rank e) ∙ same ∙ ap occasion_rank f in omega arith
-not_both a b (inl e) (inr (inr f)) same = let bad : ◌≡◌ {A = ℕ} 0 4 = sym (ap occasion_rank e) ∙ same ∙ ap occasion_rank f in omega arith
-not_both a b (inr (inl e)) (inl f) same = let bad : ◌≡◌ {A = ℕ} 1 2 = sym (ap occasion_rank e) ∙ same ∙ ap occasion_rank f in omega arith
-not_both a b (inr (inl e)) (inr (inl f)) same = let bad : ◌≡◌ {A = ℕ} 1 3 = sym (ap occasion_rank e) ∙ same ∙ ap occasion_rank f in omega arith
-not_both a b (inr (inl e)) (inr (inr f)) same = let bad : ◌≡◌ {A = ℕ} 1 4 = sym (ap occasion_rank e) ∙ same ∙ ap occasion_rank f in omega arith
-not_both a b (inr (inr e)) (inl f) same = let bad : ◌≡◌ {A = ℕ} 5 2 = sym (ap occasion_rank e) ∙ same ∙ ap occasion_rank f in omega arith
-not_both a b (inr (inr e)) (inr (inl f)) same = let bad : ◌≡◌ {A = ℕ} 5 3 = sym (ap occasion_rank e) ∙ same ∙ ap occasion_rank f in omega arith
-not_both a b (inr (inr e)) (inr (inr f)) same = let bad : ◌≡◌ {A = ℕ} 5 4 = sym (ap occasion_rank e) ∙ same ∙ ap occasion_rank f in omega arith
+not_both = search rules
 
 -- the line of an event and the line of an association have different occasions
 pub event_apart : (live : Table) (place : List ℕ) (day : ℕ) (a b : DockerLine) → IsEventLine live place day a → IsAssociationLine live place day b
     → ¬ (occasion_rank a.occasion ≡ occasion_rank b.occasion)
-event_apart live place day a b one two same =
-    not_both one.event.occasion two.occasion (event_occasion one.schedule one.event one.among)
-    (category_is_of_link (columns 35 36 two.association) two.occasion two.category)
+event_apart live place day a b one two same = not_both one.event.occasion _ (event_occasion one.schedule _ one.among)
+    (category_is_of_link (columns 35 36 two.association) _ two.category)
     (sym (ap (λ (l : DockerLine). occasion_rank l.occasion) one.is) ∙ same ∙ ap (λ (l : DockerLine). occasion_rank l.occasion) two.is)
 
 -- ---- two lines of associations that tie are equal
@@ -164,10 +127,7 @@ pub record AreOneAssociation (live : Table) (place : List ℕ) (day : ℕ) (a b 
 -- TIPLOC and suffix
 pub first_event_is : (base : List (List ℕ)) (location : List ℕ) (suffix : ℕ) (event : Event) → first_event_at base location suffix ≡ Some event
     → Contains (events_of base) event × (column 10 (event_line base event) ≡ suffix) × (columns 3 9 (event_line base event) ≡ location)
-first_event_is base location suffix event is =
-    let told = find_some (λ e. is_at location suffix (event_line base e)) (events_of base) event is in
-    let parts = both (bytes_eq (columns 3 9 (event_line base event)) location) (column 10 (event_line base event) == suffix) told.1 in
-    (told.0, eqb-true _ _ parts.1, (bytes_eq-Decides (columns 3 9 (event_line base event)) location).0 parts.0)
+first_event_is = search (rules, find_some, both, eqb-true, bytes_eq-Decides)
 
 -- two association lines that tie belong to one association and one start day
 pub same_association_line : (live : Table) (place : List ℕ) (day : ℕ) (a b : DockerLine) (one : IsAssociationLine live place day a)

@@ -1,13 +1,11 @@
 -- Lemmas on permanent dockers, which are the dockers of tables without the short-term plan.
-use Rattle.std.proofs.Common.{◌≡◌, ℕ, ◌+◌, List, [], ◌∷◌, refl, ap, sym, ◌∙◌, subst, inl, inr, Bool, true, false, cond, None, arith}
-use Rattle.std.specs.Prelude.{◌↔◌, Option, filter, fold, max, nat_lt, option_and_then}
-use Rattle.std.specs.Ordering.{is_eq}
+use Rattle.std.proofs.Common.{◌≡◌, ℕ, ◌+◌, List, [], ◌∷◌, refl, ap, sym, ◌∙◌, subst, Bool, true, false, cond, arith, rules}
+use Rattle.std.specs.Prelude.{◌↔◌, filter, fold, max, nat_lt}
 use Rattle.std.proofs.Math.Nat.{le-max_left, le-max_right}
 use Rattle.std.proofs.lemmas.Bool.{eqb-true, ltb-true, ltb-false}
-use Rattle.docker_model.specs.file.Change.{Key, association_key, schedule_key, Body, Change}
+use Rattle.docker_model.specs.file.Change.{Change}
 use Rattle.docker_model.specs.records.Date.{IsDay}
-use Rattle.docker_model.specs.state.Lapse.{IsDayRefused, lapse_table, unlapsed}
-use Rattle.docker_model.specs.state.Op.{body_of, key_cmp, op_of}
+use Rattle.docker_model.specs.state.Lapse.{IsDayRefused, lapse_table}
 use Rattle.docker_model.specs.state.State.{State, IsValid, live_table, lapse_state, HasGoodBodies}
 use Rattle.docker_model.specs.state.Summary.{IsSummary}
 use Rattle.docker_model.specs.state.Table.{Table, IsPlainTable, after_change}
@@ -36,38 +34,7 @@ use Rattle.docker_laws.proofs.runs.RunEnd.{greater_prints, one_text}
 after_one : (table : Table) (change : Change)
     → permanent_table (after_change table change)
     ≡ cond (is_permanent change.key) (after_change (permanent_table table) change) (permanent_table table)
-after_one table change = by (is_permanent change.key) refl
-  where
-    outside : (key : Key) (b : Bool) → is_permanent key ≡ b
-        → cond b (cond (is_eq (key_cmp change.key key)) (body_of (op_of change.act)) (table key)) None
-        ≡ cond (is_eq (key_cmp change.key key)) (cond b (body_of (op_of change.act)) None) (cond b (table key) None)
-    outside key true h = refl
-    outside key false h = either (is_eq (key_cmp change.key key))
-      where
-        either : (c : Bool) → ◌≡◌ {A = Option Body} None (cond c None None)
-        either true = refl
-        either false = refl
-
-    made : is_permanent change.key ≡ true → (key : Key) (c : Bool) → is_eq (key_cmp change.key key) ≡ c
-        → cond c (cond (is_permanent key) (body_of (op_of change.act)) None) (cond (is_permanent key) (table key) None)
-        ≡ cond c (body_of (op_of change.act)) (cond (is_permanent key) (table key) None)
-    made passes key true same = (λ i. cond ((ap is_permanent (sym (same_key change.key key same)) ∙ passes) i) (body_of (op_of change.act)) None)
-    made passes key false other = refl
-
-    passed : is_permanent change.key ≡ false → (key : Key) (c : Bool) → is_eq (key_cmp change.key key) ≡ c
-        → cond c (cond (is_permanent key) (body_of (op_of change.act)) None) (cond (is_permanent key) (table key) None)
-        ≡ cond (is_permanent key) (table key) None
-    passed fails key true same =
-        (λ i. cond ((ap is_permanent (sym (same_key change.key key same)) ∙ fails) i) (body_of (op_of change.act)) None)
-        ∙ (λ i. cond (sym (ap is_permanent (sym (same_key change.key key same)) ∙ fails) i) (table key) None)
-    passed fails key false other = refl
-
-    by : (b : Bool) → is_permanent change.key ≡ b
-        → permanent_table (after_change table change) ≡ cond b (after_change (permanent_table table) change) (permanent_table table)
-    by true h = λ i key.
-        (outside key (is_permanent key) refl ∙ made h key (is_eq (key_cmp change.key key)) refl) i
-    by false h = λ i key.
-        (outside key (is_permanent key) refl ∙ passed h key (is_eq (key_cmp change.key key)) refl) i
+after_one = search (rules, same_key)
 
 -- applying changes and then leaving out the short-term plan gives the same table as leaving it out
 -- first and then applying only the changes whose keys pass `is_permanent`
@@ -89,22 +56,13 @@ permanent_along table (change ∷ changes) = permanent_along (after_change table
 
 -- each line of a permanent docker has the STP indicator P
 pub permanent_line : (live : Table) (place : List ℕ) (day : ℕ) (line : DockerLine) → IsDockerLine (permanent_table live) place day line → line.indicator ≡ 80
-permanent_line live place day line (inl event) =
-    let is = (was_counted is_permanent live (schedule_key event.key) _ event.train_runs.chosen.running.is_live).0 in
-    ap (λ (it : DockerLine). it.indicator) event.is ∙ eqb-true event.key.indicator 80 is
-permanent_line live place day line (inr association) =
-    let is = (was_counted is_permanent live (association_key association.key) _ association.chosen.associated.is_live).0 in
-    ap (λ (it : DockerLine). it.indicator) association.is ∙ eqb-true association.key.indicator 80 is
+permanent_line = grind (arith, was_counted, eqb-true)
 
 -- ---- lapsing commutes with leaving out the short-term plan
 
 -- lapsing commutes with leaving out the short-term plan
 pub lapses_alike : (horizon : ℕ) (live : Table) → permanent_table (lapse_table horizon live) ≡ lapse_table horizon (permanent_table live)
-lapses_alike horizon live = λ i key. by (is_permanent key) (live key) i
-  where
-    by : (b : Bool) (found : Option Body) → cond b (option_and_then (unlapsed horizon) found) None ≡ option_and_then (unlapsed horizon) (cond b found None)
-    by true found = refl
-    by false found = refl
+lapses_alike = search rules
 
 -- suppose that the program doesn't refuse the dockers of a day because of a horizon. Then a table
 -- has the same permanent dockers of that day before and after its rows lapse with this horizon
@@ -154,11 +112,10 @@ pub permanent_of_files : (files others : List (List (List ℕ))) (horizon theirs
     → IsDockerText (permanent_table (live_table one)) place day text → IsDockerText (permanent_table (live_table two)) place day other → text ≡ other
 permanent_of_files files others horizon theirs one two are also same is_day day_too is that place day prints prints_too text other told told_too =
     let greater = max horizon theirs in
-    let day_is : IsDay greater = max_most horizon theirs _ is_day day_too in
-    let printed = greater_prints horizon theirs day prints prints_too in
-    let states = summary_unique files others same greater (lapse_state greater one) (lapse_state greater two)
-    (lapsed_summary files horizon greater one (le-max_left horizon theirs) is) (lapsed_summary others theirs greater two (le-max_right horizon theirs) that) in
-    one_text (permanent_table (live_table (lapse_state greater two))) place day text other
-    (subst (λ (s : State). IsDockerText (permanent_table (live_table s)) place day text) states
-    (permanent_stays greater one place day text day_is (summary_is_valid files horizon one is_day are.0 are.1 is) printed told))
-    (permanent_stays greater two place day other day_is (summary_is_valid others theirs two day_too also.0 also.1 that) printed told_too)
+    let day_is : IsDay greater = max_most _ _ _ is_day day_too in
+    let printed = greater_prints _ _ _ prints prints_too in
+    let states = summary_unique _ _ same _ _ _
+    (lapsed_summary _ _ _ _ (le-max_left horizon theirs) is) (lapsed_summary _ _ _ _ (le-max_right horizon theirs) that) in
+    one_text _ _ _ _ _ (subst (λ (s : State). IsDockerText (permanent_table (live_table s)) place day text) states
+    (permanent_stays _ _ _ _ _ day_is (summary_is_valid _ _ _ is_day are.0 are.1 is) printed told))
+    (permanent_stays _ _ _ _ _ day_is (summary_is_valid _ _ _ day_too also.0 also.1 that) printed told_too)

@@ -2,9 +2,9 @@
 -- docker of their plain table. The summary may have any horizon with which the program doesn't
 -- refuse the docker.
 use Rattle.std.proofs.Common.{◌≡◌, ℕ, ◌+◌, ◌≤◌, List, length, map, All, subst, inl, inr, ◌⊎◌, refl, ap, sym, ◌∙◌, Bool, true, false, Some, None, arith}
+use Rattle.std.proofs.Common.{rules}
 use Rattle.std.specs.Prelude.{Option, ◌↔◌, nat_lt, fold}
 use Rattle.std.proofs.lemmas.Bool.{ltb-true, ltb-false}
-use Rattle.std.proofs.lemmas.List.Elements.{All-contains}
 use Rattle.docker_model.specs.records.Date.{no_end_number, IsDay}
 use Rattle.docker_model.specs.file.File.{IsFile, most_records}
 use Rattle.docker_model.specs.file.Change.{Key, Act, delete, put, Body}
@@ -58,12 +58,7 @@ module _ (files : List (List (List ℕ))) (each : All IsFile files) (few : All (
     (plain : IsPlainTable files table)
     (floor : Option FileStamp) (is_floor : IsFloor (map ledger_item_of files) floor) where
   body_made_good : (key : Key) (entry : Entry) (body : Body) → IsEntryOf files floor key entry → body_of entry.op ≡ Some body → IsBodyOf key body
-  body_made_good key entry body made is =
-      let puts = put_of made.change.act body (ap (λ (e : Entry). body_of e.op) made.entry_is ∙ is) in
-      subst (λ k. IsBodyOf k body) made.key_is
-      (body_of_file made.file (All-contains IsFile files made.file each made.kept.among)
-      (All-contains (λ file. length file ≤ most_records) files made.file few made.kept.among)
-      made.change made.among body puts)
+  body_made_good = search (rules, put_of, body_of_file)
 
   -- if each file has at most `most_records` records, the bodies in the plain table of the files are
   -- well formed

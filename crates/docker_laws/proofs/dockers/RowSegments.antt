@@ -27,9 +27,7 @@ pub uid_segment : (live : Table) (uid : List ℕ) (front rows back : List Row) �
 uid_segment live uid front rows back are no_front no_back = record {
   each =
       λ key body among. (are.members key body).0 (Contains-append_left (front ++ rows) back (key, body) (Contains-append_right front rows (key, body) among));
-  all = λ key lines same is.
-      between front rows back (schedule_key key, schedule_body lines) (λ here. no_front key (schedule_body lines) here same)
-      (λ here. no_back key (schedule_body lines) here same)
+  all = λ key lines same is. between _ _ _ _ (λ here. no_front key (schedule_body lines) here same) (λ here. no_back key (schedule_body lines) here same)
       ((are.members (schedule_key key) (schedule_body lines)).1 is);
 }
 
@@ -41,8 +39,6 @@ pub group_segment : (live : Table) (group : Group) (front rows back : List Row) 
 group_segment live group front rows back are no_front no_back = record {
   each =
       λ key body among. (are.members key body).0 (Contains-append_left (front ++ rows) back (key, body) (Contains-append_right front rows (key, body) among));
-  all = λ key line same is.
-      between front rows back (association_key key, association_body line) (λ here. no_front key (association_body line) here same)
-      (λ here. no_back key (association_body line) here same)
+  all = λ key line same is. between _ _ _ _ (λ here. no_front key (association_body line) here same) (λ here. no_back key (association_body line) here same)
       ((are.members (association_key key) (association_body line)).1 is);
 }

@@ -1,9 +1,9 @@
 -- Lemmas on the docker lines of a schedule for one start day. The event lines of a docker are
 -- exactly these lines, for all schedules and start days.
-use Rattle.std.proofs.Common.{◌≡◌, ℕ, true, rules, List, Contains, ◌<◌, ap, sym, ◌∙◌, subst, Bool, eqb-true, arith, [], cond, refl, Some, None, false}
+use Rattle.std.proofs.Common.{◌≡◌, ℕ, true, rules, List, Contains, ap, sym, ◌∙◌, subst, Bool, eqb-true, arith, [], cond, refl, Some, None, false}
+use Rattle.std.proofs.lemmas.Grind.{common_steps}
 use Rattle.std.specs.Prelude.{◌==◌, filter, ◌&&◌, Option}
 use Rattle.std.specs.Str.{bytes_eq}
-use Rattle.std.specs.declared.cmp.Ordering.TheVariants.{Equal}
 use Rattle.std.specs.Ordering.{is_eq}
 use Rattle.std.specs.Cmp.{tied_itself}
 use Rattle.std.proofs.lemmas.Slice.Eq.{bytes_eq-Decides}
@@ -67,24 +67,15 @@ module _ (place : List ℕ) (day start : ℕ) (key : ScheduleKey) (lines : List 
   unfolding test
   event_lines_forth line is =
       let day_is : (event_day start lines is.event == day) ≡ true = ap (λ n. event_day start lines is.event == n) (sym is.today)
-      ∙ number_itself (event_day start lines is.event) in
+      ∙ number_itself _ in
       let passes : test is.event ≡ true = (λ i. (bytes_eq-Decides (columns 3 9 (event_line lines is.event)) place).1 is.here i && day_is i) in
-      subst (Contains (event_lines place day start key lines)) (sym is.is)
-      (map-Contains (line_of_event key start lines) (filter test (events_of lines)) is.event (filter_forth test (events_of lines) is.event is.among passes))
+      subst (Contains (event_lines place day start key lines)) (sym is.is) (map-Contains _ _ _ (filter_forth _ _ _ is.among passes))
 
   -- of the lines that `event_lines` computes, no two tie, since their events have different numbers
   pub event_lines_apart : AreApart docker_line_cmp (event_lines place day start key lines)
   unfolding test
-  event_lines_apart =
-      later_map (λ (a b : DockerLine). ¬ (docker_line_cmp a b ≡ Equal)) (line_of_event key start lines) (filter test (events_of lines))
-      (later_weaker (λ (a b : Event). a.number < b.number)
-      (λ a b. ¬ (docker_line_cmp (line_of_event key start lines a) (line_of_event key start lines b) ≡ Equal)) (filter test (events_of lines))
-      (λ a b in_a in_b below same. let e : a.number ≡ b.number =
-      (tied_lines_agree (line_of_event key start lines a) (line_of_event key start lines b) same).numbers in
-      omega arith)
-      (later_filter (λ (a b : Event). a.number < b.number) test (events_of lines) (numbers_ascend lines)))
+  event_lines_apart = grind (common_steps, arith, later_map, test, later_weaker, tied_lines_agree, later_filter, numbers_ascend)
 
--- the docker lines of a schedule for one start day
 abbrev pub schedule_piece : (List ℕ → ℕ → Option Train) → List ℕ → ℕ → ScheduleKey → List (List ℕ) → ℕ → List DockerLine
 schedule_piece trains place day key lines start = cond (runs_by (trains key.uid start) key) (event_lines place day start key lines) []
 
@@ -102,38 +93,37 @@ module _ (live : Table) (trains : List ℕ → ℕ → Option Train) (tell : Tel
     where
       made : TrainRuns live key.uid start key lines → Contains (event_lines place day start key lines) line → IsOfSchedule live place day key start line
       made runs inside =
-          let told = event_lines_back place day start key lines line inside in
+          let told = event_lines_back _ day start key lines line inside in
           record {
-            made =
-                record {
-                  start = start;
-                  key = key;
-                  schedule = lines;
-                  train_runs = runs;
-                  event = told.event;
-                  among = told.among;
-                  here = told.here;
-                  today = told.today;
-                  is = told.is;
-                };
+            made = record {
+              start = start;
+              key = key;
+              schedule = lines;
+              train_runs = runs;
+              event = told.event;
+              among = told.among;
+              here = told.here;
+              today = told.today;
+              is = told.is;
+            };
             of_key = refl;
             of_start = refl;
           }
 
       runs_as : (train : Train) → train.key ≡ key → TrainRuns live key.uid start train.key train.lines → TrainRuns live key.uid start key lines
       runs_as train same runs =
-          let lines_are = one_schedule live train.key key train.lines lines same runs.chosen.running.is_live is_live in
+          let lines_are = one_schedule live _ key _ lines same runs.chosen.running.is_live is_live in
           subst (λ (v : Train). TrainRuns live key.uid start v.key v.lines) (λ i. record { key = same i; lines = lines_are i }) runs
 
       by : (found : Option Train) → IsTrainOn live key.uid start found → Contains (cond (runs_by found key) (event_lines place day start key lines) []) line
           → IsOfSchedule live place day key start line
-      by None none inside = absurd (nil-Contains line inside)
+      by None none inside = absurd (nil-Contains _ inside)
       by (Some train) runs inside = inner (is_eq (schedule_key_cmp train.key key)) refl inside
         where
           inner : (b : Bool) → is_eq (schedule_key_cmp train.key key) ≡ b → Contains (cond b (event_lines place day start key lines) []) line
               → IsOfSchedule live place day key start line
           inner true h here = made (runs_as train (exact_schedule_key train.key key (eq_is (schedule_key_cmp train.key key) h)) runs) here
-          inner false h here = absurd (nil-Contains line here)
+          inner false h here = absurd (nil-Contains _ here)
 
   -- each event line of the docker is among the lines that `schedule_piece` computes for the line's
   -- schedule and start day
@@ -142,15 +132,14 @@ module _ (live : Table) (trains : List ℕ → ℕ → Option Train) (tell : Tel
   schedule_piece_forth line made = by (trains made.key.uid made.start) (tell made.key.uid made.start)
     where
       inside : Contains (event_lines place day made.start made.key made.schedule) line
-      inside =
-          event_lines_forth place day made.start made.key made.schedule line
+      inside = event_lines_forth _ day made.start made.key made.schedule line
           (record { event = made.event; among = made.among; here = made.here; today = made.today; is = made.is })
 
       by : (found : Option Train) → IsTrainOn live made.key.uid made.start found
           → Contains (cond (runs_by found made.key) (event_lines place day made.start made.key made.schedule) []) line
       by None none = absurd (none made.key made.schedule made.train_runs)
       by (Some train) runs =
-          let same = one_train live made.key.uid made.start train.key made.key train.lines made.schedule runs made.train_runs in
+          let same = one_train _ _ _ _ _ _ _ runs made.train_runs in
           let runs_is : is_eq (schedule_key_cmp train.key made.key) ≡ true = (λ i. is_eq (schedule_key_cmp (same.0 i) made.key))
           ∙ (λ i. is_eq (tied_itself schedule_key_total made.key i)) in
           subst (λ b. Contains (cond b (event_lines place day made.start made.key made.schedule) []) line) (sym runs_is) inside
@@ -159,11 +148,7 @@ module _ (live : Table) (trains : List ℕ → ℕ → Option Train) (tell : Tel
   -- lines
   pub schedule_piece_apart : (key : ScheduleKey) (lines : List (List ℕ)) (start : ℕ)
       → AreApart docker_line_cmp (schedule_piece trains place day key lines start)
-  schedule_piece_apart key lines start = by (runs_by (trains key.uid start) key)
-    where
-      by : (b : Bool) → AreApart docker_line_cmp (cond b (event_lines place day start key lines) [])
-      by true = event_lines_apart place day start key lines
-      by false = tt
+  schedule_piece_apart = search (rules, event_lines_apart)
 
   -- the train of an event line starts on the docker's day or on one of the two days before it
   pub event_starts : HasGoodBodies live → (line : DockerLine) (made : IsEventLine live place day line) → Contains (start_days day) made.start

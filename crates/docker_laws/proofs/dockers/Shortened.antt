@@ -1,25 +1,23 @@
 -- Of a schedule that calls at a place, a valid state may keep only the records that the docker of the
 -- place and a day needs. Then the state is still valid, and has the same docker for this place and
 -- day. Its excerpt for the place is valid too, and has the same docker.
-use Rattle.std.proofs.Common.{◌≡◌, ℕ, ◌≤◌, List, [], ◌∷◌, ◌++◌, refl, ap, sym, ◌∙◌, subst, Bool, true, false, cond, Some, None, map}
-use Rattle.std.specs.Prelude.{Option, ◌↔◌, ◌&&◌, option_map, option_and_then, find}
+use Rattle.std.proofs.Common.{◌≡◌, ℕ, List, [], ◌∷◌, refl, ap, sym, ◌∙◌, subst, Bool, true, false, cond, Some, None, map, arith, rules}
+use Rattle.std.specs.Prelude.{Option, ◌↔◌, ◌&&◌, option_map, find}
 use Rattle.std.specs.Ordering.{is_eq, on}
-use Rattle.std.proofs.lemmas.List.{map-append}
 use Rattle.docker_model.specs.records.Record.{basic_schedule, HasKind}
 use Rattle.docker_model.specs.file.Journey.{calls_at}
 use Rattle.docker_model.specs.file.File.{first_record}
 use Rattle.docker_model.specs.file.Change.{Key, tiploc_key, schedule_key, association_key, ScheduleKey, AssociationKey}
 use Rattle.docker_model.specs.file.Change.{Body, tiploc_body, schedule_body, association_body}
-use Rattle.docker_model.specs.state.Order.{IsBelow}
 use Rattle.docker_model.specs.state.Lapse.{HasNotToLapse}
-use Rattle.docker_model.specs.state.Op.{Op, deleted, lapsed, put_with, Entry, body_of, body_end, key_cmp}
+use Rattle.docker_model.specs.state.Op.{Op, body_of, body_end, key_cmp}
 use Rattle.docker_model.specs.state.State.{State, IsValid, IsGoodEntry, IsOpOf, IsBodyOf, IsScheduleOf, HasGoodBodies, AreAscending, live_table}
 use Rattle.docker_model.specs.docker.DockerLine.{DockerLine}
 use Rattle.docker_model.specs.docker.DockerList.{IsDockerList}
 use Rattle.docker_model.specs.docker.DockerText.{IsDockerText}
-use Rattle.docker_laws.specs.NearDay.{may_count, may_reach, near_entries, near_state}
+use Rattle.docker_laws.specs.NearDay.{may_reach, near_entries, near_state}
 use Rattle.docker_laws.specs.StandIn.{IsStandIn, StandsFor}
-use Rattle.docker_laws.specs.Thinning.{thin_lines, lines_for, excerpt_lines, excerpt_body, excerpt_op, excerpt_entry, excerpt_entries, shortened}
+use Rattle.docker_laws.specs.Thinning.{thin_lines, lines_for, excerpt_lines, excerpt_body, excerpt_op, excerpt_entry, shortened}
 use Rattle.docker_laws.specs.Thinning.{excerpt_on}
 use Rattle.cif_laws.proofs.lists.Membership.{Contains-map, all_members, member_of}
 use Rattle.cif_laws.proofs.lists.Later.{later_map}
@@ -30,7 +28,7 @@ use Rattle.state_laws.proofs.states.GoodBodies.{good_bodies}
 use Rattle.docker_laws.proofs.dockers.FewMidnights.{bodies_few}
 use Rattle.docker_laws.proofs.dockers.KeptSchedules.{first_kind}
 use Rattle.docker_laws.proofs.dockers.ExcerptWalk.{walk_valid, walk_list_iff, walk_text_iff}
-use Rattle.docker_laws.proofs.dockers.NearState.{near_valid, near_state_list, near_state_text, near_with, near_without}
+use Rattle.docker_laws.proofs.dockers.NearState.{near_valid, near_state_list, near_state_text}
 use Rattle.docker_laws.proofs.dockers.ThinBody.{needed_of_key}
 use Rattle.docker_laws.proofs.dockers.ThinDocker.{own_stand_in, needed_stand_in, stand_in_list_iff, stand_in_text_iff}
 
@@ -58,9 +56,7 @@ module _ (place : List ℕ) (day : ℕ) where
 
   -- an op in the excerpt is well formed, if the whole op is
   pub excerpt_is_op : (key : Key) (op : Op) → IsOpOf key op → IsOpOf key (excerpt_op place day op)
-  excerpt_is_op key deleted is = is
-  excerpt_is_op key lapsed is = is
-  excerpt_is_op key (put_with body) is = excerpt_is_body key body is
+  excerpt_is_op = search (rules, excerpt_is_body)
 
   -- the first record of a schedule is also the first record that the excerpt has
   first_stays : (lines : List (List ℕ)) → first_record (excerpt_lines place day lines) ≡ first_record lines
@@ -72,14 +68,10 @@ module _ (place : List ℕ) (day : ℕ) where
       by false c = refl
 
   end_stays : (body : Body) → body_end (excerpt_body place day body) ≡ body_end body
-  end_stays (schedule_body lines) = ap (λ (line : List ℕ). body_end (schedule_body (line ∷ []))) (first_stays lines)
-  end_stays (tiploc_body bytes) = refl
-  end_stays (association_body line) = refl
+  end_stays = search (rules, first_stays)
 
   stays_unlapsed : (horizon : ℕ) (op : Op) → HasNotToLapse horizon op → HasNotToLapse horizon (excerpt_op place day op)
-  stays_unlapsed horizon deleted is = is
-  stays_unlapsed horizon lapsed is = is
-  stays_unlapsed horizon (put_with body) is = subst (λ (end : ℕ). horizon ≤ end) (sym (end_stays body)) is
+  stays_unlapsed = search (rules, end_stays)
 
   -- ---- the shortened state is valid
 
@@ -93,68 +85,44 @@ module _ (place : List ℕ) (day : ℕ) where
     horizon = near.horizon;
     ledger = near.ledger;
     entries = (
-      all_members (IsGoodEntry state.ledger) (map short entries) (λ entry among.
-          let found = Contains-map short entries entry among in
-          subst (IsGoodEntry state.ledger) found.2 (good found.0 (member_of (IsGoodEntry state.ledger) entries found.0 near.entries.0 found.1))),
+      all_members _ (map short entries) (λ entry among.
+          let found = Contains-map _ entries _ among in
+          subst (IsGoodEntry state.ledger) found.2 (good found.0 (member_of (IsGoodEntry state.ledger) _ found.0 near.entries.0 found.1))),
       ascending near.entries.1,
     );
-    have_lapsed = all_members (λ (entry : Keyed). HasNotToLapse state.horizon entry.1.op) (map short entries) (λ entry among.
-        let found = Contains-map short entries entry among in
-        subst (λ (e : Keyed). HasNotToLapse state.horizon e.1.op) found.2
-        (stays_unlapsed state.horizon found.0.1.op
-        (member_of (λ (e : Keyed). HasNotToLapse state.horizon e.1.op) entries found.0 near.have_lapsed found.1)));
+    have_lapsed = all_members _ (map short entries) (λ entry among.
+        let found = Contains-map _ entries _ among in
+        subst (λ (e : Keyed). HasNotToLapse state.horizon e.1.op) found.2 (stays_unlapsed state.horizon _
+        (member_of (λ (e : Keyed). HasNotToLapse state.horizon e.1.op) _ found.0 near.have_lapsed found.1)));
   }
     where
       entries : List Keyed
       entries = near_entries day state.entries
 
       near : IsValid (near_state day state)
-      near = near_valid day state valid
+      near = near_valid _ state valid
 
       good : (entry : Keyed) → IsGoodEntry state.ledger entry → IsGoodEntry state.ledger (short entry)
-      good entry is = record { key = is.key; stamp = is.stamp; op = excerpt_is_op entry.0 entry.1.op is.op }
+      good entry is = record { key = is.key; stamp = is.stamp; op = excerpt_is_op _ entry.1.op is.op }
 
       ascending : AreAscending entries → AreAscending (map short entries)
-      ascending up =
-          ascending_of (on (λ (entry : Keyed). entry.0) key_cmp) (map short entries)
-          (later_map (IsBelow (on (λ (entry : Keyed). entry.0) key_cmp)) short entries
-          (later_of (on (λ (entry : Keyed). entry.0) key_cmp) entries up))
+      ascending up = ascending_of _ (map short entries) (later_map _ short _ (later_of (on (λ (entry : Keyed). entry.0) key_cmp) _ up))
 
   -- ---- the live table of the shortened state
 
   find_short : (key : Key) (entries : List Keyed) → find (λ (entry : Keyed). is_eq (key_cmp entry.0 key)) (map short entries)
       ≡ option_map short (find (λ (entry : Keyed). is_eq (key_cmp entry.0 key)) entries)
   find_short key [] = refl
-  find_short key (entry ∷ entries) = by (is_eq (key_cmp entry.0 key)) (find_short key entries)
-    where
-      by : (b : Bool) → find (λ (e : Keyed). is_eq (key_cmp e.0 key)) (map short entries)
-          ≡ option_map short (find (λ (e : Keyed). is_eq (key_cmp e.0 key)) entries)
-          → cond b (Some (short entry)) (find (λ (e : Keyed). is_eq (key_cmp e.0 key)) (map short entries))
-          ≡ option_map short (cond b (Some entry) (find (λ (e : Keyed). is_eq (key_cmp e.0 key)) entries))
-      by true rest = refl
-      by false rest = rest
+  find_short key (entry ∷ entries) = grind (arith, (find_short key entries))
 
   body_short : (op : Op) → body_of (excerpt_op place day op) ≡ option_map (excerpt_body place day) (body_of op)
-  body_short deleted = refl
-  body_short lapsed = refl
-  body_short (put_with body) = refl
+  body_short = search rules
 
   -- the bodies in the shortened state's live table are the bodies that the excerpt has instead of
   -- those in the state's live table
   live_short : (state : State) (key : Key)
       → live_table (shortened place day state) key ≡ option_map (excerpt_body place day) (live_table (near_state day state) key)
-  live_short state key =
-      ap (λ (found : Option Keyed).
-      option_and_then (λ (entry : Entry). body_of entry.op) (option_and_then (λ (pair : Keyed). Some pair.1) found))
-      (find_short key (near_entries day state.entries))
-      ∙ by (find (λ (entry : Keyed). is_eq (key_cmp entry.0 key)) (near_entries day state.entries))
-    where
-      by : (found : Option Keyed)
-          → option_and_then (λ (entry : Entry). body_of entry.op) (option_and_then (λ (pair : Keyed). Some pair.1) (option_map short found))
-          ≡ option_map (excerpt_body place day)
-          (option_and_then (λ (entry : Entry). body_of entry.op) (option_and_then (λ (pair : Keyed). Some pair.1) found))
-      by None = refl
-      by (Some pair) = body_short pair.1.op
+  live_short = search (rules, find_short, body_short)
 
   -- ---- the shortened state has the same docker as the state
 
@@ -202,9 +170,7 @@ module _ (place : List ℕ) (day : ℕ) where
     -- the shortened state has the same body as the state at the place's TIPLOC, if that entry may
     -- count on the day
     pub same_tiploc : live_table (shortened place day state) (tiploc_key place) ≡ live_table (near_state day state) (tiploc_key place)
-    same_tiploc =
-        live_short state (tiploc_key place)
-        ∙ tiploc_stays place (live_table (near_state day state) (tiploc_key place)) (near_good (tiploc_key place))
+    same_tiploc = search (rules, live_short, tiploc_stays, near_good)
 
     short_stands : StandsFor place day (live_table (near_state day state)) (live_table (shortened place day state))
     short_stands = record {
@@ -226,18 +192,16 @@ module _ (place : List ℕ) (day : ℕ) where
     pub shortened_list : (lines : List DockerLine)
         → IsDockerList (live_table state) place day lines ↔ IsDockerList (live_table (shortened place day state)) place day lines
     shortened_list lines =
-        let near = near_state_list place day state lines valid in
-        let short_iff = stand_in_list_iff place day (live_table (near_state day state)) (live_table (shortened place day state)) short_stands
-        (bodies_few (live_table (near_state day state)) near_good) (bodies_few (live_table (shortened place day state)) short_good) lines in
+        let near = near_state_list _ _ _ _ valid in
+        let short_iff = stand_in_list_iff _ _ _ _ short_stands (bodies_few _ near_good) (bodies_few _ short_good) _ in
         (λ is. short_iff.0 (near.0 is), λ is. near.1 (short_iff.1 is))
 
     -- a valid state and the shortened state have the same docker text for the place and the day
     pub shortened_text : (text : List ℕ)
         → IsDockerText (live_table state) place day text ↔ IsDockerText (live_table (shortened place day state)) place day text
     shortened_text text =
-        let near = near_state_text place day state text valid in
-        let short_iff = stand_in_text_iff place day (live_table (near_state day state)) (live_table (shortened place day state)) short_stands
-        (bodies_few (live_table (near_state day state)) near_good) (bodies_few (live_table (shortened place day state)) short_good) text in
+        let near = near_state_text _ _ _ _ valid in
+        let short_iff = stand_in_text_iff _ _ _ _ short_stands (bodies_few _ near_good) (bodies_few _ short_good) _ in
         (λ is. short_iff.0 (near.0 is), λ is. near.1 (short_iff.1 is))
 
 -- ---- the excerpt for a place and a day has the same docker as the state
@@ -265,15 +229,3 @@ excerpt_on_text place day state text valid =
     (λ is. walk.0 (near.0 is), λ is. near.1 (walk.1 is))
 
 -- ---- `excerpt_entries` keeps or drops each entry regardless of the other entries
-
--- an appended entry that may count on the day is kept, as the excerpt has it
-pub short_with : (place : List ℕ) (day : ℕ) (entries : List Keyed) (entry : Keyed) → may_count day entry.1.op ≡ true
-    → excerpt_entries place day (entries ++ entry ∷ []) ≡ excerpt_entries place day entries ++ excerpt_entry place day entry ∷ []
-short_with place day entries entry h =
-    ap (map (excerpt_entry place day)) (near_with day entries entry h)
-    ∙ map-append (excerpt_entry place day) (near_entries day entries) (entry ∷ [])
-
--- an appended entry that can't count on the day is left out
-pub short_without : (place : List ℕ) (day : ℕ) (entries : List Keyed) (entry : Keyed) → may_count day entry.1.op ≡ false
-    → excerpt_entries place day (entries ++ entry ∷ []) ≡ excerpt_entries place day entries
-short_without place day entries entry h = ap (map (excerpt_entry place day)) (near_without day entries entry h)

@@ -1,6 +1,6 @@
 -- Lemmas on sublists. A sublist has some elements of a list, possibly none or all, in the list's
 -- order.
-use Rattle.std.proofs.Common.{List, [], ◌∷◌, ◌++◌, ◌≡◌, ◌∙◌, refl, sym, subst, inl, inr, ◌⊎◌, Contains, Bool, true, false, cond, All}
+use Rattle.std.proofs.Common.{List, [], ◌∷◌, ◌++◌, ◌≡◌, ◌∙◌, refl, sym, subst, inl, inr, ◌⊎◌, Contains, Bool, All, arith}
 use Rattle.std.specs.Prelude.{filter}
 use Rattle.docker_laws.specs.Excerpt.{IsSublist}
 use Rattle.cif_laws.proofs.lists.Membership.{Contains-cons, cons-Contains, cons-Contains-first, nil-Contains}
@@ -20,11 +20,7 @@ sublist_itself (x ∷ xs) = inl (refl, sublist_itself xs)
 -- the elements of a list that pass a test are a sublist of the list
 pub sublist_filter : {A : Type 0} (test : A → Bool) (xs : List A) → IsSublist (filter test xs) xs
 sublist_filter test [] = tt
-sublist_filter test (x ∷ xs) = by (test x) (sublist_filter test xs)
-  where
-    by : (b : Bool) → IsSublist (filter test xs) xs → IsSublist (cond b (x ∷ filter test xs) (filter test xs)) (x ∷ xs)
-    by true rest = inl (refl, rest)
-    by false rest = sublist_behind (filter test xs) xs x rest
+sublist_filter test (x ∷ xs) = grind (arith, sublist_behind, (sublist_filter test xs))
 
 -- the members of a sublist are members of the list
 pub sublist_member : {A : Type 0} (xs ys : List A) (z : A) → IsSublist xs ys → Contains xs z → Contains ys z

@@ -1,8 +1,8 @@
 -- Texts that a table determines, and that don't change when its rows lapse. If two states are
 -- summaries of the same files, their texts of this kind are equal. If these files have distinct
 -- moments, the texts are also the texts of the files' plain table.
-use Rattle.std.proofs.Common.{◌≡◌, ℕ, ◌+◌, ◌≤◌, List, ap, sym, ◌∙◌, subst, Bool, true, false, refl, arith}
-use Rattle.std.specs.Prelude.{◌↔◌, max, nat_lt}
+use Rattle.std.proofs.Common.{◌≡◌, ℕ, ◌+◌, ◌≤◌, List, sym, subst, rules}
+use Rattle.std.specs.Prelude.{◌↔◌, max}
 use Rattle.std.proofs.Math.Nat.{le-max_left, le-max_right}
 use Rattle.std.proofs.lemmas.Bool.{ltb-true, ltb-false}
 use Rattle.docker_model.specs.records.Date.{IsDay}
@@ -35,16 +35,7 @@ module _ (Tells : Table → ℕ → List ℕ → Type 0) (lapses : StaysLapsed T
   -- after its rows lapse
   lapsed_iff : (horizon : ℕ) (live : Table) (day : ℕ) (text : List ℕ) → IsDay horizon → HasGoodBodies live → ¬ IsDayRefused horizon day
       → Tells live day text ↔ Tells (lapse_table horizon live) day text
-  lapsed_iff horizon live day text is_day good printed = by (nat_lt 0 horizon) (nat_lt day (horizon + 3)) refl refl
-    where
-      by : (b c : Bool) → nat_lt 0 horizon ≡ b → nat_lt day (horizon + 3) ≡ c → Tells live day text ↔ Tells (lapse_table horizon live) day text
-      by true true above before = absurd (printed (ltb-true 0 horizon above, ltb-true day (horizon + 3) before))
-      by true false above after = lapses horizon live day text is_day good (ltb-false day (horizon + 3) after)
-      by false c none either =
-          let low = ltb-false 0 horizon none in
-          let zero_is : horizon ≡ 0 = omega arith in
-          let all : lapse_table horizon live ≡ live = ap (λ h. lapse_table h live) zero_is ∙ (λ i key. lapse_table_none live key i) in
-          subst (λ (t : Table). Tells live day text ↔ Tells t day text) (sym all) (λ x. x, λ x. x)
+  lapsed_iff = search (rules, ltb-true, ltb-false, lapse_table_none)
 
   -- a text of a summary is the text of the plain table
   pub text_is_plain : (files : List (List (List ℕ))) (horizon : ℕ) (state : State) (table : Table) (day : ℕ) (text : List ℕ) → AreFiles files
@@ -58,9 +49,8 @@ module _ (Tells : Table → ℕ → List ℕ → Type 0) (lapses : StaysLapsed T
   -- entries lapse
   stays : (horizon : ℕ) (state : State) (day : ℕ) (text : List ℕ) → IsDay horizon → IsValid state → ¬ IsDayRefused horizon day
       → Tells (live_table state) day text → Tells (live_table (lapse_state horizon state)) day text
-  stays horizon state day text is_day valid printed is =
-      subst (λ (t : Table). Tells t day text) (sym (live_lapsed horizon state))
-      ((lapsed_iff horizon (live_table state) day text is_day (good_bodies state valid) printed).0 is)
+  stays horizon state day text is_day valid printed is = subst (λ (t : Table). Tells t day text) (sym (live_lapsed _ state))
+      ((lapsed_iff _ (live_table state) _ text is_day (good_bodies _ valid) printed).0 is)
 
   -- two summaries of the same files have the same text for each day that isn't refused because of
   -- their horizons
@@ -70,12 +60,10 @@ module _ (Tells : Table → ℕ → List ℕ → Type 0) (lapses : StaysLapsed T
       → Tells (live_table one) day text → Tells (live_table two) day other → text ≡ other
   text_of_files one_text files others horizon theirs one two are also same is_day day_too is that day prints prints_too text other told told_too =
       let greater = max horizon theirs in
-      let day_is : IsDay greater = max_most horizon theirs _ is_day day_too in
-      let printed = greater_prints horizon theirs day prints prints_too in
-      let states = summary_unique files others same greater (lapse_state greater one) (lapse_state greater two)
-      (lapsed_summary files horizon greater one (le-max_left horizon theirs) is)
-      (lapsed_summary others theirs greater two (le-max_right horizon theirs) that) in
-      one_text (live_table (lapse_state greater two)) day text other
-      (subst (λ (s : State). Tells (live_table s) day text) states
-      (stays greater one day text day_is (summary_is_valid files horizon one is_day are.0 are.1 is) printed told))
-      (stays greater two day other day_is (summary_is_valid others theirs two day_too also.0 also.1 that) printed told_too)
+      let day_is : IsDay greater = max_most _ _ _ is_day day_too in
+      let printed = greater_prints _ _ _ prints prints_too in
+      let states = summary_unique _ _ same _ _ _ (lapsed_summary _ _ _ _ (le-max_left horizon theirs) is)
+      (lapsed_summary _ _ _ _ (le-max_right horizon theirs) that) in
+      one_text (live_table (lapse_state greater two)) day text other (subst (λ (s : State). Tells (live_table s) day text) states
+      (stays _ _ _ _ day_is (summary_is_valid _ _ _ is_day are.0 are.1 is) printed told))
+      (stays _ _ _ _ day_is (summary_is_valid _ _ _ day_too also.0 also.1 that) printed told_too)

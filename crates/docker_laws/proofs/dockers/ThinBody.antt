@@ -1,8 +1,8 @@
 -- A body and its thinned form belong to the same key. The thin records of a schedule don't call at
 -- the place.
-use Rattle.std.proofs.Common.{◌≡◌, ℕ, ◌+◌, ◌≤◌, List, [], ◌∷◌, ◌++◌, subst, inl, inr, refl, ap, sym}
-use Rattle.std.proofs.Common.{◌∙◌, Bool, true, false, cond, Some, None, Contains, map, arith}
-use Rattle.std.specs.Prelude.{Option, codes, slice_index_or, nat_lt, ◌||◌, ◌&&◌}
+use Rattle.std.proofs.Common.{◌≡◌, ℕ, ◌≤◌, List, [], ◌∷◌, ◌++◌, subst, inl, inr, refl, ap, sym, rules}
+use Rattle.std.proofs.Common.{Bool, true, false, cond, Contains, map}
+use Rattle.std.specs.Prelude.{Option, codes, slice_index_or, ◌||◌, ◌&&◌}
 use Rattle.std.specs.Str.{bytes_eq}
 use Rattle.std.specs.List.{AllPass, list_all}
 use Rattle.std.proofs.lemmas.List.Elements.{All-from_recursion}
@@ -10,7 +10,6 @@ use Rattle.std.proofs.lemmas.List.Sums.{AllPass-from_list_all}
 use Rattle.std.proofs.lemmas.Slice.Eq.{bytes_eq-Decides}
 use Rattle.docker_model.specs.records.Record.{basic_schedule, origin_location, terminating_location, HasKind, kind_of, IsRecord, columns}
 use Rattle.docker_model.specs.records.Record.{is_location, is_printable}
-use Rattle.docker_model.specs.records.Clock.{scheduled_time}
 use Rattle.docker_model.specs.records.Field.{HasGoodFields}
 use Rattle.docker_model.specs.file.Journey.{Occasion, arrival, departure, timed, times_by_kind, fall_count, midnights, calls_at}
 use Rattle.docker_model.specs.file.File.{IsSchedule, IsWithinJourney, first_record}
@@ -46,35 +45,15 @@ not_another place here = ap (bytes_eq another) ((bytes_eq-Decides place nowhere)
 
 -- the place isn't NOWHERE if it isn't equal to it, compared the other way round
 not_nowhere : (place : List ℕ) → bytes_eq place nowhere ≡ false → bytes_eq nowhere place ≡ false
-not_nowhere place apart = by (bytes_eq nowhere place) refl
-  where
-    by : (b : Bool) → bytes_eq nowhere place ≡ b → b ≡ false
-    by true h =
-        let turned : bytes_eq place nowhere ≡ true = (bytes_eq-Decides place nowhere).1 (sym ((bytes_eq-Decides nowhere place).0 h)) in
-        let bad : false ≡ true = sym apart ∙ turned in
-        absurd (let worse : false ≡ true = bad in cc)
-    by false h = refl
+not_nowhere = search (rules, bytes_eq-Decides)
 
 -- the made-up origin and terminus don't call at the place
 pub ends_apart : (place : List ℕ) → calls_at place (ends_elsewhere place) ≡ false
-ends_apart place = by (bytes_eq place nowhere) refl
-  where
-    by : (b : Bool) → bytes_eq place nowhere ≡ b → calls_at place (cond (bytes_eq place nowhere) (ends_at another) (ends_at nowhere)) ≡ false
-    by true h =
-        (λ i. calls_at place (cond (h i) (ends_at another) (ends_at nowhere)))
-        ∙ (λ i. not_another place h i || (not_another place h i || false))
-    by false h =
-        (λ i. calls_at place (cond (h i) (ends_at another) (ends_at nowhere)))
-        ∙ (λ i. not_nowhere place h i || (not_nowhere place h i || false))
+ends_apart = search (rules, not_another, not_nowhere)
 
 -- if a schedule doesn't call at a place, neither does its first record
 first_apart : (place : List ℕ) (lines : List (List ℕ)) → calls_at place lines ≡ false → stops_at place (first_record lines) ≡ false
-first_apart place [] none = refl
-first_apart place (line ∷ lines) none = by (stops_at place line) none
-  where
-    by : (b : Bool) → (b || calls_at place lines) ≡ false → b ≡ false
-    by true h = cc
-    by false h = refl
+first_apart = search rules
 
 -- if a schedule doesn't call at a place, its thin records don't call at that place
 pub thin_elsewhere : (place : List ℕ) (lines : List (List ℕ)) → calls_at place lines ≡ false → calls_at place (thin_lines place (first_record lines)) ≡ false
@@ -91,28 +70,18 @@ abbrev times_in : List (Occasion × ℕ) → List ℕ
 times_in timings = map (λ (time : Occasion × ℕ). time.1) timings
 
 few_by : (first last : Option ℕ) → fall_count (times_in (timed departure first ++ (timed arrival last ++ []))) ≤ 2
-few_by None None = omega arith
-few_by None (Some b) = omega arith
-few_by (Some a) None = omega arith
-few_by (Some a) (Some b) = by (nat_lt b a)
-  where
-    by : (c : Bool) → cond c 1 0 + 0 ≤ 2
-    by true = omega arith
-    by false = omega arith
+few_by = search rules
 
 few_ends : (first last : List ℕ) → HasKind origin_location first → HasKind terminating_location last → midnights (first ∷ last ∷ []) ≤ 2
-few_ends first last origin terminus =
-    subst (λ times. fall_count (times_in times) ≤ 2)
-    (sym (λ i. times_by_kind (origin i) first ++ (times_by_kind (terminus i) last ++ [])))
-    (few_by (scheduled_time (columns 11 15 first)) (scheduled_time (columns 11 15 last)))
+few_ends first last origin terminus = subst (λ times. fall_count (times_in times) ≤ 2)
+    (sym (λ i. times_by_kind (origin i) first ++ (times_by_kind (terminus i) last ++ []))) (few_by _ _)
 
 -- ---- a schedule is still a schedule if its origin and its terminus are replaced
 
 -- the basic schedule of a schedule is a record
 basic_record : (lines : List (List ℕ)) (is : IsSchedule lines) → IsRecord is.basic
-basic_record lines is =
-    member_of IsRecord lines is.basic is.records
-    (subst (λ ls. Contains ls is.basic) (sym is.whole) (cons-Contains-first is.basic (is.extra ++ is.journey)))
+basic_record lines is = member_of IsRecord _ is.basic is.records
+    (subst (λ ls. Contains ls is.basic) (sym is.whole) (cons-Contains-first _ (is.extra ++ is.journey)))
 
 -- the basic schedule, any good origin and any good terminus together form a schedule
 with_any_ends : (lines : List (List ℕ)) → IsSchedule lines → (first last : List ℕ) → IsRecord first → IsRecord last → HasKind origin_location first
@@ -147,12 +116,7 @@ with_any_ends lines is first last first_is last_is origin terminus first_good la
 pub any_ends_of_key : (key : ScheduleKey) (lines : List (List ℕ)) → IsScheduleOf key lines → (first last : List ℕ) → IsRecord first → IsRecord last
     → HasKind origin_location first → HasKind terminating_location last → HasGoodFields first → HasGoodFields last
     → IsScheduleOf key (first_record lines ∷ first ∷ last ∷ [])
-any_ends_of_key key lines is first last first_is last_is origin terminus first_good last_good = record {
-  schedule = with_any_ends lines is.schedule first last first_is last_is origin terminus first_good last_good;
-  few = omega arith;
-  new = is.new;
-  key_is = is.key_is;
-}
+any_ends_of_key = search (rules, with_any_ends)
 
 -- ---- a body and its thinned form belong to the same key
 
@@ -165,12 +129,8 @@ thin_of_key place key lines is = by (bytes_eq place nowhere)
     printable line all = AllPass-from_list_all is_printable line all
 
     by : (b : Bool) → IsScheduleOf key (first_record lines ∷ cond b (ends_at another) (ends_at nowhere))
-    by true =
-        any_ends_of_key key lines is (origin_at another) (terminus_at another)
-        (refl, printable (origin_at another) refl) (refl, printable (terminus_at another) refl) refl refl refl refl
-    by false =
-        any_ends_of_key key lines is (origin_at nowhere) (terminus_at nowhere)
-        (refl, printable (origin_at nowhere) refl) (refl, printable (terminus_at nowhere) refl) refl refl refl refl
+    by true = any_ends_of_key _ _ is _ _ (refl, printable (origin_at another) refl) (refl, printable (terminus_at another) refl) refl refl refl refl
+    by false = any_ends_of_key _ _ is _ _ (refl, printable (origin_at nowhere) refl) (refl, printable (terminus_at nowhere) refl) refl refl refl refl
 
 -- the records of a schedule that the docker of a place and a day needs (`lines_for`) form a
 -- schedule with the same key

@@ -1,31 +1,27 @@
 -- Applying the changes that are kept for a place and a day gives the same table as applying all
 -- changes and then thinning the table.
-use Rattle.std.proofs.Common.{arith, append-nil, append_assoc, ◌≡◌, ℕ, List, [], ◌∷◌, ◌++◌, subst, inl, inr}
-use Rattle.std.proofs.Common.{◌⊎◌, refl, ap, sym, ◌∙◌, Bool, true, false, cond, Some, None, Contains, map}
-use Rattle.std.specs.Prelude.{Option, option_and_then, filter, fold, not, ◌&&◌}
-use Rattle.std.specs.declared.cmp.Ordering.TheVariants.{Greater}
-use Rattle.std.specs.Ordering.{is_eq, ordering_reverse}
+use Rattle.std.proofs.Common.{arith, append-nil, append_assoc, ◌≡◌, ℕ, List, [], ◌∷◌, ◌++◌, subst, rules}
+use Rattle.std.proofs.lemmas.Grind.{common_steps}
+use Rattle.std.proofs.Common.{refl, ap, sym, ◌∙◌, Bool, true, false, cond, None, map}
+use Rattle.std.specs.Prelude.{Option, option_and_then, filter, fold, not}
+use Rattle.std.specs.Ordering.{is_eq}
 use Rattle.std.specs.Cmp.{tied_itself}
-use Rattle.std.proofs.lemmas.List.Elements.{Contains-append_cases}
 use Rattle.docker_model.specs.state.Order.{IsBelow, IsAtMost}
-use Rattle.docker_model.specs.file.Journey.{calls_at}
 use Rattle.docker_model.specs.file.File.{first_record}
 use Rattle.docker_model.specs.file.Change.{schedule_body, Key, Body, Act, delete, put, Change}
-use Rattle.docker_model.specs.state.Op.{key_cmp, op_of, body_of, put_with}
+use Rattle.docker_model.specs.state.Op.{key_cmp, op_of, body_of}
 use Rattle.docker_model.specs.state.Table.{Table, empty_table, after_change}
-use Rattle.docker_laws.specs.NearDay.{near_starts, may_count, may_reach, runs_near}
-use Rattle.docker_model.specs.docker.Choice.{runs_within}
+use Rattle.docker_laws.specs.NearDay.{runs_near}
 use Rattle.docker_model.specs.records.Field.{as_new}
 use Rattle.cif_laws.proofs.records.Columns.{new_columns}
-use Rattle.std.specs.List.{list_any}
-use Rattle.docker_laws.specs.Thinning.{IsThinning, thin_lines, lines_for, body_for, may_matter, thin_body, thinned, thin_act}
+use Rattle.docker_laws.specs.Thinning.{IsThinning, lines_for, may_matter, thin_body, thinned, thin_act}
 use Rattle.docker_laws.specs.Thinning.{thin_change, thin_changes, table_of, AreEnough, HasNoChangeOf, AreAtMost, without}
 use Rattle.std.proofs.lemmas.List.{map-append}
 use Rattle.docker_laws.specs.Excerpt.{IsSublist}
 use Rattle.docker_laws.proofs.dockers.Sublists.{sublist_itself, sublist_filter, sublist_onward, sublist_append, sublist_front}
 use Rattle.cif_laws.proofs.orders.Orders.{same_key, key_total}
 use Rattle.cif_laws.proofs.orders.AtMost.{less_not_greater, at_most_trans}
-use Rattle.cif_laws.proofs.lists.Membership.{cons-Contains, cons-Contains-first, nil-Contains, Contains-single}
+use Rattle.cif_laws.proofs.lists.Membership.{cons-Contains, cons-Contains-first}
 
 -- whether the change has this key
 abbrev pub is_of : Key → Change → Bool
@@ -40,12 +36,7 @@ left_by act = body_of (op_of act)
 -- if an act leaves a body at a key, the thin form of the act leaves the thinned form of this body
 -- there
 thin_left : (place : List ℕ) (day : ℕ) (act : Act) → left_by (thin_act place day act) ≡ option_and_then (thin_body place day) (left_by act)
-thin_left place day delete = refl
-thin_left place day (put body) = by (may_count day (put_with body))
-  where
-    by : (b : Bool) → left_by (cond b (put (body_for place day body)) delete) ≡ cond b (Some (body_for place day body)) None
-    by true = refl
-    by false = refl
+thin_left = search rules
 
 -- after a change, the table has at the change's key the body that the change leaves, and at any
 -- other key the same body as before
@@ -61,8 +52,7 @@ left_at : (place : List ℕ) (day : ℕ) (one other : Table) (key : Key) → one
 left_at place day one other key same = λ i. cond (may_matter place key) (option_and_then (thin_body place day) (same i)) None
 
 none_or : (b : Bool) → ◌≡◌ {A = Option Body} (cond b None None) None
-none_or true = refl
-none_or false = refl
+none_or = search rules
 
 module _ (place : List ℕ) (day : ℕ) where
   -- a change to a key that can't matter to the docker of the place leaves the thinned table
@@ -100,26 +90,10 @@ module _ (place : List ℕ) (day : ℕ) where
 
   -- ---- thinning commutes with all changes of a list
 
-  -- the changes whose keys may matter to the docker of the place
-  abbrev matter : List Change → List Change
-  matter changes = filter (λ (change : Change). may_matter place change.key) changes
-
   kept_from : (changes : List Change) (table left : Table) → ((key : Key) → left key ≡ thinned place day table key) → (key : Key)
       → fold after_change left (thin_changes place day changes) key ≡ thinned place day (fold after_change table changes) key
   kept_from [] table left same key = same key
-  kept_from (change ∷ changes) table left same key = by (may_matter place change.key) refl (kept_from changes)
-    where
-      by : (b : Bool) → may_matter place change.key ≡ b
-          → ((one other : Table) → ((k : Key) → other k ≡ thinned place day one k) → (k : Key)
-          → fold after_change other (thin_changes place day changes) k ≡ thinned place day (fold after_change one changes) k)
-          → fold after_change left (map (thin_change place day) (cond (may_matter place change.key) (change ∷ matter changes) (matter changes))) key
-          ≡ thinned place day (fold after_change (after_change table change) changes) key
-      by true h rest =
-          (λ i. fold after_change left (map (thin_change place day) (cond (h i) (change ∷ matter changes) (matter changes))) key)
-          ∙ rest (after_change table change) (after_change left (thin_change place day change)) (λ k. step_kept table left change k h (same k)) key
-      by false h rest =
-          (λ i. fold after_change left (map (thin_change place day) (cond (h i) (change ∷ matter changes) (matter changes))) key)
-          ∙ rest (after_change table change) left (λ k. same k ∙ sym (step_elsewhere table change k h)) key
+  kept_from (change ∷ changes) table left same key = grind (arith, step_kept, step_elsewhere, (kept_from changes))
 
   -- applying the thin changes to a thinned table gives the same table as applying all changes to
   -- the table and then thinning the result
@@ -130,16 +104,13 @@ module _ (place : List ℕ) (day : ℕ) where
   -- applying the thin changes of a list to the empty table gives the same table as applying all
   -- changes of the list and then thinning the table
   thin_enough : (changes : List Change) → AreEnough place day changes (thin_changes place day changes)
-  thin_enough changes = kept_from changes empty_table empty_table (λ key. sym (none_or (may_matter place key)))
-
--- ---- a thinning can be made change by change
+  thin_enough = search (rules, kept_from, none_or)
 
 -- applying a list of changes with one change appended gives the same table as applying the list and
 -- then that change
 table_more : (table : Table) (changes : List Change) (change : Change)
     → fold after_change table (changes ++ change ∷ []) ≡ after_change (fold after_change table changes) change
-table_more table [] change = refl
-table_more table (first ∷ changes) change = table_more (after_change table first) changes change
+table_more = grind (common_steps, arith)
 
 -- changes to other keys leave the body at a key unchanged
 pub untouched : (changes : List Change) (table : Table) (key : Key) → HasNoChangeOf key changes → fold after_change table changes key ≡ table key
@@ -156,15 +127,7 @@ untouched (change ∷ changes) table key none =
 -- if all changes to a key are left out, the body at this key is unchanged
 without_here : (key : Key) (changes : List Change) (table : Table) → fold after_change table (without key changes) key ≡ table key
 without_here key [] table = refl
-without_here key (change ∷ changes) table = by (is_of key change) refl (without_here key changes)
-  where
-    by : (b : Bool) → is_of key change ≡ b → ((one : Table) → fold after_change one (without key changes) key ≡ one key)
-        → fold after_change table (cond (not (is_of key change)) (change ∷ without key changes) (without key changes)) key ≡ table key
-    by true h rest = (λ i. fold after_change table (cond (not (h i)) (change ∷ without key changes) (without key changes)) key) ∙ rest table
-    by false h rest =
-        (λ i. fold after_change table (cond (not (h i)) (change ∷ without key changes) (without key changes)) key)
-        ∙ rest (after_change table change)
-        ∙ after_there table change key h
+without_here key (change ∷ changes) table = grind (arith, after_there, (without_here key changes))
 
 -- leaving out the changes to one key leaves the bodies at all other keys unchanged
 without_there : (key other : Key) → is_eq (key_cmp key other) ≡ false → (changes : List Change) (one two : Table) → one other ≡ two other
@@ -194,28 +157,18 @@ module _ (place : List ℕ) (day : ℕ) where
 
     -- a change to a key that can't matter to the docker of the place may be dropped
     enough_elsewhere : may_matter place change.key ≡ false → AreEnough place day (changes ++ change ∷ []) kept
-    enough_elsewhere no_matter key =
-        so_far key ∙ sym (step_elsewhere place day (table_of changes) change key no_matter) ∙ sym (all_more key)
+    enough_elsewhere = search (rules, step_elsewhere, all_more)
 
     -- if the key of a change may matter to the docker of the place, the thin form of the change may
     -- be kept
     enough_kept : may_matter place change.key ≡ true → AreEnough place day (changes ++ change ∷ []) (kept ++ thin_change place day change ∷ [])
-    enough_kept matters key =
-        (λ i. table_more empty_table kept (thin_change place day change) i key)
-        ∙ step_kept place day (table_of changes) (table_of kept) change key matters (so_far key)
-        ∙ sym (all_more key)
+    enough_kept = search (rules, table_more, step_kept, all_more)
 
     -- after a change whose thin form is a deletion, the thinned table has no body at the key of the
     -- change
     none_left : thin_act place day change.act ≡ delete → (key : Key) → is_of key change ≡ true
         → thinned place day (after_change (table_of changes) change) key ≡ None
-    none_left deletes key h =
-        (λ i. cond (may_matter place key) (option_and_then (thin_body place day) (after_here (table_of changes) change key h i)) None)
-        ∙ (λ i. cond (may_matter place key) (gone i) None)
-        ∙ none_or (may_matter place key)
-      where
-        gone : option_and_then (thin_body place day) (left_by change.act) ≡ None
-        gone = sym (thin_left place day change.act) ∙ ap left_by deletes
+    none_left = search (rules, after_here, none_or, thin_left)
 
     same_elsewhere : (key : Key) → is_of key change ≡ false
         → thinned place day (after_change (table_of changes) change) key ≡ thinned place day (table_of changes) key
@@ -236,13 +189,11 @@ module _ (place : List ℕ) (day : ℕ) where
     enough_removed deletes key = by (is_of key change) refl
       where
         by : (b : Bool) → is_of key change ≡ b → table_of (without change.key kept) key ≡ thinned place day (table_of (changes ++ change ∷ [])) key
-        by true h =
-            (λ i. table_of (without (same_key change.key key h i) kept) key)
-            ∙ without_here key kept empty_table
+        by true h = (λ i. table_of (without (same_key _ key h i) kept) key)
+            ∙ without_here _ kept _
             ∙ sym (none_left deletes key h)
-            ∙ sym (all_more key)
-        by false h =
-            without_there change.key key h kept empty_table empty_table refl ∙ so_far key ∙ sym (same_elsewhere key h) ∙ sym (all_more key)
+            ∙ sym (all_more _)
+        by false h = without_there change.key _ h kept _ empty_table refl ∙ so_far key ∙ sym (same_elsewhere _ h) ∙ sym (all_more key)
 
     -- if the thin form of a change is kept, the earlier kept changes to the same key may be removed
     enough_replaced : may_matter place change.key ≡ true
@@ -274,21 +225,12 @@ module _ (place : List ℕ) (day : ℕ) where
 sublist_map : {A B : Type 0} (f : A → B) (xs ys : List A) → IsSublist xs ys → IsSublist (map f xs) (map f ys)
 sublist_map f [] ys is = tt
 sublist_map f (x ∷ xs) [] is = absurd is
-sublist_map {A} f (x ∷ xs) (y ∷ ys) is = by (sublist_map f xs ys) (sublist_map f (x ∷ xs) ys) is
-  where
-    by : (IsSublist xs ys → IsSublist (map f xs) (map f ys)) → (IsSublist (x ∷ xs) ys → IsSublist (map f (x ∷ xs)) (map f ys))
-        → ((x ≡ y) × IsSublist xs ys) ⊎ IsSublist (x ∷ xs) ys → IsSublist (map f (x ∷ xs)) (map f (y ∷ ys))
-    by both_step skip (inl here) = inl (ap f here.0, both_step here.1)
-    by both_step skip (inr later) = inr (skip later)
+sublist_map {A} f (x ∷ xs) (y ∷ ys) is = grind (arith, (sublist_map f xs ys), (sublist_map f (x ∷ xs) ys))
 
 module _ (place : List ℕ) (day : ℕ) where
   -- the thin forms of all changes whose keys may matter to the docker of the place are a thinning
   pub thinning_of_all : (changes : List Change) → IsThinning place day changes (thin_changes place day changes)
-  thinning_of_all changes = record {
-    some = sublist_map (thin_change place day) (filter (λ (change : Change). may_matter place change.key) changes) changes
-        (sublist_filter (λ (change : Change). may_matter place change.key) changes);
-    enough = thin_enough place day changes;
-  }
+  thinning_of_all = search (rules, sublist_map, sublist_filter, thin_enough)
 
   -- the empty list is a thinning of the empty list of changes
   pub thinning_at_first : IsThinning place day [] []
@@ -301,64 +243,40 @@ module _ (place : List ℕ) (day : ℕ) where
     -- a sublist of the thin changes stays a sublist if one more thin change is appended to the thin
     -- changes
     still_some : (others : List Change) → IsSublist others kept → IsSublist others (map (thin_change place day) (changes ++ change ∷ []))
-    still_some others inside =
-        subst (IsSublist others) (sym (map-append (thin_change place day) changes (change ∷ [])))
-        (sublist_onward others kept (before ++ thin_change place day change ∷ []) inside
-        (sublist_onward kept before (before ++ thin_change place day change ∷ []) is.some (sublist_front before (thin_change place day change ∷ []))))
+    still_some = search (rules, map-append, sublist_onward, sublist_front)
 
     -- suppose that the same thin change is appended to the thin changes and to a sublist of them.
     -- Then the longer sublist is a sublist of the longer list
     some_more : (others : List Change) → IsSublist others kept
         → IsSublist (others ++ thin_change place day change ∷ []) (map (thin_change place day) (changes ++ change ∷ []))
-    some_more others inside =
-        subst (IsSublist (others ++ thin_change place day change ∷ [])) (sym (map-append (thin_change place day) changes (change ∷ [])))
-        (sublist_append others before (thin_change place day change ∷ []) (thin_change place day change ∷ [])
-        (sublist_onward others kept before inside is.some) (sublist_itself (thin_change place day change ∷ [])))
+    some_more = search (rules, map-append, sublist_append, sublist_onward, sublist_itself)
 
     -- a change to a key that can't matter to the docker of the place may be dropped
     pub thinning_elsewhere : may_matter place change.key ≡ false → IsThinning place day (changes ++ change ∷ []) kept
-    thinning_elsewhere no_matter = record {
-      some = still_some kept (sublist_itself kept);
-      enough = enough_elsewhere place day changes kept change is.enough no_matter;
-    }
+    thinning_elsewhere = search (rules, still_some, sublist_itself, enough_elsewhere)
 
     -- if the key of a change may matter to the docker of the place, the thin form of the change may
     -- be kept
     pub thinning_kept : may_matter place change.key ≡ true → IsThinning place day (changes ++ change ∷ []) (kept ++ thin_change place day change ∷ [])
-    thinning_kept matters = record {
-      some = some_more kept (sublist_itself kept);
-      enough = enough_kept place day changes kept change is.enough matters;
-    }
+    thinning_kept = search (rules, some_more, sublist_itself, enough_kept)
 
     -- a change whose thin form is a deletion may be dropped if no change to the same key is kept
     pub thinning_dropped : thin_act place day change.act ≡ delete → HasNoChangeOf change.key kept → IsThinning place day (changes ++ change ∷ []) kept
-    thinning_dropped deletes none = record {
-      some = still_some kept (sublist_itself kept);
-      enough = enough_dropped place day changes kept change is.enough deletes none;
-    }
+    thinning_dropped = search (rules, still_some, sublist_itself, enough_dropped)
 
     -- after a change whose thin form is a deletion, the kept changes to the same key may be removed
     pub thinning_removed : thin_act place day change.act ≡ delete → IsThinning place day (changes ++ change ∷ []) (without change.key kept)
-    thinning_removed deletes = record {
-      some = still_some (without change.key kept) (sublist_filter (λ (other : Change). not (is_of change.key other)) kept);
-      enough = enough_removed place day changes kept change is.enough deletes;
-    }
+    thinning_removed = search (rules, still_some, sublist_filter, enough_removed)
 
     -- if the thin form of a change is kept, the earlier kept changes to the same key may be removed
     pub thinning_replaced : may_matter place change.key ≡ true
         → IsThinning place day (changes ++ change ∷ []) (without change.key kept ++ thin_change place day change ∷ [])
-    thinning_replaced matters = record {
-      some = some_more (without change.key kept) (sublist_filter (λ (other : Change). not (is_of change.key other)) kept);
-      enough = enough_replaced place day changes kept change is.enough matters;
-    }
+    thinning_replaced = search (rules, some_more, sublist_filter, enough_replaced)
 
--- a thinning of some changes can be continued with more changes. For each further change whose key
 -- may matter to the docker of the place, the thin form of this change is kept
 pub thinning_more : (place : List ℕ) (day : ℕ) (all kept more : List Change) → IsThinning place day all kept
     → IsThinning place day (all ++ more) (kept ++ thin_changes place day more)
-thinning_more place day all kept [] is =
-    subst (λ (changes : List Change). IsThinning place day changes (kept ++ [])) (sym (append-nil all))
-    (subst (IsThinning place day all) (sym (append-nil kept)) is)
+thinning_more place day all kept [] is = search (rules, append-nil)
 thinning_more place day all kept (change ∷ more) is =
     subst (λ (changes : List Change). IsThinning place day changes (kept ++ thin_changes place day (change ∷ more))) (append_assoc all (change ∷ []) more)
     (by (may_matter place change.key) refl (λ others so_far. thinning_more place day (all ++ change ∷ []) others more so_far))
@@ -388,67 +306,25 @@ module _ (place : List ℕ) (day : ℕ) (lines : List (List ℕ)) where
   pub act_far : runs_near day (first_record lines) ≡ false → thin_act place day (put (schedule_body lines)) ≡ delete
   act_far far = λ i. cond (far i) (put (schedule_body (lines_for place day lines))) delete
 
-  act_near : runs_near day (first_record lines) ≡ true → thin_act place day (put (schedule_body lines)) ≡ put (schedule_body (lines_for place day lines))
-  act_near near = λ i. cond (near i) (put (schedule_body (lines_for place day lines))) delete
-
-  -- suppose that a schedule runs on a start day near the day and calls at the place. If an event of
-  -- it may be on the day, the thin form of its put is the same put
-  pub act_calls : runs_near day (first_record lines) ≡ true → calls_at place lines ≡ true → may_reach day lines ≡ true
-      → thin_act place day (put (schedule_body lines)) ≡ put (schedule_body lines)
-  act_calls near calls reaches =
-      act_near near ∙ (λ i. put (schedule_body (cond (calls i && may_reach day lines) lines (thin_lines place (first_record lines)))))
-      ∙ (λ i. put (schedule_body (cond (reaches i) lines (thin_lines place (first_record lines)))))
-
-  -- if a schedule runs on a start day near the day but doesn't call at the place, the thin form of
-  -- its put is a put of the thin records
-  pub act_thin : runs_near day (first_record lines) ≡ true → calls_at place lines ≡ false
-      → thin_act place day (put (schedule_body lines)) ≡ put (schedule_body (thin_lines place (first_record lines)))
-  act_thin near none =
-      act_near near ∙ (λ i. put (schedule_body (cond (none i && may_reach day lines) lines (thin_lines place (first_record lines)))))
-
-  -- suppose that a schedule runs on a start day near the day. If no event of it may be on the day,
-  -- the thin form of its put is a put of the thin records
-  pub act_other_day : runs_near day (first_record lines) ≡ true → may_reach day lines ≡ false
-      → thin_act place day (put (schedule_body lines)) ≡ put (schedule_body (thin_lines place (first_record lines)))
-  act_other_day near never = act_near near ∙ by (calls_at place lines)
-    where
-      by : (b : Bool) → put (schedule_body (cond (b && may_reach day lines) lines (thin_lines place (first_record lines))))
-          ≡ put (schedule_body (thin_lines place (first_record lines)))
-      by true = λ i. put (schedule_body (cond (never i) lines (thin_lines place (first_record lines))))
-      by false = refl
-
--- whether a basic schedule runs on a start day near the day doesn't depend on its transaction
 pub near_of_new : (day : ℕ) (line : List ℕ) → runs_near day (as_new line) ≡ runs_near day line
-near_of_new day line = λ i. list_any
-    (λ start. runs_within (new_columns line 10 15 (omega arith) i) (new_columns line 16 21 (omega arith) i) (new_columns line 22 28 (omega arith) i) start)
-    (near_starts day)
+near_of_new = search (rules, new_columns)
 
 -- ---- upper bounds of the keys of the kept changes
 
 -- if a key is above an upper bound of the keys of the kept changes, no kept change has this key
 pub none_above : (highest key : Key) (kept : List Change) → AreAtMost highest kept → IsBelow key_cmp highest key → HasNoChangeOf key kept
-none_above highest key kept low below change among same =
-    low change among (subst (λ (k : Key). key_cmp k highest ≡ Greater) (sym same) (key_total.antisymm key highest ∙ ap ordering_reverse below))
-
--- for the empty list of kept changes, any key is an upper bound
-pub none_at_first : (highest : Key) → AreAtMost highest []
-none_at_first highest change among = absurd (nil-Contains change among)
+none_above = search (rules, key_total)
 
 -- if one more change is kept, and its key isn't above the upper bound `highest`, this bound is
 -- still an upper bound
 pub still_at_most : (highest : Key) (kept : List Change) (change : Change) → AreAtMost highest kept → IsAtMost key_cmp change.key highest
     → AreAtMost highest (kept ++ change ∷ [])
-still_at_most highest kept change low more other among = by (Contains-append_cases kept (change ∷ []) other among)
-  where
-    by : Contains kept other ⊎ Contains (change ∷ []) other → IsAtMost key_cmp other.key highest
-    by (inl before) = low other before
-    by (inr last) = subst (λ (c : Change). IsAtMost key_cmp c.key highest) (Contains-single change other last) more
+still_at_most = grind (common_steps, arith)
 
 -- if one more change is kept, and its key is above the upper bound `highest`, this key is an upper
 -- bound of the keys of all kept changes
 pub raised_at_most : (highest : Key) (kept : List Change) (change : Change) → AreAtMost highest kept → IsBelow key_cmp highest change.key
     → AreAtMost change.key (kept ++ change ∷ [])
-raised_at_most highest kept change low below =
-    still_at_most change.key kept change
-    (λ other among. at_most_trans key_total other.key highest change.key (low other among) (less_not_greater (key_cmp highest change.key) below))
+raised_at_most highest kept change low below = still_at_most _ kept _
+    (λ other among. at_most_trans key_total other.key _ change.key (low other among) (less_not_greater _ below))
     (λ greater. let tied = tied_itself key_total change.key in cc)

@@ -1,11 +1,11 @@
 -- A table and its thinned table for a place and a day have the same docker for that place and that
 -- day.
-use Rattle.std.proofs.Common.{◌≡◌, ℕ, zero, suc, ◌+◌, ◌-◌, ◌<◌, ◌≤◌, List, subst, inl, inr, ◌⊎◌, refl, ap, sym, ◌∙◌}
+use Rattle.std.proofs.Common.{◌≡◌, ℕ, zero, suc, ◌+◌, ◌-◌, ◌<◌, ◌≤◌, List, subst, inl, inr, ◌⊎◌, refl, ap, sym, ◌∙◌, rules}
 use Rattle.std.proofs.Common.{Bool, true, false, cond, Some, None, arith}
 use Rattle.std.specs.Prelude.{Option, ◌↔◌, ◌&&◌, ◌||◌, nat_lt, IsTrue, option_and_then}
 use Rattle.std.proofs.lemmas.Bool.{lt-ltb}
 use Rattle.std.proofs.lemmas.Slice.Eq.{bytes_eq-Decides}
-use Rattle.docker_model.specs.records.Record.{basic_schedule, HasKind, columns, column}
+use Rattle.docker_model.specs.records.Record.{basic_schedule, HasKind, column}
 use Rattle.docker_model.specs.file.Journey.{midnights, CallsAt, calls_at}
 use Rattle.docker_model.specs.file.File.{first_record}
 use Rattle.docker_model.specs.file.Change.{Key, tiploc_key, schedule_key, association_key, ScheduleKey}
@@ -15,13 +15,12 @@ use Rattle.docker_model.specs.state.State.{HasGoodBodies, IsBodyOf}
 use Rattle.docker_model.specs.docker.Event.{Event, event_day, falls_to}
 use Rattle.docker_model.specs.docker.Choice.{schedule_runs, IsRunning, TrainRuns, Group, group_of, IsAssociated, IsChosenAssociation}
 use Rattle.docker_model.specs.docker.DockerLine.{DockerLine}
-use Rattle.docker_model.specs.docker.Association.{partner_start, IsIdentityOn, IsPartnerIdentity, IsAssociationLine}
+use Rattle.docker_model.specs.docker.Association.{IsIdentityOn, IsPartnerIdentity, IsAssociationLine}
 use Rattle.docker_model.specs.docker.DockerList.{IsEventLine, IsDockerList}
 use Rattle.docker_model.specs.docker.DockerText.{description_in, docker_text, IsDockerText}
-use Rattle.docker_laws.specs.NearDay.{runs_near, may_count, may_reach}
+use Rattle.docker_laws.specs.NearDay.{runs_near, may_reach}
 use Rattle.docker_laws.specs.StandIn.{HasEventOn, IsStandIn, StandsFor}
-use Rattle.docker_laws.specs.Thinning.{thin_lines, lines_for, body_for, may_matter, thin_body, thinned}
-use Rattle.docker_model.specs.state.Op.{put_with}
+use Rattle.docker_laws.specs.Thinning.{thin_lines, lines_for, may_matter, thin_body, thinned}
 use Rattle.cif_laws.proofs.lists.BoolsAndOptions.{then_some, none_some, and_true}
 use Rattle.state_laws.proofs.indexes.CallsTest.{calls_test}
 use Rattle.docker_laws.proofs.dockers.Events.{event_calls}
@@ -46,12 +45,10 @@ turned : (place : List ℕ) (day : ℕ) (one other : List (List ℕ)) → IsStan
 turned place day one other is = record {
   runs = λ start near. sym (is.runs start near);
   identity = sym is.identity;
-  calls = λ start low high runs either.
-      sym (is.calls start low high (is.runs start (near_start day start (near_of day start low high)) ∙ runs) (swap start either));
+  calls = λ start low high runs either. sym (is.calls start low high (is.runs start (near_start _ _ (near_of _ _ low high)) ∙ runs) (swap start either));
 }
   where
-    swap : (start : ℕ) → HasEventOn place day start other ⊎ HasEventOn place day start one
-        → HasEventOn place day start one ⊎ HasEventOn place day start other
+    swap : (start : ℕ) → HasEventOn place day start other ⊎ HasEventOn place day start one → HasEventOn place day start one ⊎ HasEventOn place day start other
     swap start (inl has) = inr has
     swap start (inr has) = inl has
 
@@ -61,32 +58,20 @@ own_stand_in place day lines = record { runs = λ start near. refl; identity = r
 
 -- a train that doesn't call at the place has no event there
 no_event : (place : List ℕ) (day start : ℕ) (lines : List (List ℕ)) → calls_at place lines ≡ false → ¬ HasEventOn place day start lines
-no_event place day start lines never has =
-    let calls = (calls_test place lines).1 (event_calls lines has.event place has.among has.here) in
-    absurd (let bad : false ≡ true = sym never ∙ calls in cc)
+no_event = search (rules, calls_test, event_calls)
 
 -- records with the same first record may replace a schedule, if the schedule has no event at the
 -- place on the day, and these records don't call at the place
 stand_in_without : (place : List ℕ) (day : ℕ) (whole lines : List (List ℕ)) → first_record lines ≡ first_record whole
     → ((start : ℕ) → start ≤ day → day ≤ start + 2 → IsTrue (schedule_runs (first_record whole) start) → ¬ HasEventOn place day start whole)
     → calls_at place lines ≡ false → IsStandIn place day whole lines
-stand_in_without place day whole lines same none no_other = record {
-  runs = λ start near. ap (λ (line : List ℕ). schedule_runs line start) (sym same);
-  identity = ap (columns 33 36) (sym same);
-  calls = by;
-}
-  where
-    by : (start : ℕ) → start ≤ day → day ≤ start + 2 → IsTrue (schedule_runs (first_record whole) start)
-        → HasEventOn place day start whole ⊎ HasEventOn place day start lines → whole ≡ lines
-    by start low high runs (inl has) = absurd (none start low high runs has)
-    by start low high runs (inr has) = absurd (no_event place day start lines no_other has)
+stand_in_without = search (rules, no_event)
 
 -- records with the same first record may replace a schedule, if neither these records nor the
 -- records of the schedule call at the place
 pub stand_in_by_first : (place : List ℕ) (day : ℕ) (whole lines : List (List ℕ)) → first_record lines ≡ first_record whole → calls_at place whole ≡ false
     → calls_at place lines ≡ false → IsStandIn place day whole lines
-stand_in_by_first place day whole lines same none no_other =
-    stand_in_without place day whole lines same (λ start low high runs. no_event place day start whole none) no_other
+stand_in_by_first = search (rules, stand_in_without, no_event)
 
 -- ---- a schedule with an event on the day passes the test `may_reach`
 
@@ -106,31 +91,22 @@ reaches day start lines number low high runs today = by (day - start) refl
     runs_at back same = subst (λ (d : ℕ). schedule_runs basic d ≡ true) same runs
 
     later : 0 < falls_to lines number → (schedule_runs basic (day - 1) || schedule_runs basic (day - 2)) ≡ true → may_reach day lines ≡ true
-    later some before =
-        or_right (schedule_runs basic day) (nat_lt 0 (midnights lines) && (schedule_runs basic (day - 1) || schedule_runs basic (day - 2)))
-        (and_true (nat_lt 0 (midnights lines)) (schedule_runs basic (day - 1) || schedule_runs basic (day - 2))
-        (falls_positive lines number some) before)
+    later some before = or_right (schedule_runs basic day) _ (and_true (nat_lt 0 (midnights lines)) _ (falls_positive lines _ some) before)
 
     by : (back : ℕ) → day - start ≡ back → may_reach day lines ≡ true
-    by zero h =
-        or_left (schedule_runs basic day) (nat_lt 0 (midnights lines) && (schedule_runs basic (day - 1) || schedule_runs basic (day - 2)))
+    by zero h = or_left (schedule_runs basic day) _
         (subst (λ (d : ℕ). schedule_runs basic d ≡ true) (let same : start ≡ day = omega arith in same) runs)
-    by (suc zero) h =
-        later (omega arith) (or_left (schedule_runs basic (day - 1)) (schedule_runs basic (day - 2)) (runs_at 1 (omega arith)))
-    by (suc (suc zero)) h =
-        later (omega arith) (or_right (schedule_runs basic (day - 1)) (schedule_runs basic (day - 2)) (runs_at 2 (omega arith)))
+    by (suc zero) h = later (omega arith) (or_left (schedule_runs basic (day - 1)) _ (runs_at 1 (omega arith)))
+    by (suc (suc zero)) h = later (omega arith) (or_right (schedule_runs basic (day - 1)) _ (runs_at 2 (omega arith)))
     by (suc (suc (suc n))) h = absurd (omega arith)
 
 -- records with the same first record may replace a schedule, if no event of the schedule may be on
 -- the day, and these records don't call at the place
 pub stand_in_other_day : (place : List ℕ) (day : ℕ) (whole lines : List (List ℕ)) → first_record lines ≡ first_record whole → may_reach day whole ≡ false
     → calls_at place lines ≡ false → IsStandIn place day whole lines
-stand_in_other_day place day whole lines same never no_other =
-    stand_in_without place day whole lines same
-    (λ start low high runs has.
-    let bad = sym never ∙ reaches day start whole has.event.number low high runs has.today in
-    absurd (let worse : false ≡ true = bad in cc))
-    no_other
+stand_in_other_day place day whole lines same never no_other = stand_in_without place _ whole _ same (λ start low high runs has.
+    let bad = sym never ∙ reaches day _ whole _ low high runs has.today in
+    absurd (let worse : false ≡ true = bad in cc)) no_other
 
 -- the records of a schedule that the docker of the place and the day needs (`lines_for`) may
 -- replace the schedule
@@ -140,11 +116,9 @@ needed_stand_in place day lines kind = by (calls_at place lines) (may_reach day 
   where
     by : (b c : Bool) → calls_at place lines ≡ b → may_reach day lines ≡ c
         → IsStandIn place day lines (cond (b && c) lines (thin_lines place (first_record lines)))
-    by true true h g = own_stand_in place day lines
-    by true false h g =
-        stand_in_other_day place day lines (thin_lines place (first_record lines)) refl g (thin_apart place (first_record lines) kind)
-    by false c h g =
-        stand_in_by_first place day lines (thin_lines place (first_record lines)) refl h (thin_apart place (first_record lines) kind)
+    by true true h g = own_stand_in place _ lines
+    by true false h g = stand_in_other_day _ day _ (thin_lines place (first_record lines)) refl g (thin_apart _ (first_record lines) kind)
+    by false c h g = stand_in_by_first _ day _ (thin_lines place (first_record lines)) refl h (thin_apart _ (first_record lines) kind)
 
 -- ---- two tables have the same docker if each has all that the docker needs from the other table
 
@@ -219,15 +193,14 @@ module _ (one other : Table) (place : List ℕ) (day : ℕ) (forth : Covers one 
 module _ (one other : Table) (place : List ℕ) (day : ℕ) (forth : Covers one other place day) (back : Covers other one place day) where
   identity_over : (start : ℕ) → IsStartNear day start → (uid identity : List ℕ) → IsIdentityOn one uid identity start → IsIdentityOn other uid identity start
   identity_over start near uid identity (inl runs) =
-      let found = train_over one other place day forth back start near uid runs.0 runs.1 runs.2 in
+      let found = train_over _ other place _ forth back start near uid runs.0 runs.1 runs.2 in
       inl (runs.0, found.0, found.1, runs.3 ∙ found.2.identity)
-  identity_over start near uid identity (inr none) =
-      inr (
-        λ key lines runs.
-            let found = train_over other one place day back forth start near uid key lines runs in
-            none.0 key found.0 found.1,
-        none.1,
-      )
+  identity_over start near uid identity (inr none) = inr (
+    λ key lines runs.
+        let found = train_over _ one place _ back forth start near uid key lines runs in
+        none.0 key found.0 found.1,
+    none.1,
+  )
 
   partner_over : (partner : Option ℕ) → ((start : ℕ) → partner ≡ Some start → IsStartNear day start) → (uid identity : List ℕ)
       → IsPartnerIdentity one uid partner identity → IsPartnerIdentity other uid partner identity
@@ -236,27 +209,26 @@ module _ (one other : Table) (place : List ℕ) (day : ℕ) (forth : Covers one 
 
   association_line_over : (line : DockerLine) → IsAssociationLine one place day line → IsAssociationLine other place day line
   association_line_over line is =
-      let first = first_event_is is.base is.key.location is.key.suffix is.event is.first_there in
-      let calls = event_calls is.base is.event place first.0 (first.2 ∙ is.here) in
-      let within = started_near one other place day forth back is.start is.key.base is.base_key is.base is.event calls is.base_runs is.today in
+      let first = first_event_is _ is.key.location _ is.event is.first_there in
+      let calls = event_calls _ is.event _ first.0 (first.2 ∙ is.here) in
+      let within = started_near one _ place _ forth back is.start is.key.base is.base_key is.base is.event calls is.base_runs is.today in
       record {
         start = is.start;
         key = is.key;
         association = is.association;
-        chosen = association_over one other place day forth back (group_of is.key) is.here is.start is.key is.association is.chosen;
+        chosen = association_over _ other place _ forth back (group_of is.key) is.here is.start is.key is.association is.chosen;
         no_cancellation = is.no_cancellation;
         occasion = is.occasion;
         category = is.category;
         date_indicator = is.date_indicator;
         base_key = is.base_key;
         base = is.base;
-        base_runs = calling_over one other place day forth back is.start within is.key.base is.base_key is.base
+        base_runs = calling_over _ other place _ forth back is.start within is.key.base is.base_key is.base
             (record { event = is.event; among = first.0; here = first.2 ∙ is.here; today = is.today }) is.base_runs;
         event = is.event;
         first_there = is.first_there;
         identity = is.identity;
-        partner = partner_over (partner_start (column 37 is.association) is.start)
-            (partner_near day is.start within (column 37 is.association)) is.key.associated is.identity is.partner;
+        partner = partner_over _ (partner_near day _ within (column 37 is.association)) _ is.identity is.partner;
         here = is.here;
         today = is.today;
         is = is.is;
@@ -264,17 +236,15 @@ module _ (one other : Table) (place : List ℕ) (day : ℕ) (forth : Covers one 
 
   line_over : (line : DockerLine) → IsEventLine one place day line ⊎ IsAssociationLine one place day line
       → IsEventLine other place day line ⊎ IsAssociationLine other place day line
-  line_over line (inl event) = inl (event_line_over one other place day forth back line event)
-  line_over line (inr association) = inr (association_line_over line association)
+  line_over = search (rules, event_line_over, association_line_over)
 
--- two tables have the same docker list if each has all that the docker needs from the other table
 list_over : (one other : Table) (place : List ℕ) (day : ℕ) → Covers one other place day → Covers other one place day → (lines : List DockerLine)
     → IsDockerList one place day lines → IsDockerList other place day lines
 list_over one other place day forth back lines is = record {
   ascending = is.ascending;
   members = λ line. (
-    λ among. line_over one other place day forth back line ((is.members line).0 among),
-    λ told. (is.members line).1 (line_over other one place day back forth line told),
+    λ among. line_over _ other place day forth back line ((is.members line).0 among),
+    λ told. (is.members line).1 (line_over _ one place day back forth line told),
   );
 }
 
@@ -284,9 +254,9 @@ module _ (place : List ℕ) (day : ℕ) (live part : Table) (stands : StandsFor 
   stands_forth : HasFewMidnights live → Covers live part place day
   stands_forth few = record {
     runs = λ start near uid key lines is.
-        let found = stands.schedules key lines is.is_live (runs_near_by day start (first_record lines) near is.runs_then) in (
+        let found = stands.schedules key lines is.is_live (runs_near_by day _ (first_record lines) near is.runs_then) in (
           found.0,
-          record { uid_is = is.uid_is; is_live = found.1; runs_then = sym (found.2.runs start (near_start day start near)) ∙ is.runs_then },
+          record { uid_is = is.uid_is; is_live = found.1; runs_then = sym (found.2.runs start (near_start _ start near)) ∙ is.runs_then },
           found.2,
         );
     links = λ group here start key line linked. record {
@@ -300,10 +270,10 @@ module _ (place : List ℕ) (day : ℕ) (live part : Table) (stands : StandsFor 
   stands_back : HasFewMidnights part → Covers part live place day
   stands_back few = record {
     runs = λ start near uid key lines is.
-        let found = stands.no_others key lines is.is_live (runs_near_by day start (first_record lines) near is.runs_then) in (
+        let found = stands.no_others key lines is.is_live (runs_near_by day _ (first_record lines) near is.runs_then) in (
           found.0,
-          record { uid_is = is.uid_is; is_live = found.1; runs_then = found.2.runs start (near_start day start near) ∙ is.runs_then },
-          turned place day found.0 lines found.2,
+          record { uid_is = is.uid_is; is_live = found.1; runs_then = found.2.runs start (near_start _ start near) ∙ is.runs_then },
+          turned _ day _ lines found.2,
         );
     links = λ group here start key line linked. record {
       group_is = linked.group_is;
@@ -317,10 +287,7 @@ module _ (place : List ℕ) (day : ℕ) (live part : Table) (stands : StandsFor 
   -- this place and day
   pub stand_in_list_iff : HasFewMidnights live → HasFewMidnights part → (lines : List DockerLine)
       → IsDockerList live place day lines ↔ IsDockerList part place day lines
-  stand_in_list_iff few few_part lines = (
-    list_over live part place day (stands_forth few) (stands_back few_part) lines,
-    list_over part live place day (stands_back few_part) (stands_forth few) lines,
-  )
+  stand_in_list_iff = search (rules, list_over, stands_forth, stands_back)
 
   stand_in_text_same : (lines : List DockerLine) → docker_text part place day lines ≡ docker_text live place day lines
   stand_in_text_same lines = ap (text_with place day lines) (ap description_in stands.tiploc)
@@ -329,20 +296,14 @@ module _ (place : List ℕ) (day : ℕ) (live part : Table) (stands : StandsFor 
   -- this place and day
   pub stand_in_text_iff : HasFewMidnights live → HasFewMidnights part → (text : List ℕ)
       → IsDockerText live place day text ↔ IsDockerText part place day text
-  stand_in_text_iff few few_part text = (
-    λ told. (told.0, (stand_in_list_iff few few_part told.0).0 told.1, told.2 ∙ sym (stand_in_text_same told.0)),
-    λ told. (told.0, (stand_in_list_iff few few_part told.0).1 told.1, told.2 ∙ stand_in_text_same told.0),
-  )
-
--- ---- the thinned table may replace the table
+  stand_in_text_iff = grind (arith, stand_in_list_iff, stand_in_text_same)
 
 module _ (place : List ℕ) (day : ℕ) (live : Table) where
   -- suppose that a schedule in the table runs on a start day near the day. Then the thinned table
   -- has, at the same key, the records of this schedule that the docker needs (`lines_for`)
   schedule_left : (key : ScheduleKey) (lines : List (List ℕ)) → live (schedule_key key) ≡ Some (schedule_body lines)
       → runs_near day (first_record lines) ≡ true → thinned place day live (schedule_key key) ≡ Some (schedule_body (lines_for place day lines))
-  schedule_left key lines is_live runs =
-      ap (option_and_then (thin_body place day)) is_live ∙ (λ i. cond (runs i) (Some (schedule_body (lines_for place day lines))) None)
+  schedule_left = search rules
 
   -- for each schedule in the thinned table, the table has a schedule at the same key. The thinned
   -- table has the records of that schedule that the docker needs (`lines_for`)
@@ -370,19 +331,17 @@ module _ (place : List ℕ) (day : ℕ) (live : Table) where
   thinned_stands good = record {
     tiploc = here (tiploc_key place) ((bytes_eq-Decides place place).1 refl)
         (of_tiploc (live (tiploc_key place)) (λ body there. good (tiploc_key place) body there));
-    associations = λ key at_place.
-        here (association_key key) ((bytes_eq-Decides key.location place).1 at_place)
+    associations = λ key at_place. here (association_key key) ((bytes_eq-Decides key.location place).1 at_place)
         (of_association key (live (association_key key)) (λ body there. good (association_key key) body there));
-    schedules = λ key whole is_live runs.
-        (lines_for place day whole, schedule_left key whole is_live runs, needed_stand_in place day whole (basic_there key whole is_live));
+    schedules = λ key whole is_live runs. (lines_for place day whole, schedule_left _ _ is_live runs, needed_stand_in _ _ _ (basic_there key whole is_live));
     no_others = λ key lines left runs.
-        let was = schedule_was key lines left in
-        (was.0, was.1, subst (IsStandIn place day was.0) was.2 (needed_stand_in place day was.0 (basic_there key was.0 was.1)));
+        let was = schedule_was _ _ left in
+        (was.0, was.1, subst (IsStandIn place day was.0) was.2 (needed_stand_in _ _ _ (basic_there key was.0 was.1)));
   }
     where
       basic_there : (key : ScheduleKey) (whole : List (List ℕ)) → live (schedule_key key) ≡ Some (schedule_body whole)
           → HasKind basic_schedule (first_record whole)
-      basic_there key whole there = first_kind key whole (good (schedule_key key) (schedule_body whole) there)
+      basic_there key whole there = first_kind _ _ (good (schedule_key key) (schedule_body whole) there)
 
       here : (key : Key) → may_matter place key ≡ true → option_and_then (thin_body place day) (live key) ≡ live key → thinned place day live key ≡ live key
       here key matters same = (λ i. cond (matters i) (option_and_then (thin_body place day) (live key)) None) ∙ same
@@ -403,32 +362,16 @@ module _ (place : List ℕ) (day : ℕ) (live : Table) where
 
   -- if the bodies of a table are well formed, so are the bodies of the thinned table
   pub thin_good : HasGoodBodies live → HasGoodBodies (thinned place day live)
-  thin_good good key body left = by (may_matter place key) left
-    where
-      of_body : (whole : Body) (b : Bool) → live key ≡ Some whole → cond b (Some (body_for place day whole)) None ≡ Some body → IsBodyOf key body
-      of_body whole true there h =
-          let same : body_for place day whole ≡ body = cc in
-          subst (IsBodyOf key) same (needed_is_body place day key whole (good key whole there))
-      of_body whole false there h = none_some body h
-
-      by : (b : Bool) → cond b (option_and_then (thin_body place day) (live key)) None ≡ Some body → IsBodyOf key body
-      by true h =
-          let found = then_some (thin_body place day) (live key) body h in
-          of_body found.0 (may_count day (put_with found.0)) found.1 found.2
-      by false h = none_some body h
+  thin_good = search (rules, needed_is_body, none_some, then_some)
 
   module _ (good : HasGoodBodies live) where
     -- a table and its thinned table have the same docker list for the place and the day
     pub thin_list_iff : (lines : List DockerLine) → IsDockerList live place day lines ↔ IsDockerList (thinned place day live) place day lines
-    thin_list_iff lines =
-        stand_in_list_iff place day live (thinned place day live) (thinned_stands good) (bodies_few live good)
-        (bodies_few (thinned place day live) (thin_good good)) lines
+    thin_list_iff = search (rules, stand_in_list_iff, thinned_stands, bodies_few, thin_good)
 
     -- a table and its thinned table have the same docker text for the place and the day
     pub thin_text_iff : (text : List ℕ) → IsDockerText live place day text ↔ IsDockerText (thinned place day live) place day text
-    thin_text_iff text =
-        stand_in_text_iff place day live (thinned place day live) (thinned_stands good) (bodies_few live good)
-        (bodies_few (thinned place day live) (thin_good good)) text
+    thin_text_iff = search (rules, stand_in_text_iff, thinned_stands, bodies_few, thin_good)
 
     -- an excerpt of the thinned table has the same docker list for the place and the day as the
     -- whole table

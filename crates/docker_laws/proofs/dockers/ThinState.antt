@@ -1,17 +1,15 @@
 -- A state that is made from the kept changes of a file is valid. For the place and the day, it has
 -- the same docker as the summary of the file.
-use Rattle.std.proofs.Common.{◌≡◌, ℕ, ◌-◌, ◌^◌, ◌<◌, ◌≤◌, List, [], ◌∷◌, length, map, subst, inl, inr, ◌⊎◌}
-use Rattle.std.proofs.Common.{refl, ap, sym, ◌∙◌, Bool, true, false, cond, Some, None, Contains, All, arith}
+use Rattle.std.proofs.Common.{◌≡◌, ℕ, ◌-◌, ◌^◌, ◌<◌, ◌≤◌, List, [], ◌∷◌, length, map, subst, inl, inr, ◌⊎◌, rules}
+use Rattle.std.proofs.Common.{refl, ap, sym, ◌∙◌, cond, Some, None, Contains, All, arith}
 use Rattle.std.specs.Prelude.{Option, option_and_then, ◌↔◌, fold}
-use Rattle.std.specs.declared.cmp.Ordering.TheVariants.{Less, Greater}
-use Rattle.std.specs.Ordering.{ordering_then}
 use Rattle.std.specs.Cmp.{tied_itself}
 use Rattle.docker_model.specs.records.Date.{IsDay}
 use Rattle.docker_model.specs.file.File.{IsFile, most_records}
-use Rattle.docker_model.specs.file.Change.{Key, Act, delete, put, Body, Change, changes}
+use Rattle.docker_model.specs.file.Change.{Key, Act, Body, Change, changes}
 use Rattle.docker_model.specs.state.Order.{IsBelow, IsAtMost}
-use Rattle.docker_model.specs.state.Stamp.{LedgerItem, ledger_item_of, file_stamp_of, stamp_cmp, file_stamp_cmp, IsKept}
-use Rattle.docker_model.specs.state.Op.{Op, deleted, lapsed, Entry, entry_cmp, op_cmp, body_of, op_of, put_with}
+use Rattle.docker_model.specs.state.Stamp.{LedgerItem, file_stamp_of, stamp_cmp, file_stamp_cmp, IsKept}
+use Rattle.docker_model.specs.state.Op.{Op, Entry, entry_cmp, body_of, op_of}
 use Rattle.docker_model.specs.state.Table.{Table, empty_table, after_file, IsPlainTable}
 use Rattle.docker_model.specs.state.Lapse.{HasNotToLapse}
 use Rattle.docker_model.specs.state.State.{State, IsValid, IsLedger, IsGoodItem, IsGoodKey, HasGoodBodies, IsGoodEntry, IsOpOf, live_table}
@@ -19,8 +17,7 @@ use Rattle.docker_model.specs.state.Summary.{IsSummary}
 use Rattle.docker_model.specs.docker.DockerLine.{DockerLine}
 use Rattle.docker_model.specs.docker.DockerList.{IsDockerList}
 use Rattle.docker_model.specs.docker.DockerText.{IsDockerText}
-use Rattle.docker_laws.specs.NearDay.{may_count}
-use Rattle.docker_laws.specs.Thinning.{may_matter, thin_body, body_for, thinned, thin_act, thin_change, table_of, IsThinning, IsStateOfChanges}
+use Rattle.docker_laws.specs.Thinning.{may_matter, thin_body, thinned, thin_act, thin_change, table_of, IsThinning, IsStateOfChanges}
 use Rattle.cif_laws.proofs.orders.Orders.{entry_total, file_stamp_total}
 use Rattle.cif_laws.proofs.lists.Membership.{Contains-single, single-Contains, Contains-map, all_members}
 use Rattle.cif_laws.proofs.lists.Later.{AllLater, later_map, later_map_weaker}
@@ -43,11 +40,7 @@ module _ (file : List (List ℕ)) (kept : List Change) (state : State) (of : IsS
   entries = map (entry_of_change file) kept
 
   at_least : (entry other : Entry) → (other ≡ entry) ⊎ IsBelow stamp_cmp other.stamp entry.stamp → IsAtMost entry_cmp other entry
-  at_least entry other (inl same) greater =
-      let self : entry_cmp entry entry ≡ Greater = subst (λ e. entry_cmp e entry ≡ Greater) same greater in
-      let tied = tied_itself entry_total entry in cc
-  at_least entry other (inr below) greater =
-      let less : entry_cmp other entry ≡ Less = (λ i. ordering_then (below i) (op_cmp other.op entry.op)) in cc
+  at_least = search (rules, entry_total)
 
   -- suppose that, of two kept changes to one key, the later change has the higher record number.
   -- Then the live table of the state equals the table after the kept changes
@@ -73,8 +66,7 @@ module _ (file : List (List ℕ)) (kept : List Change) (state : State) (of : IsS
 -- the live table of the summary of a file equals the table after the file's changes
 pub live_of_summary : (file : List (List ℕ)) (whole : State) → IsSummary (file ∷ []) 0 whole → (key : Key)
     → live_table whole key ≡ after_file empty_table file key
-live_of_summary file whole summary key =
-    live_is_plain (file ∷ []) 0 whole (after_file empty_table file) summary plain key ∙ lapse_table_none (after_file empty_table file) key
+live_of_summary file whole summary key = live_is_plain _ 0 _ (after_file empty_table file) summary plain _ ∙ lapse_table_none (after_file empty_table file) _
   where
     plain : IsPlainTable (file ∷ []) (after_file empty_table file)
     plain = record {
@@ -88,28 +80,19 @@ live_of_summary file whole summary key =
 module _ (place : List ℕ) (day : ℕ) (file : List (List ℕ)) (kept : List Change) (is : IsThinning place day (changes file) kept) where
   -- of two kept changes to one key, the later change has the higher record number
   pub kept_apart : AllLater Apart kept
-  kept_apart =
-      sublist_later Apart kept (map (thin_change place day) (changes file)) is.some
-      (later_map Apart (thin_change place day) (changes file) (changes_apart 1 file))
+  kept_apart = search (rules, sublist_later, later_map, changes_apart)
 
   -- a kept change is the thin form of a change of the file
   was_change : (change : Change) → Contains kept change → (whole : Change) × Contains (changes file) whole × (thin_change place day whole ≡ change)
-  was_change change among =
-      Contains-map (thin_change place day) (changes file) change (sublist_member kept (map (thin_change place day) (changes file)) change is.some among)
+  was_change change among = Contains-map _ _ _ (sublist_member _ _ _ is.some among)
 
   -- the live table of the state is the table after the file's changes, thinned for the place and
   -- the day
   pub thin_live : (state : State) → IsStateOfChanges file kept state → (key : Key) → live_table state key ≡ thinned place day (after_file empty_table file) key
-  thin_live state of key = live_is_made file kept state of kept_apart key ∙ is.enough key
+  thin_live = search (rules, live_is_made, kept_apart)
 
--- if the op of an act is well formed for a key, so is the op of the act's thin form
 thin_op : (place : List ℕ) (day : ℕ) (key : Key) (act : Act) → IsOpOf key (op_of act) → IsOpOf key (op_of (thin_act place day act))
-thin_op place day key delete good = tt
-thin_op place day key (put body) good = by (may_count day (put_with body))
-  where
-    by : (b : Bool) → IsOpOf key (op_of (cond b (put (body_for place day body)) delete))
-    by true = needed_is_body place day key body good
-    by false = tt
+thin_op = grind (arith, needed_is_body)
 
 -- ---- the state made from the kept changes is valid
 
@@ -121,38 +104,35 @@ ledger_of_one item good = by good.indicator
     itself greater = let tied = tied_itself file_stamp_total item.stamp in cc
 
     is_item : (P : LedgerItem → Type 0) → P item → (other : LedgerItem) → Contains (item ∷ []) other → P other
-    is_item P here other among = subst P (Contains-single item other among) here
+    is_item P here other among = subst P (Contains-single _ other among) here
 
     by : (item.indicator ≡ 70) ⊎ (item.indicator ≡ 85) → IsLedger (item ∷ [])
     by (inl full) = record {
-      each = all_members IsGoodItem (item ∷ []) (is_item IsGoodItem good);
+      each = all_members _ (item ∷ []) (is_item IsGoodItem good);
       ascending = (tt, tt);
       floor = Some item.stamp;
       is_floor = record {
         full = item;
-        among = single-Contains item item refl;
+        among = single-Contains _ item refl;
         is_full = full;
         stamped = refl;
         greatest = λ other among is_full. is_item (λ (i : LedgerItem). IsAtMost file_stamp_cmp i.stamp item.stamp) itself other among;
       };
-      kept = all_members (λ (i : LedgerItem). IsKept (Some item.stamp) i.stamp) (item ∷ [])
-          (is_item (λ (i : LedgerItem). IsKept (Some item.stamp) i.stamp) itself);
+      kept = all_members _ (item ∷ []) (is_item (λ (i : LedgerItem). IsKept (Some item.stamp) i.stamp) itself);
     }
     by (inr update) = record {
-      each = all_members IsGoodItem (item ∷ []) (is_item IsGoodItem good);
+      each = all_members _ (item ∷ []) (is_item IsGoodItem good);
       ascending = (tt, tt);
       floor = None;
       is_floor = λ other among full.
-          let same : item.indicator ≡ 70 = ap (λ (i : LedgerItem). i.indicator) (Contains-single item other among) ∙ full in
+          let same : item.indicator ≡ 70 = ap (λ (i : LedgerItem). i.indicator) (Contains-single _ other among) ∙ full in
           omega (arith, same, update);
-      kept = all_members (λ (i : LedgerItem). IsKept None i.stamp) (item ∷ []) (is_item (λ (i : LedgerItem). IsKept None i.stamp) tt);
+      kept = all_members _ (item ∷ []) (is_item (λ (i : LedgerItem). IsKept None i.stamp) tt);
     }
 
 -- if the horizon is 0, no entry has to lapse, whatever its op is
 pub no_lapse : (op : Op) → HasNotToLapse 0 op
-no_lapse deleted = tt
-no_lapse lapsed = tt
-no_lapse (put_with body) = omega arith
+no_lapse = search rules
 
 -- a kept change is well formed, and its record number is at least 2
 pub kept_good : (place : List ℕ) (day : ℕ) (file : List (List ℕ)) → IsFile file → length file ≤ most_records → (kept : List Change)
@@ -169,9 +149,7 @@ module _ (place : List ℕ) (day : ℕ) (file : List (List ℕ)) (is_file : IsFi
     (is : IsThinning place day (changes file) kept) (some : List Change) (within : (change : Change) → Contains some change → Contains kept change)
     (state : State) (of : IsStateOfChanges file some state) where
   in_ledger : Contains (map (λ (item : LedgerItem). item.stamp) state.ledger) (file_stamp_of file)
-  in_ledger =
-      subst (λ items. Contains (map (λ (item : LedgerItem). item.stamp) items) (file_stamp_of file)) (sym of.ledger)
-      (single-Contains (file_stamp_of file) (file_stamp_of file) refl)
+  in_ledger = search (rules, single-Contains)
 
   -- the entry that a kept change leaves is well formed (`IsGoodEntry`)
   entry_good : (change : Change) → Contains kept change → IsGoodEntry state.ledger (entry_of_change file change)
@@ -183,27 +161,25 @@ module _ (place : List ℕ) (day : ℕ) (file : List (List ℕ)) (is_file : IsFi
   pub some_valid : IsValid state
   some_valid = record {
     horizon = subst IsDay (sym of.horizon) (omega arith);
-    ledger = subst IsLedger (sym of.ledger) (ledger_of_one (ledger_item_of file) (item_good file is_file));
+    ledger = subst IsLedger (sym of.ledger) (ledger_of_one _ (item_good _ is_file));
     entries = (
-      all_members (IsGoodEntry state.ledger) state.entries (λ entry among.
+      all_members _ _ (λ entry among.
           let told = (of.entries entry.0 entry.1).0 among in
-          let found = Contains-map (entry_of_change file) some (entry.0, entry.1) told.among in
-          subst (IsGoodEntry state.ledger) found.2 (entry_good found.0 (within found.0 found.1))),
+          let found = Contains-map _ _ _ told.among in
+          subst (IsGoodEntry state.ledger) found.2 (entry_good _ (within found.0 found.1))),
       of.ascending,
     );
-    have_lapsed = all_members (λ (entry : Keyed). HasNotToLapse state.horizon entry.1.op) state.entries
-        (λ entry among. subst (λ horizon. HasNotToLapse horizon entry.1.op) (sym of.horizon) (no_lapse entry.1.op));
+    have_lapsed = all_members _ _ (λ entry among. subst (λ horizon. HasNotToLapse horizon entry.1.op) (sym of.horizon) (no_lapse _));
   }
 
 -- the bodies of the summary of a file are well formed
 pub summary_good : (file : List (List ℕ)) → IsFile file → length file ≤ most_records → (whole : State) → IsSummary (file ∷ []) 0 whole
     → HasGoodBodies (live_table whole)
-summary_good file is_file few whole summary =
-    good_bodies whole
-    (summary_is_valid (file ∷ []) 0 whole (omega arith) (all_of_one IsFile is_file) (all_of_one (λ f. length f ≤ most_records) few) summary)
+summary_good file is_file few whole summary = good_bodies _
+    (summary_is_valid (file ∷ []) _ whole (omega arith) (all_of_one IsFile is_file) (all_of_one (λ f. length f ≤ most_records) few) summary)
   where
     all_of_one : (P : List (List ℕ) → Type 0) → P file → All P (file ∷ [])
-    all_of_one P here = all_members P (file ∷ []) (λ other among. subst P (Contains-single file other among) here)
+    all_of_one P here = all_members _ (file ∷ []) (λ other among. subst P (Contains-single _ other among) here)
 
 module _ (place : List ℕ) (day : ℕ) (file : List (List ℕ)) (is_file : IsFile file) (few : length file ≤ most_records) (kept : List Change)
     (is : IsThinning place day (changes file) kept) (state : State) (of : IsStateOfChanges file kept state) where
@@ -221,19 +197,16 @@ module _ (place : List ℕ) (day : ℕ) (file : List (List ℕ)) (is_file : IsFi
     same_live = λ i key. same key i
       where
         same : (key : Key) → thinned place day (live_table whole) key ≡ live_table state key
-        same key =
-            ap (λ (found : Option Body). cond (may_matter place key) (option_and_then (thin_body place day) found) None)
-            (live_of_summary file whole summary key)
-            ∙ sym (thin_live place day file kept is state of key)
+        same key = ap (λ (found : Option Body). cond (may_matter place key) (option_and_then (thin_body place day) found) None)
+            (live_of_summary _ _ summary _)
+            ∙ sym (thin_live _ day _ kept is state of key)
 
     -- the state made from the kept changes has the same docker list as the summary of the file
     pub thin_state_list : (lines : List DockerLine) → IsDockerList (live_table whole) place day lines ↔ IsDockerList (live_table state) place day lines
-    thin_state_list lines =
-        subst (λ (table : Table). IsDockerList (live_table whole) place day lines ↔ IsDockerList table place day lines) same_live
-        (thin_list_iff place day (live_table whole) whole_good lines)
+    thin_state_list lines = subst (λ (table : Table). IsDockerList (live_table whole) place day lines ↔ IsDockerList table place day lines) same_live
+        (thin_list_iff place _ (live_table whole) whole_good lines)
 
     -- the state made from the kept changes has the same docker text as the summary of the file
     pub thin_state_text : (text : List ℕ) → IsDockerText (live_table whole) place day text ↔ IsDockerText (live_table state) place day text
-    thin_state_text text =
-        subst (λ (table : Table). IsDockerText (live_table whole) place day text ↔ IsDockerText table place day text) same_live
-        (thin_text_iff place day (live_table whole) whole_good text)
+    thin_state_text text = subst (λ (table : Table). IsDockerText (live_table whole) place day text ↔ IsDockerText table place day text) same_live
+        (thin_text_iff place _ (live_table whole) whole_good text)

@@ -1,15 +1,13 @@
 -- The rows of a live table determine its chosen schedules and its trains.
-use Rattle.std.proofs.Common.{◌≡◌, ℕ, List, refl, ap, sym, ◌∙◌, Some, None, Bool, true, false, cond, Contains, eqb-true}
+use Rattle.std.proofs.Common.{◌≡◌, ℕ, List, refl, ap, sym, ◌∙◌, Some, None, Bool, true, false, cond, Contains, eqb-true, rules}
 use Rattle.std.specs.Prelude.{Option, ◌&&◌, ◌==◌}
-use Rattle.std.specs.Str.{bytes_eq}
 use Rattle.std.specs.Ordering.{on}
 use Rattle.std.specs.Cmp.{IsTotalOrder, on_total}
 use Rattle.std.proofs.lemmas.Slice.Eq.{bytes_eq-Decides}
-use Rattle.docker_model.specs.file.File.{first_record}
-use Rattle.docker_model.specs.file.Change.{Key, tiploc_key, association_key, schedule_key, ScheduleKey, Body, tiploc_body, association_body, schedule_body}
+use Rattle.docker_model.specs.file.Change.{Key, schedule_key, ScheduleKey, Body, schedule_body}
 use Rattle.docker_model.specs.state.Table.{Table}
 use Rattle.docker_model.specs.state.Row.{Row, AreRowsOf}
-use Rattle.docker_model.specs.docker.Choice.{schedule_runs, schedule_choice_cmp, IsRunning, IsChosen, Train, IsChosenOn}
+use Rattle.docker_model.specs.docker.Choice.{schedule_choice_cmp, IsRunning, IsChosen, Train, IsChosenOn}
 use Rattle.docker_laws.specs.LiveRows.{HasSchedulesOf, schedule_of, schedules_in, is_running, chosen_in, unless_cancelled, train_in, IsTrainOn, TellsTrains}
 use Rattle.docker_laws.specs.ChoiceWalk.{IsChosenSoFar}
 use Rattle.cif_laws.proofs.lists.BoolsAndOptions.{both, none_some}
@@ -22,16 +20,7 @@ by_key = on_total (λ (train : Train). train.key) schedule_choice_total
 
 -- if a row has a schedule, the row's key and body are the key and body of this schedule
 row_is : (key : Key) (body : Body) (train : Train) → schedule_of key body ≡ Some train → (key ≡ schedule_key train.key) × (body ≡ schedule_body train.lines)
-row_is (schedule_key key) (schedule_body lines) train is =
-    let e : record { key = key; lines = lines } ≡ train = some_is (record { key = key; lines = lines }) train is in
-    (ap (λ (t : Train). schedule_key t.key) e, ap (λ (t : Train). schedule_body t.lines) e)
-  where
-    some_is : (a b : Train) → Some a ≡ Some b → a ≡ b
-    some_is a b h = cc
-row_is (schedule_key key) (tiploc_body bytes) train is = none_some train is
-row_is (schedule_key key) (association_body line) train is = none_some train is
-row_is (tiploc_key code) body train is = none_some train is
-row_is (association_key key) body train is = none_some train is
+row_is = search (rules, none_some)
 
 module _ (live : Table) (rows : List Row) (uid : List ℕ) (has : HasSchedulesOf live uid rows) where
   schedule_live : (train : Train) → Contains (schedules_in rows) train → live (schedule_key train.key) ≡ Some (schedule_body train.lines)
@@ -46,14 +35,10 @@ module _ (live : Table) (rows : List Row) (uid : List ℕ) (has : HasSchedulesOf
     Runs train = IsRunning live uid day train.key train.lines
 
     running : (train : Train) → Contains (schedules_in rows) train → is_running uid day train ≡ true → Runs train
-    running train among passes =
-        let parts = both (bytes_eq train.key.uid uid) (schedule_runs (first_record train.lines) day) passes in
-        record { uid_is = (bytes_eq-Decides train.key.uid uid).0 parts.0; is_live = schedule_live train among; runs_then = parts.1 }
+    running = search (rules, both, bytes_eq-Decides, schedule_live)
 
     among_running : (train : Train) → Runs train → Contains (schedules_in rows) train
-    among_running train is =
-        part_forth (λ (row : Row). schedule_of row.0 row.1) rows (schedule_key train.key, schedule_body train.lines) train
-        (has.all train.key train.lines is.uid_is is.is_live) refl
+    among_running train is = part_forth _ _ _ _ (has.all train.key train.lines is.uid_is is.is_live) refl
 
     passes_running : (train : Train) → Runs train → is_running uid day train ≡ true
     passes_running train is = λ i. (bytes_eq-Decides train.key.uid uid).1 is.uid_is i && is.runs_then i
@@ -67,15 +52,12 @@ module _ (live : Table) (rows : List Row) (uid : List ℕ) (has : HasSchedulesOf
 
     -- the best schedule of the rows is the chosen schedule
     pub best_is_chosen : (found : Option Train) → IsChosenSoFar uid day rows found → IsChosenOn live uid day found
-    best_is_chosen found best =
-        first_is_chosen found (best_is_first by_key (is_running uid day) (schedules_in rows) Runs running among_running passes_running found best)
+    best_is_chosen = search (rules, first_is_chosen, best_is_first, by_key, running, among_running, passes_running)
 
     -- `chosen_in` computes the chosen schedule of a UID from rows that are in the live table and
     -- include every schedule of the UID
     pub chosen_tells : IsChosenOn live uid day (chosen_in rows uid day)
-    chosen_tells =
-        first_is_chosen (chosen_in rows uid day)
-        (found_is_first by_key (is_running uid day) (schedules_in rows) Runs running among_running passes_running)
+    chosen_tells = first_is_chosen _ (found_is_first by_key _ (schedules_in rows) _ running among_running passes_running)
 
     -- `train_in` computes the train of a UID from rows that are in the live table and include every
     -- schedule of the UID
@@ -115,15 +97,11 @@ pub one_answer : (live : Table) (uid : List ℕ) (day : ℕ) (a b : Option Train
 one_answer live uid day None None one two = refl
 one_answer live uid day None (Some b) one two = absurd (one b.key b.lines two.running)
 one_answer live uid day (Some a) None one two = absurd (two a.key a.lines one.running)
-one_answer live uid day (Some a) (Some b) one two =
-    let same = one_chosen live uid day a.key b.key a.lines b.lines one two in
-    λ i. Some (record { key = same.0 i; lines = same.1 i })
+one_answer live uid day (Some a) (Some b) one two = search (rules, one_chosen)
 
 -- for a UID and a day, the train is unique
 pub one_train_answer : (live : Table) (uid : List ℕ) (day : ℕ) (a b : Option Train) → IsTrainOn live uid day a → IsTrainOn live uid day b → a ≡ b
 one_train_answer live uid day None None one two = refl
 one_train_answer live uid day None (Some b) one two = absurd (one b.key b.lines two)
 one_train_answer live uid day (Some a) None one two = absurd (two a.key a.lines one)
-one_train_answer live uid day (Some a) (Some b) one two =
-    let same = one_train live uid day a.key b.key a.lines b.lines one two in
-    λ i. Some (record { key = same.0 i; lines = same.1 i })
+one_train_answer live uid day (Some a) (Some b) one two = search (rules, one_train)

@@ -1,7 +1,7 @@
 -- Each line of a detailed docker has the width of its docker line in front, and no line feed. So the
 -- first 56 columns of the lines are the docker.
 use Rattle.std.proofs.Common.{◌≡◌, ℕ, ◌≤◌, List, [], ◌∷◌, ◌++◌, Contains, refl, ap, sym, ◌∙◌, subst, inl, inr, ◌⊎◌, true, false, true≢false, Some}
-use Rattle.std.proofs.Common.{None, append-nil, arith}
+use Rattle.std.proofs.Common.{None, append-nil, arith, rules}
 use Rattle.std.specs.Prelude.{Option, codes, find, filter, take, unwrap_or}
 use Rattle.std.specs.List.{last_or}
 use Rattle.std.proofs.lemmas.List.Elements.{All-contains, All-from_recursion, All-take, Contains-append_right}
@@ -55,13 +55,8 @@ module _ (key : ScheduleKey) (lines : List (List ℕ)) (of : IsScheduleOf key li
   pub each_record : (line : List ℕ) → Contains lines line → IsRecord line
   each_record line among = All-contains IsRecord lines line of.schedule.records among
 
-  first_is : first_record lines ≡ of.schedule.basic
-  first_is = ap first_record of.schedule.whole
-
   first_among : Contains lines (first_record lines)
-  first_among =
-      subst (λ ls. Contains ls (first_record ls)) (sym of.schedule.whole)
-      (cons-Contains-first of.schedule.basic (of.schedule.extra ++ of.schedule.journey))
+  first_among = search (rules, cons-Contains-first)
 
   pub first_good : IsRecord (first_record lines)
   first_good = each_record (first_record lines) first_among
@@ -76,10 +71,9 @@ module _ (key : ScheduleKey) (lines : List (List ℕ)) (of : IsScheduleOf key li
 
   pub change_good : (event : Event) (line : List ℕ)
       → last_or None (filter (λ l. has_identity (codes "CR") l) (take event.place lines)) ≡ Some line → IsRecord line
-  change_good event line is =
-      last_holds IsRecord None (filter (λ l. has_identity (codes "CR") l) (take event.place lines)) (λ x same. none_some x same)
+  change_good event line is = last_holds IsRecord _ (filter (λ l. has_identity (codes "CR") l) (take event.place lines)) (λ x same. none_some _ same)
       (λ x among. All-contains IsRecord (take event.place lines) x (All-take IsRecord event.place lines of.schedule.records)
-      (filter_back (λ l. has_identity (codes "CR") l) (take event.place lines) x among).0) line is
+      (filter_back (λ l. has_identity (codes "CR") l) _ x among).0) _ is
 
   identity_wide : (event : Event) → IsWide 4 (event_identity lines event)
   identity_wide event = by (last_or None (filter (λ l. has_identity (codes "CR") l) (take event.place lines))) refl
@@ -150,18 +144,14 @@ module _ (key : ScheduleKey) (lines : List (List ℕ)) (of : IsScheduleOf key li
             (subst (λ ls. Contains ls (event_line lines event)) all (at_a_line lines event among).among))
 
     in_journey : (line : List ℕ) → Contains of.schedule.journey line → Contains lines line
-    in_journey line inside =
-        subst (λ ls. Contains ls line) (sym of.schedule.whole)
-        (cons-Contains of.schedule.basic (of.schedule.extra ++ of.schedule.journey) line
+    in_journey line inside = subst (λ ls. Contains ls line) (sym of.schedule.whole) (cons-Contains _ _ _
         (Contains-append_right of.schedule.extra of.schedule.journey line inside))
 
     origin_wide : IsWide 7 (tiploc_of_first (codes "LO") lines)
     origin_wide =
         let journey = has_journey in
-        tiploc_wide (codes "LO") journey.first
-        (in_journey journey.first (subst (λ ls. Contains ls journey.first) (sym journey.whole)
-        (cons-Contains-first journey.first (journey.between ++ journey.last ∷ []))))
-        (has_identity_is origin_location (codes "LO") journey.first journey.origin)
+        tiploc_wide _ journey.first (in_journey _ (subst (λ ls. Contains ls journey.first) (sym journey.whole) (cons-Contains-first journey.first _)))
+        (has_identity_is origin_location _ journey.first journey.origin)
 
     destination_wide : IsWide 7 (tiploc_of_first (codes "LT") lines)
     destination_wide =

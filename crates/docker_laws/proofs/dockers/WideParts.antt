@@ -1,11 +1,11 @@
 -- The widths of the printed parts of a docker. Each byte of a part is at least 32, so no part has a
 -- line feed.
-use Rattle.std.proofs.Common.{◌≡◌, ℕ, zero, suc, ◌+◌, ◌-◌, ◌/◌, ◌%◌, ◌<◌, ◌≤◌, List, [], ◌∷◌, ◌++◌, length, All, refl, ap, ◌∙◌, Bool, true, false}
-use Rattle.std.proofs.Common.{cond, Some, None, arith, length-append}
+use Rattle.std.proofs.Common.{◌≡◌, ℕ, zero, suc, ◌+◌, ◌-◌, ◌/◌, ◌%◌, ◌<◌, ◌≤◌, List, [], ◌∷◌, ◌++◌, length, All, refl, Bool, true}
+use Rattle.std.proofs.lemmas.Grind.{common_steps}
+use Rattle.std.proofs.Common.{cond, Some, None, arith, length-append, rules}
 use Rattle.std.specs.Prelude.{Option, codes, nat_le, ◌==◌}
 use Rattle.std.proofs.lemmas.Bool.{leb-true}
-use Rattle.std.specs.Str.{bytes_eq}
-use Rattle.std.proofs.lemmas.List.Elements.{All-append, All-nil, All-weaker, All-from_recursion}
+use Rattle.std.proofs.lemmas.List.Elements.{All-nil, All-weaker, All-from_recursion}
 use Rattle.docker_model.specs.records.Record.{Kind, columns, column, IsRecord, IsTextOfLength, is_printable}
 use Rattle.docker_model.specs.records.Record.{header, tiploc_insert, tiploc_amend, tiploc_delete, association, basic_schedule, extra_details}
 use Rattle.docker_model.specs.records.Record.{origin_location, intermediate_location, terminating_location, change_en_route, trailer}
@@ -29,10 +29,7 @@ pub record IsWide (width : ℕ) (text : List ℕ) : Type 0 where
 
 -- two texts, one after the other
 pub wide_append : {m n : ℕ} {a b : List ℕ} → IsWide m a → IsWide n b → IsWide (m + n) (a ++ b)
-wide_append {m} {n} {a} {b} one two = record {
-  long = length-append a b ∙ (λ i. one.long i + two.long i);
-  plain = All-append (λ c. 32 ≤ c) a b one.plain two.plain;
-}
+wide_append = grind (common_steps, arith, length-append)
 
 -- a text of one byte
 pub wide_byte : (b : ℕ) → 32 ≤ b → IsWide 1 (b ∷ [])
@@ -41,10 +38,7 @@ wide_byte b low = record { long = refl; plain = All-from_recursion (λ c. 32 ≤
 -- spaces
 pub wide_spaces : (n : ℕ) → IsWide n (spaces n)
 wide_spaces zero = record { long = refl; plain = All-nil (λ c. 32 ≤ c) }
-wide_spaces (suc n) = record {
-  long = ap suc (wide_spaces n).long;
-  plain = All-append (λ c. 32 ≤ c) (32 ∷ []) (spaces n) (wide_byte 32 (omega arith)).plain (wide_spaces n).plain;
-}
+wide_spaces (suc n) = grind (arith, wide_byte, (wide_spaces n))
 
 -- a printable byte is at least 32
 printable_low : (b : ℕ) → is_printable b ≡ true → 32 ≤ b
@@ -68,28 +62,21 @@ wide_two : (n : ℕ) → IsWide 2 (two_digit_text n)
 wide_two n = wide_append (wide_byte (48 + n / 10) (omega arith)) (wide_byte (48 + n % 10) (omega arith))
 
 wide_date : (year month day : ℕ) → IsWide 10 (date_text year month day)
-wide_date year month day =
-    wide_append (wide_append (wide_append (wide_append (wide_append (wide_two (year / 100)) (wide_two (year % 100))) (wide_byte 45 (omega arith)))
-    (wide_two month)) (wide_byte 45 (omega arith))) (wide_two day)
+wide_date year month day = wide_append (wide_append (wide_append (wide_append (wide_append (wide_two _) (wide_two _)) (wide_byte _ (omega arith)))
+    (wide_two _)) (wide_byte _ (omega arith))) (wide_two _)
 
 -- the date of a day
 pub wide_day : (day : ℕ) → IsWide 10 (day_text day)
 wide_day day = wide_date _ _ _
 
 half_mark : (b : Bool) → IsWide 1 (cond b (codes "H") (codes " "))
-half_mark true = wide_byte 72 (omega arith)
-half_mark false = wide_byte 32 (omega arith)
+half_mark = search (rules, wide_byte)
 
 wide_time : (time : ℕ) → IsWide 5 (time_text time)
 wide_time time = wide_append (wide_append (wide_two (time / 2 / 60)) (wide_two (time / 2 % 60))) (half_mark (time % 2 == 1))
 
 wide_occasion : (occasion : Occasion) → IsWide 1 (occasion_text occasion)
-wide_occasion arrival = wide_byte 65 (omega arith)
-wide_occasion pass = wide_byte 80 (omega arith)
-wide_occasion joining = wide_byte 74 (omega arith)
-wide_occasion dividing = wide_byte 86 (omega arith)
-wide_occasion next_working = wide_byte 78 (omega arith)
-wide_occasion departure = wide_byte 68 (omega arith)
+wide_occasion = search (rules, wide_byte)
 
 -- ---- the fields of a docker line
 
@@ -118,11 +105,7 @@ wide_line line has =
     wide_append (wide_append (wide_append tracked has.public_time) space) has.detail
 
 wide_shown : (field : List ℕ) → IsWide 4 field → IsWide 4 (shown_public field)
-wide_shown field is = by (bytes_eq field (codes "0000"))
-  where
-    by : (b : Bool) → IsWide 4 (cond b (spaces 4) field)
-    by true = wide_spaces 4
-    by false = is
+wide_shown = search (rules, wide_spaces)
 
 -- the platform at a record
 pub wide_platform : (kind : Option Kind) (line : List ℕ) → IsRecord line → IsWide 3 (platform_by_kind kind line)

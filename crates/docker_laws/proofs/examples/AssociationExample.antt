@@ -1,6 +1,6 @@
 -- An example of an association line: the train that ends at COLWELL at 23:50 becomes the train that
 -- leaves COLWELL after midnight.
-use Rattle.std.proofs.Common.{◌≡◌, ℕ, List, [], ◌∷◌, refl, inl, inr, Some, None, arith, ap, sym, ◌∙◌, subst, Contains, ◌⊎◌}
+use Rattle.std.proofs.Common.{◌≡◌, ℕ, List, [], ◌∷◌, refl, inl, inr, Some, None, arith, ap, sym, ◌∙◌, subst, Contains, ◌⊎◌, rules}
 use Rattle.std.specs.Prelude.{codes, Option, slice_index}
 use Rattle.jiff_core.specs.Calendar.{days_from_civil, day_count, days_of_years, days_of_months}
 use Rattle.docker_model.specs.file.Journey.{next_working, arrival}
@@ -9,7 +9,7 @@ use Rattle.docker_model.specs.state.Order.{IsAtMost}
 use Rattle.docker_model.specs.state.Op.{Entry, put_with, body_of}
 use Rattle.docker_model.specs.state.State.{State, live_table}
 use Rattle.docker_model.specs.docker.Event.{Event}
-use Rattle.docker_model.specs.docker.Choice.{schedule_choice_cmp, association_choice_cmp, IsChosen, IsChosenAssociation, group_of}
+use Rattle.docker_model.specs.docker.Choice.{schedule_choice_cmp, IsChosen, IsChosenAssociation, group_of}
 use Rattle.docker_model.specs.docker.DockerLine.{DockerLine, line_of_association}
 use Rattle.docker_model.specs.docker.Association.{IsAssociationLine}
 use Rattle.docker_model.specs.docker.DockerText.{line_text}
@@ -66,8 +66,7 @@ body_or None = association_body []
 same_entry : (key other : Key) (body others : Body) (entry : Entry) → put_in key body ≡ (other, entry) → body_of entry.op ≡ Some others
     → Same key body other others
 unfolding body_or
-same_entry key other body others entry same put =
-    (ap (λ (pair : Keyed). pair.0) same, ap (λ (pair : Keyed). body_or (body_of pair.1.op)) same ∙ ap body_or put)
+same_entry = search (rules, body_or)
 
 -- the key and the body belong to one of the three live entries of the example
 abbrev OneOf : Key → Body → Type 0
@@ -76,31 +75,28 @@ OneOf other others =
     ⊎ (Same (schedule_key base_key) (schedule_body base_lines) other others ⊎ Same (schedule_key next_key) (schedule_body next_lines) other others)
 
 one_of : (other : Key) (others : Body) → live_table linked other ≡ Some others → OneOf other others
-one_of other others h = by (in_state linked other others h)
+one_of other others h = by (in_state linked _ others h)
   where
     by : (entry : Entry) × Contains linked.entries (other, entry) × (body_of entry.op ≡ Some others) → OneOf other others
-    by found =
-        first (Contains-cons (put_in (association_key link_key) (association_body link)) (put_in (schedule_key base_key) (schedule_body base_lines) ∷ put_in
-        (schedule_key next_key) (schedule_body next_lines) ∷ []) (other, found.0) found.1)
+    by found = first (Contains-cons _ (put_in (schedule_key base_key) (schedule_body base_lines) ∷ put_in
+        (schedule_key next_key) (schedule_body next_lines) ∷ []) _ found.1)
       where
         third : (put_in (schedule_key next_key) (schedule_body next_lines) ≡ (other, found.0)) ⊎ Contains {X = Keyed} [] (other, found.0)
             → Same (schedule_key next_key) (schedule_body next_lines) other others
-        third (inl e) = same_entry (schedule_key next_key) other (schedule_body next_lines) others found.0 e found.2
-        third (inr none) = absurd (nil-Contains (other, found.0) none)
+        third (inl e) = same_entry (schedule_key next_key) _ (schedule_body next_lines) _ found.0 e found.2
+        third (inr none) = absurd (nil-Contains _ none)
 
         second : (put_in (schedule_key base_key) (schedule_body base_lines) ≡ (other, found.0)) ⊎ Contains
             (put_in (schedule_key next_key) (schedule_body next_lines) ∷ []) (other, found.0)
             → Same (schedule_key base_key) (schedule_body base_lines) other others ⊎ Same (schedule_key next_key) (schedule_body next_lines) other others
-        second (inl e) = inl (same_entry (schedule_key base_key) other (schedule_body base_lines) others found.0 e found.2)
-        second (inr rest) = inr (third (Contains-cons (put_in (schedule_key next_key) (schedule_body next_lines)) [] (other, found.0) rest))
+        second (inl e) = inl (same_entry (schedule_key base_key) _ (schedule_body base_lines) _ found.0 e found.2)
+        second (inr rest) = inr (third (Contains-cons _ [] _ rest))
 
         first : (put_in (association_key link_key) (association_body link) ≡ (other, found.0))
             ⊎ Contains (put_in (schedule_key base_key) (schedule_body base_lines) ∷ put_in (schedule_key next_key) (schedule_body next_lines) ∷ [])
             (other, found.0) → OneOf other others
-        first (inl e) = inl (same_entry (association_key link_key) other (association_body link) others found.0 e found.2)
-        first (inr rest) =
-            inr (second (Contains-cons (put_in (schedule_key base_key) (schedule_body base_lines))
-            (put_in (schedule_key next_key) (schedule_body next_lines) ∷ []) (other, found.0) rest))
+        first (inl e) = inl (same_entry (association_key link_key) _ (association_body link) _ found.0 e found.2)
+        first (inr rest) = inr (second (Contains-cons _ (put_in (schedule_key next_key) (schedule_body next_lines) ∷ []) _ rest))
 
 schedule_in : Key → ScheduleKey
 schedule_in (schedule_key key) = key
@@ -140,15 +136,7 @@ next_chosen = record {
 
 link_chosen : IsChosenAssociation (live_table linked) (group_of link_key) 23537 link_key link
 unfolding days_from_civil day_count days_of_years days_of_months association_in
-link_chosen = record {
-  associated = record { group_is = refl; is_live = refl; runs_then = refl };
-  first = λ other others running. by other (one_of (association_key other) (association_body others) running.is_live);
-}
-  where
-    by : (other : AssociationKey) {others : Body} → OneOf (association_key other) others → IsAtMost association_choice_cmp link_key other
-    by other (inl e) = subst (λ k. IsAtMost association_choice_cmp link_key k) (ap association_in e.0) (λ greater. cc)
-    by other (inr (inl e)) = absurd (let bad : schedule_key base_key ≡ association_key other = e.0 in cc)
-    by other (inr (inr e)) = absurd (let bad : schedule_key next_key ≡ association_key other = e.0 in cc)
+link_chosen = grind (arith, one_of, association_in)
 
 abbrev at_colwell : Event
 at_colwell = record { number = 2; place = 2; occasion = arrival; time = 2860 }

@@ -1,5 +1,5 @@
 -- Worked examples of the choice among schedules, and of an association line.
-use Rattle.std.proofs.Common.{◌≡◌, ℕ, List, [], ◌∷◌, refl, inl, inr, Some, None, ap, sym, ◌∙◌, subst, Contains, ◌⊎◌, true, false}
+use Rattle.std.proofs.Common.{◌≡◌, ℕ, List, [], ◌∷◌, refl, inl, inr, Some, sym, ◌∙◌, subst, Contains, ◌⊎◌, true, false, rules}
 use Rattle.std.specs.Prelude.{codes, Option}
 use Rattle.jiff_core.specs.Calendar.{days_from_civil, day_count, days_of_years, days_of_months}
 use Rattle.docker_model.specs.file.File.{first_record}
@@ -11,19 +11,12 @@ use Rattle.docker_model.specs.state.State.{State, live_table}
 use Rattle.docker_model.specs.docker.Choice.{schedule_runs, schedule_choice_cmp, IsRunning, IsChosen}
 use Rattle.cif_laws.proofs.records.Builders.{no_text, bs, lo, f2_origin, f2_terminus}
 use Rattle.cif_laws.proofs.lists.Membership.{Contains-cons, nil-Contains}
-use Rattle.state_laws.proofs.states.PlainTable.{Keyed, Found, NotFound, find_in, live_at, live_none}
+use Rattle.state_laws.proofs.states.PlainTable.{Keyed, find_in, live_at, live_none}
 
 -- each body in the live table is the body of one of the state's entries
 pub in_state : (state : State) (key : Key) (body : Body) → live_table state key ≡ Some body → (entry : Entry) × Contains state.entries (key, entry)
     × (body_of entry.op ≡ Some body)
-in_state state key body h = by (find_in state.entries key)
-  where
-    by : Found state.entries key ⊎ NotFound state.entries key → (entry : Entry) × Contains state.entries (key, entry) × (body_of entry.op ≡ Some body)
-    by (inl found) = (found.0.1, found.2, sym (live_at state key found.0 found.1) ∙ h)
-    by (inr none) = absurd (none_is (sym (live_none state key none.0) ∙ h))
-      where
-        none_is : None ≡ Some body → ⊥
-        none_is e = cc
+in_state = search (rules, find_in, live_at, live_none)
 
 -- the stamp of all entries in the examples
 abbrev pub some_stamp : Stamp
@@ -74,38 +67,33 @@ IsOneOf key lines other others = (key ≡ other) × (lines ≡ others)
 one_of : (key other : ScheduleKey) (lines others : List (List ℕ)) (entry : Entry) → placed key lines ≡ (schedule_key other, entry)
     → body_of entry.op ≡ Some (schedule_body others) → IsOneOf key lines other others
 unfolding schedule_in lines_in
-one_of key other lines others entry same put =
-    (ap (λ (pair : Keyed). schedule_in pair.0) same, ap (λ (pair : Keyed). lines_in (body_of pair.1.op)) same ∙ ap lines_in put)
+one_of = search (rules, schedule_in, lines_in)
 
 one_of_three : (other : ScheduleKey) (others : List (List ℕ)) → live_table three (schedule_key other) ≡ Some (schedule_body others)
     → IsOneOf (key_of 23537 80) permanent other others ⊎ (IsOneOf (key_of 23538 79) overlay other others ⊎ IsOneOf (key_of 23541 67) cancellation other others)
-one_of_three other others h = by (in_state three (schedule_key other) (schedule_body others) h)
+one_of_three other others h = by (in_state three _ (schedule_body others) h)
   where
     by : (entry : Entry) × Contains three.entries (schedule_key other, entry) × (body_of entry.op ≡ Some (schedule_body others))
         → IsOneOf (key_of 23537 80) permanent other others ⊎ (IsOneOf (key_of 23538 79) overlay other others ⊎ IsOneOf
         (key_of 23541 67) cancellation other others)
-    by found =
-        first (Contains-cons (placed (key_of 23537 80) permanent) (placed (key_of 23538 79) overlay ∷ placed (key_of 23541 67) cancellation ∷ [])
-        (schedule_key other, found.0) found.1)
+    by found = first (Contains-cons _ (placed (key_of 23538 79) overlay ∷ placed (key_of 23541 67) cancellation ∷ []) _ found.1)
       where
         third : (placed (key_of 23541 67) cancellation ≡ (schedule_key other, found.0)) ⊎ Contains {X = Keyed} [] (schedule_key other, found.0)
             → IsOneOf (key_of 23541 67) cancellation other others
-        third (inl e) = one_of (key_of 23541 67) other cancellation others found.0 e found.2
-        third (inr none) = absurd (nil-Contains (schedule_key other, found.0) none)
+        third (inl e) = one_of (key_of 23541 67) _ cancellation _ found.0 e found.2
+        third (inr none) = absurd (nil-Contains _ none)
 
         second : (placed (key_of 23538 79) overlay ≡ (schedule_key other, found.0)) ⊎ Contains (placed (key_of 23541 67) cancellation ∷ [])
-            (schedule_key other, found.0)
-            → IsOneOf (key_of 23538 79) overlay other others ⊎ IsOneOf (key_of 23541 67) cancellation other others
-        second (inl e) = inl (one_of (key_of 23538 79) other overlay others found.0 e found.2)
-        second (inr rest) = inr (third (Contains-cons (placed (key_of 23541 67) cancellation) [] (schedule_key other, found.0) rest))
+            (schedule_key other, found.0) → IsOneOf (key_of 23538 79) overlay other others ⊎ IsOneOf (key_of 23541 67) cancellation other others
+        second (inl e) = inl (one_of (key_of 23538 79) _ overlay _ found.0 e found.2)
+        second (inr rest) = inr (third (Contains-cons _ [] _ rest))
 
         first : (placed (key_of 23537 80) permanent ≡ (schedule_key other, found.0))
             ⊎ Contains (placed (key_of 23538 79) overlay ∷ placed (key_of 23541 67) cancellation ∷ []) (schedule_key other, found.0)
             → IsOneOf (key_of 23537 80) permanent other others ⊎ (IsOneOf (key_of 23538 79) overlay other others ⊎ IsOneOf
             (key_of 23541 67) cancellation other others)
-        first (inl e) = inl (one_of (key_of 23537 80) other permanent others found.0 e found.2)
-        first (inr rest) =
-            inr (second (Contains-cons (placed (key_of 23538 79) overlay) (placed (key_of 23541 67) cancellation ∷ []) (schedule_key other, found.0) rest))
+        first (inl e) = inl (one_of (key_of 23537 80) _ permanent _ found.0 e found.2)
+        first (inr rest) = inr (second (Contains-cons _ (placed (key_of 23541 67) cancellation ∷ []) _ rest))
 
 -- the cancellation doesn't apply on 11 June, since it is for 14 June
 cancelled_not : schedule_runs (first_record cancellation) 23538 ≡ false
@@ -118,12 +106,11 @@ overlay_runs = record { uid_is = refl; is_live = refl; runs_then = refl }
 
 -- on 11 June the overlay is chosen
 pub overlay_chosen : IsChosen (live_table three) (codes "C10001") 23538 (key_of 23538 79) overlay
-overlay_chosen = record { running = overlay_runs; first = λ other others running. by other others running (one_of_three other others running.is_live) }
+overlay_chosen = record { running = overlay_runs; first = λ other others running. by other others running (one_of_three _ _ running.is_live) }
   where
     by : (other : ScheduleKey) (others : List (List ℕ)) → IsRunning (live_table three) (codes "C10001") 23538 other others
         → IsOneOf (key_of 23537 80) permanent other others ⊎ (IsOneOf (key_of 23538 79) overlay other others ⊎ IsOneOf
-        (key_of 23541 67) cancellation other others)
-        → IsAtMost schedule_choice_cmp (key_of 23538 79) other
+        (key_of 23541 67) cancellation other others) → IsAtMost schedule_choice_cmp (key_of 23538 79) other
     by other others running (inl e) = subst (λ k. IsAtMost schedule_choice_cmp (key_of 23538 79) k) e.0 (λ greater. cc)
     by other others running (inr (inl e)) = subst (λ k. IsAtMost schedule_choice_cmp (key_of 23538 79) k) e.0 (λ greater. cc)
     by other others running (inr (inr e)) =
@@ -141,12 +128,11 @@ cancellation_runs = record { uid_is = refl; is_live = refl; runs_then = refl }
 
 -- on 14 June the cancellation is chosen, so no train runs
 pub cancellation_chosen : IsChosen (live_table three) (codes "C10001") 23541 (key_of 23541 67) cancellation
-cancellation_chosen = record { running = cancellation_runs; first = λ other others running. by other others (one_of_three other others running.is_live) }
+cancellation_chosen = record { running = cancellation_runs; first = λ other others running. by other others (one_of_three _ _ running.is_live) }
   where
     by : (other : ScheduleKey) (others : List (List ℕ))
         → IsOneOf (key_of 23537 80) permanent other others ⊎ (IsOneOf (key_of 23538 79) overlay other others ⊎ IsOneOf
-        (key_of 23541 67) cancellation other others)
-        → IsAtMost schedule_choice_cmp (key_of 23541 67) other
+        (key_of 23541 67) cancellation other others) → IsAtMost schedule_choice_cmp (key_of 23541 67) other
     by other others (inl e) = subst (λ k. IsAtMost schedule_choice_cmp (key_of 23541 67) k) e.0 (λ greater. cc)
     by other others (inr (inl e)) = subst (λ k. IsAtMost schedule_choice_cmp (key_of 23541 67) k) e.0 (λ greater. cc)
     by other others (inr (inr e)) = subst (λ k. IsAtMost schedule_choice_cmp (key_of 23541 67) k) e.0 (λ greater. cc)

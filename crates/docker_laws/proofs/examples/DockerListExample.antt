@@ -1,18 +1,18 @@
 -- The docker of the example file at ASHFELD on 10 June 2024 has only one line.
-use Rattle.std.proofs.Common.{◌≡◌, ℕ, zero, suc, ◌+◌, List, [], ◌∷◌, length, refl, inl, inr, Some, None, lit<}
-use Rattle.std.proofs.Common.{◌<◌, arith, ap, sym, ◌∙◌, subst, Contains, get_or, Bool, true, false, ◌⊎◌, ◌++◌}
-use Rattle.std.specs.Prelude.{codes, Option, slice_index}
+use Rattle.std.proofs.Common.{◌≡◌, ℕ, List, [], ◌∷◌, refl, inl, inr, Some, None, lit<, rules}
+use Rattle.std.proofs.Common.{arith, ap, sym, ◌∙◌, subst, Contains, Bool, true, false, ◌⊎◌, ◌++◌}
+use Rattle.std.specs.Prelude.{codes, Option}
 use Rattle.std.specs.Ordering.{is_eq}
 use Rattle.std.specs.declared.cmp.Ordering.{Ordering}
-use Rattle.std.specs.declared.cmp.Ordering.TheVariants.{Less, Equal, Greater}
+use Rattle.std.specs.declared.cmp.Ordering.TheVariants.{Equal}
 use Rattle.jiff_core.specs.Calendar.{days_from_civil, day_count, days_of_years, days_of_months}
 use Rattle.docker_model.specs.records.Record.{columns}
-use Rattle.docker_model.specs.file.Change.{Key, schedule_key, association_key, ScheduleKey, Body, schedule_body, association_body}
+use Rattle.docker_model.specs.file.Change.{Key, schedule_key, ScheduleKey, Body, schedule_body}
 use Rattle.docker_model.specs.state.Op.{key_cmp}
 use Rattle.docker_model.specs.state.Table.{Table}
 use Rattle.docker_model.specs.state.State.{live_table}
 use Rattle.docker_model.specs.docker.Event.{Event, events_of, event_line, event_day}
-use Rattle.docker_model.specs.docker.Choice.{IsRunning, IsChosen, TrainRuns, schedule_choice_cmp}
+use Rattle.docker_model.specs.docker.Choice.{IsRunning, IsChosen, TrainRuns}
 use Rattle.docker_model.specs.docker.DockerLine.{DockerLine, line_of_event}
 use Rattle.docker_model.specs.docker.Association.{IsAssociationLine}
 use Rattle.docker_model.specs.docker.DockerList.{IsEventLine, IsDockerList}
@@ -28,27 +28,17 @@ live = live_table f2_state
 
 -- an ordering that passes the test `is_eq` is `Equal`
 equal_by_test : (o : Ordering) → is_eq o ≡ true → o ≡ Equal
-equal_by_test Less h = cc
-equal_by_test Equal h = refl
-equal_by_test Greater h = cc
+equal_by_test = search rules
 
 abbrev found : Bool → Option Body
 found true = Some (schedule_body f2_schedule)
 found false = None
 
 live_by_test : (key : Key) → live key ≡ found (is_eq (key_cmp (schedule_key f2_key) key))
-live_by_test key = by (is_eq (key_cmp (schedule_key f2_key) key)) refl
-  where
-    by : (b : Bool) → is_eq (key_cmp (schedule_key f2_key) key) ≡ b → live key ≡ found b
-    by true h = rw h refl
-    by false h = rw h refl
+live_by_test = search (rules, f2_key)
 
 found_is : (b : Bool) (body : Body) → found b ≡ Some body → (b ≡ true) × (schedule_body f2_schedule ≡ body)
-found_is true body h = (refl, some_injective (schedule_body f2_schedule) body h)
-  where
-    some_injective : (x y : Body) → Some x ≡ Some y → x ≡ y
-    some_injective x y e = cc
-found_is false body h = cc
+found_is = search (rules, f2_schedule)
 
 only_live : (key : Key) (body : Body) → live key ≡ Some body → (schedule_key f2_key ≡ key) × (schedule_body f2_schedule ≡ body)
 only_live key body h =
@@ -74,13 +64,7 @@ unfolding days_from_civil day_count days_of_years days_of_months
 runs_on_10_june = record { uid_is = refl; is_live = refl; runs_then = refl }
 
 chosen_on_10_june : IsChosen live (codes "C10001") 23537 f2_key f2_schedule
-chosen_on_10_june = record {
-  running = runs_on_10_june;
-  first = λ other others running greater.
-      let same = (only_running (codes "C10001") 23537 other others running).0 in
-      let self : schedule_choice_cmp f2_key f2_key ≡ Greater = subst (λ k. schedule_choice_cmp f2_key k ≡ Greater) (sym same) greater in
-      cc;
-}
+chosen_on_10_june = search (rules, runs_on_10_june, only_running, f2_key)
 
 train_runs_on_10_june : TrainRuns live (codes "C10001") 23537 f2_key f2_schedule
 train_runs_on_10_june = record { chosen = chosen_on_10_june; no_cancellation = λ cancelled. omega arith }
@@ -102,26 +86,12 @@ is_event_line = record {
 }
 
 two_events : (event : Event) → Contains (events_of f2_schedule) event → (leaves_f2 ≡ event) ⊎ (ends_f2 ≡ event)
-two_events event among = by among.0 among.1 among.2
-  where
-    by : (k : ℕ) → k < length (events_of f2_schedule) → get_or (events_of f2_schedule) k event ≡ event → (leaves_f2 ≡ event) ⊎ (ends_f2 ≡ event)
-    by zero below is = inl is
-    by (suc zero) below is = inr is
-    by (suc (suc k)) below is = absurd (omega arith)
+two_events = search (rules, f2_schedule, leaves_f2, ends_f2)
 
 -- the only event at ASHFELD on 10 June is the departure, and its train starts on that day
 starts_then : (start : ℕ) (event : Event) → Contains (events_of f2_schedule) event → columns 3 9 (event_line f2_schedule event) ≡ codes "ASHFELD"
     → event_day start f2_schedule event ≡ 23537 → (leaves_f2 ≡ event) × (start ≡ 23537)
-starts_then start event among here today = by (two_events event among)
-  where
-    by : (leaves_f2 ≡ event) ⊎ (ends_f2 ≡ event) → (leaves_f2 ≡ event) × (start ≡ 23537)
-    by (inl same) =
-        let then : start + 0 ≡ 23537 = subst (λ e. event_day start f2_schedule e ≡ 23537) (sym same) today in
-        (same, omega arith)
-    by (inr same) =
-        let there : columns 3 9 f2_terminus ≡ codes "ASHFELD" = subst (λ e. columns 3 9 (event_line f2_schedule e) ≡ codes "ASHFELD") (sym same) here in
-        let first : ◌≡◌ {A = ℕ} 66 65 = ap (λ bytes. slice_index bytes 0) there in
-        absurd (omega arith)
+starts_then = search (rules, two_events, leaves_f2, ends_f2, f2_schedule, f2_terminus)
 
 only_event_line : (line : DockerLine) → IsEventLine live (codes "ASHFELD") 23537 line → the_line ≡ line
 only_event_line line made =
@@ -134,9 +104,7 @@ only_event_line line made =
     (λ i. line_of_event (same.0 i) (sym told.1 i) (same.1 i) (told.0 i)) ∙ sym made.is
 
 no_association_line : (line : DockerLine) → ¬ IsAssociationLine live (codes "ASHFELD") 23537 line
-no_association_line line made =
-    let told = (only_live (association_key made.key) (association_body made.association) made.chosen.associated.is_live).0 in
-    cc
+no_association_line = search (rules, only_live)
 
 only_line : (line : DockerLine) → IsEventLine live (codes "ASHFELD") 23537 line ⊎ IsAssociationLine live (codes "ASHFELD") 23537 line → the_line ≡ line
 only_line line (inl made) = only_event_line line made
@@ -147,8 +115,8 @@ pub f2_docker : IsDockerList live (codes "ASHFELD") 23537 (the_line ∷ [])
 f2_docker = record {
   ascending = (tt, tt);
   members = λ line. (
-    λ among. inl (subst (IsEventLine live (codes "ASHFELD") 23537) (Contains-single the_line line among) is_event_line),
-    λ made. single-Contains the_line line (only_line line made),
+    λ among. inl (subst (IsEventLine live (codes "ASHFELD") 23537) (Contains-single _ _ among) is_event_line),
+    λ made. single-Contains _ _ (only_line _ made),
   );
 }
 

@@ -1,12 +1,12 @@
 -- Examples of excerpts for COLWELL: the entries that the docker of COLWELL needs, and the excerpt
 -- that the walk computes. Without the needed entries the docker would be wrong.
-use Rattle.std.proofs.Common.{◌≡◌, ℕ, List, [], ◌∷◌, refl, inl, inr, Some, None, arith, ap, ◌∙◌, subst, Contains, ◌⊎◌}
+use Rattle.std.proofs.Common.{◌≡◌, ℕ, List, [], ◌∷◌, refl, inl, inr, Some, None, arith, ap, ◌∙◌, subst, ◌⊎◌, rules}
 use Rattle.std.specs.Prelude.{codes, slice_index}
 use Rattle.jiff_core.specs.Calendar.{days_from_civil, day_count, days_of_years, days_of_months}
 use Rattle.docker_model.specs.records.PrintedTime.{spaces}
 use Rattle.docker_model.specs.file.Change.{Key, tiploc_key, schedule_key, association_key, ScheduleKey}
 use Rattle.docker_model.specs.file.Change.{AssociationKey, Body, tiploc_body, schedule_body, association_body}
-use Rattle.docker_model.specs.state.Op.{Entry, Op, deleted, lapsed, put_with, body_of}
+use Rattle.docker_model.specs.state.Op.{Entry, Op, deleted, lapsed, put_with}
 use Rattle.docker_model.specs.state.State.{State, AreAscending, live_table}
 use Rattle.docker_model.specs.docker.Choice.{TrainRuns, schedule_choice_cmp}
 use Rattle.docker_model.specs.docker.Association.{IsPartnerIdentity}
@@ -14,7 +14,6 @@ use Rattle.docker_laws.specs.Excerpt.{IsNeeded, IsExcerpt, IsExcerptState}
 use Rattle.docker_laws.specs.ExcerptWalk.{excerpt_for}
 use Rattle.docker_model.specs.state.Order.{IsAtMost}
 use Rattle.cif_laws.proofs.records.Builders.{no_text, bs, lo, lt, aa}
-use Rattle.cif_laws.proofs.lists.Membership.{Contains-cons, Contains-single}
 use Rattle.state_laws.proofs.states.PlainTable.{Keyed}
 use Rattle.docker_laws.proofs.examples.ChoiceExamples.{in_state, some_stamp}
 use Rattle.state_laws.proofs.indexes.CallsTest.{calls_test}
@@ -82,10 +81,7 @@ schedule_in _ = stops_key
 
 only_stops : (other : ScheduleKey) (others : List (List ℕ)) → live_table alone (schedule_key other) ≡ Some (schedule_body others) → stops_key ≡ other
 unfolding schedule_in
-only_stops other others h =
-    let found = in_state alone (schedule_key other) (schedule_body others) h in
-    ap (λ (pair : Keyed). schedule_in pair.0)
-    (Contains-single {A = Keyed} (put_in (schedule_key stops_key) (schedule_body stops)) (schedule_key other, found.0) found.1)
+only_stops = grind (arith, in_state, schedule_in)
 
 -- on the day of the overlay the train doesn't run according to the permanent schedule
 runs_by_overlay : ¬ TrainRuns (live_table overlaid) (codes "C40001") 23538 stops_key stops
@@ -170,67 +166,32 @@ not_second other entry uid same = uids_differ (ap (λ (pair : Keyed). (schedule_
 only_partner : (other : ScheduleKey) (others : List (List ℕ)) → other.uid ≡ codes "C40002"
     → live_table joined (schedule_key other) ≡ Some (schedule_body others) → partner_key ≡ other
 unfolding schedule_in
-only_partner other others uid h =
-    first (Contains-cons {A = Keyed} (put_in (association_key link_key) (association_body link)) (stops_entry ∷ partner_entry ∷ [])
-    (schedule_key other, found.0) found.1)
-  where
-    stops_entry : Keyed
-    stops_entry = put_in (schedule_key stops_key) (schedule_body stops)
-
-    partner_entry : Keyed
-    partner_entry = put_in (schedule_key partner_key) (schedule_body partner)
-
-    found : (entry : Entry) × Contains joined.entries (schedule_key other, entry) × (body_of entry.op ≡ Some (schedule_body others))
-    found = in_state joined (schedule_key other) (schedule_body others) h
-
-    second : (stops_entry ≡ (schedule_key other, found.0)) ⊎ Contains (partner_entry ∷ []) (schedule_key other, found.0) → partner_key ≡ other
-    second (inl same) = absurd (not_second other found.0 uid same)
-    second (inr rest) = ap (λ (pair : Keyed). schedule_in pair.0) (Contains-single {A = Keyed} partner_entry (schedule_key other, found.0) rest)
-
-    first : (put_in (association_key link_key) (association_body link) ≡ (schedule_key other, found.0))
-        ⊎ Contains (stops_entry ∷ partner_entry ∷ []) (schedule_key other, found.0) → partner_key ≡ other
-    first (inl same) = absurd (not_first other found.0 uid same)
-    first (inr rest) = second (Contains-cons {A = Keyed} stops_entry (partner_entry ∷ []) (schedule_key other, found.0) rest)
+only_partner = search (rules, in_state, not_second, schedule_in, not_first)
 
 no_partner : (other : ScheduleKey) (others : List (List ℕ)) → other.uid ≡ codes "C40002"
     → ¬ (live_table parted (schedule_key other) ≡ Some (schedule_body others))
-no_partner other others uid h =
-    first (Contains-cons {A = Keyed} (put_in (association_key link_key) (association_body link)) (stops_entry ∷ []) (schedule_key other, found.0) found.1)
-  where
-    stops_entry : Keyed
-    stops_entry = put_in (schedule_key stops_key) (schedule_body stops)
-
-    found : (entry : Entry) × Contains parted.entries (schedule_key other, entry) × (body_of entry.op ≡ Some (schedule_body others))
-    found = in_state parted (schedule_key other) (schedule_body others) h
-
-    first : (put_in (association_key link_key) (association_body link) ≡ (schedule_key other, found.0))
-        ⊎ Contains (stops_entry ∷ []) (schedule_key other, found.0) → ⊥
-    first (inl same) = not_first other found.0 uid same
-    first (inr rest) = not_second other found.0 uid (Contains-single {A = Keyed} stops_entry (schedule_key other, found.0) rest)
+no_partner = search (rules, in_state, not_first, not_second)
 
 -- the docker shows the identity of the associated train
 identity_there : IsPartnerIdentity (live_table joined) (codes "C40002") (Some 23537) (codes "4D42")
 unfolding days_from_civil day_count days_of_years days_of_months
-identity_there =
-    inl (
-      partner_key,
-      partner,
-      record {
-        chosen = record {
-          running = record { uid_is = refl; is_live = refl; runs_then = refl };
-          first = λ other others running.
-              subst (λ (k : ScheduleKey). IsAtMost schedule_choice_cmp partner_key k)
-              (only_partner other others running.uid_is running.is_live) (λ greater. cc);
-        };
-        no_cancellation = λ cancelled. omega arith;
-      },
-      refl,
-    )
+identity_there = inl (
+  partner_key,
+  partner,
+  record {
+    chosen = record {
+      running = record { uid_is = refl; is_live = refl; runs_then = refl };
+      first = λ other others running. subst (λ (k : ScheduleKey). IsAtMost schedule_choice_cmp partner_key k)
+          (only_partner other _ running.uid_is running.is_live) (λ greater. cc);
+    };
+    no_cancellation = λ cancelled. omega arith;
+  },
+  refl,
+)
 
 -- if the state doesn't have the associated train, the docker can't show its identity
 identity_lost : ¬ IsPartnerIdentity (live_table parted) (codes "C40002") (Some 23537) (codes "4D42")
-identity_lost (inl runs) = no_partner runs.0 runs.1 runs.2.chosen.running.uid_is runs.2.chosen.running.is_live
-identity_lost (inr none) = let first : ◌≡◌ {A = ℕ} 52 63 = ap (λ bytes. slice_index bytes 0) none.1 in omega arith
+identity_lost = search (rules, no_partner)
 
 -- the docker of COLWELL needs the associated train
 partner_is_needed : IsNeeded (live_table joined) place (schedule_key partner_key)
@@ -303,37 +264,7 @@ walk_leaves : (excerpt_for place whole).entries
 walk_leaves = refl
 
 whole_ascends : AreAscending whole.entries
-whole_ascends = (
-  (refl, (refl, (refl, (refl, (refl, (refl, (refl, (refl, (refl, (refl, (refl, tt))))))))))),
-  (
-    (refl, (refl, (refl, (refl, (refl, (refl, (refl, (refl, (refl, (refl, tt)))))))))),
-    (
-      (refl, (refl, (refl, (refl, (refl, (refl, (refl, (refl, (refl, tt))))))))),
-      (
-        (refl, (refl, (refl, (refl, (refl, (refl, (refl, (refl, tt)))))))),
-        (
-          (refl, (refl, (refl, (refl, (refl, (refl, (refl, tt))))))),
-          (
-            (refl, (refl, (refl, (refl, (refl, (refl, tt)))))),
-            (
-              (refl, (refl, (refl, (refl, (refl, tt))))),
-              (
-                (refl, (refl, (refl, (refl, tt)))),
-                (
-                  (refl, (refl, (refl, tt))),
-                  (
-                    (refl, (refl, tt)),
-                    ((refl, tt), (tt, tt)),
-                  ),
-                ),
-              ),
-            ),
-          ),
-        ),
-      ),
-    ),
-  ),
-)
+whole_ascends = search rules
 
 -- the result of the walk is an excerpt
 walk_leaves_excerpt : IsExcerptState place whole (excerpt_for place whole)

@@ -1,15 +1,15 @@
 -- Worked examples of the changes that are kept for COLWELL and a day, and of four wrong thinnings.
 -- Each of the wrong thinnings keeps too few changes or records.
-use Rattle.std.proofs.Common.{length, length-append, ◌≡◌, ℕ, ◌≤◌, List, [], ◌∷◌, refl, inl, inr, ◌⊎◌}
+use Rattle.std.proofs.Common.{length-append, ◌≡◌, ℕ, ◌≤◌, List, [], ◌∷◌, refl, inl, inr, ◌⊎◌, rules}
 use Rattle.std.proofs.Common.{Some, None, arith, lit<, ap, sym, ◌∙◌, subst, Bool, true, false, cond}
-use Rattle.std.specs.Prelude.{codes, slice_index, ◌↔◌, ◌&&◌, nat_le}
+use Rattle.std.specs.Prelude.{codes, ◌↔◌, ◌&&◌, nat_le}
 use Rattle.std.specs.declared.cmp.Ordering.TheVariants.{Greater}
 use Rattle.std.specs.Ordering.{is_eq}
 use Rattle.std.proofs.lemmas.Bool.{leb-true}
 use Rattle.jiff_core.specs.Calendar.{days_from_civil, day_count, days_of_years, days_of_months}
 use Rattle.docker_model.specs.records.PrintedTime.{spaces}
-use Rattle.docker_model.specs.file.Journey.{arrival, CallsAt, calls_at, midnights}
-use Rattle.docker_model.specs.file.File.{IsSchedule, IsJourney, MayLackJourney, first_record}
+use Rattle.docker_model.specs.file.Journey.{arrival, CallsAt, midnights}
+use Rattle.docker_model.specs.file.File.{IsSchedule, first_record}
 use Rattle.docker_model.specs.file.Change.{Key, tiploc_key, association_key, schedule_key, ScheduleKey, tiploc_body}
 use Rattle.docker_model.specs.file.Change.{association_body, schedule_body, Act, delete, put, Change}
 use Rattle.docker_model.specs.state.Op.{schedule_key_cmp}
@@ -150,11 +150,7 @@ same_schedule key other h = ap schedule_in (same_key (schedule_key key) (schedul
 
 -- the table after `stops_alone` has no schedule with a key other than `stops_key`
 only_stops : (other : ScheduleKey) (others : List (List ℕ)) → table_of stops_alone (schedule_key other) ≡ Some (schedule_body others) → stops_key ≡ other
-only_stops other others h = by (is_eq (schedule_key_cmp stops_key other)) refl h
-  where
-    by : (b : Bool) → is_eq (schedule_key_cmp stops_key other) ≡ b → cond b (Some (schedule_body stops)) None ≡ Some (schedule_body others) → stops_key ≡ other
-    by true same is = same_schedule stops_key other same
-    by false same is = none_some (schedule_body others) is
+only_stops = grind (arith, stops_key, stops, same_schedule, none_some)
 
 -- according to the schedules in the table after `stops_alone`, the train runs and has a docker line
 -- at COLWELL
@@ -200,20 +196,11 @@ revision_deletes = refl
 -- for 16 June the put before the revision may also be removed, so that no change is kept
 revision_removes : IsThinning place 23543 revised []
 unfolding days_from_civil day_count days_of_years days_of_months
-revision_removes =
-    thinning_removed place 23543 stops_alone stops_alone (put_schedule 5 stops_key ended)
-    (subst (IsThinning place 23543 stops_alone) kept (thinning_of_all place 23543 stops_alone)) refl
-  where
-    kept : thin_changes place 23543 stops_alone ≡ stops_alone
-    kept = refl
+revision_removes = search (rules, thinning_removed, place, stops_key, thinning_of_all)
 
 -- after the revision, `ended` is the only schedule in the table
 revised_is : (other : ScheduleKey) (others : List (List ℕ)) → table_of revised (schedule_key other) ≡ Some (schedule_body others) → ended ≡ others
-revised_is other others h = by (is_eq (schedule_key_cmp stops_key other)) h
-  where
-    by : (b : Bool) → cond b (Some (schedule_body ended)) (cond b (Some (schedule_body stops)) None) ≡ Some (schedule_body others) → ended ≡ others
-    by true is = cc
-    by false is = none_some (schedule_body others) is
+revised_is = grind (arith, stops_key, stops, none_some)
 
 ends_by : (start : ℕ) → schedule_runs (first_record ended) start ≡ true → start ≤ 23537
 unfolding days_from_civil day_count days_of_years days_of_months
@@ -241,8 +228,7 @@ no_link line is = none_some (association_body is.association) is.chosen.associat
 dropped_revision_is_wrong : ¬ ((lines : List DockerLine) → IsDockerList (table_of revised) place 23543 lines
     ↔ IsDockerList (table_of stops_alone) place 23543 lines)
 unfolding days_from_civil day_count days_of_years days_of_months
-dropped_revision_is_wrong =
-    differ (table_of revised) (table_of stops_alone) 23543 (line_of_event stops_key 23543 stops arrives) (stops_line 23543 refl refl) no_arrival no_link
+dropped_revision_is_wrong = differ (table_of revised) _ 23543 _ (stops_line 23543 refl refl) no_arrival no_link
 
 -- ---- wrong: a schedule that doesn't call at the place is dropped
 
@@ -260,10 +246,7 @@ unfolding days_from_civil day_count days_of_years days_of_months
 overlay_runs = record { uid_is = refl; is_live = refl; runs_then = refl }
 
 not_there : (lines : List (List ℕ)) → way_round ≡ lines → ¬ CallsAt place lines
-not_there lines same calls =
-    let test : calls_at place way_round ≡ true = (calls_test place way_round).1 (subst (CallsAt place) (sym same) calls) in
-    let bad : false ≡ true = test in
-    cc
+not_there = search (rules, place, calls_test)
 
 -- on 11 June the train doesn't run according to the schedule that calls at COLWELL
 not_by_stops : (uid : List ℕ) (start : ℕ) (key : ScheduleKey) (lines : List (List ℕ)) → stops_key ≡ key → start ≡ 23538
@@ -303,9 +286,7 @@ no_link_then line is = none_some (association_body is.association) is.chosen.ass
 dropped_overlay_is_wrong : ¬ ((lines : List DockerLine) → IsDockerList (table_of overlaid) place 23538 lines
     ↔ IsDockerList (table_of stops_alone) place 23538 lines)
 unfolding days_from_civil day_count days_of_years days_of_months
-dropped_overlay_is_wrong =
-    differ (table_of overlaid) (table_of stops_alone) 23538 (line_of_event stops_key 23538 stops arrives) (stops_line 23538 refl refl)
-    no_arrival_then no_link_then
+dropped_overlay_is_wrong = differ (table_of overlaid) _ 23538 _ (stops_line 23538 refl refl) no_arrival_then no_link_then
 
 -- the overlay with another origin and another terminus. The overlay may also be kept in this form,
 -- because neither is COLWELL
@@ -320,22 +301,7 @@ other_ends_serve = stand_in_by_first place 23538 way_round other_ends refl refl 
 -- ---- wrong: a schedule keeps only its basic schedule
 
 basic_alone_is_wrong : ¬ IsSchedule (first_record stops ∷ [])
-basic_alone_is_wrong is = by is.journey_or_none
-  where
-    same : first_record stops ≡ is.basic
-    same = ap first_record is.whole
-
-    not_cancelled : MayLackJourney (first_record stops) → ⊥
-    not_cancelled (inl deletion) = let bad : false ≡ true = deletion in cc
-    not_cancelled (inr letter) = let bad : ◌≡◌ {A = ℕ} 80 67 = letter in omega arith
-
-    by : IsJourney is.journey ⊎ ((is.journey ≡ []) × MayLackJourney is.basic) → ⊥
-    by (inl journey) =
-        let size = ap length is.whole in
-        let sum = length-append is.extra is.journey in
-        let more = ap length journey.whole in
-        omega arith
-    by (inr none) = not_cancelled (subst MayLackJourney (sym same) none.1)
+basic_alone_is_wrong = search (rules, stops, length-append)
 
 -- ---- wrong: an associated train that starts on the next day is dropped
 
@@ -379,36 +345,29 @@ partner_is_far = (refl, refl)
 
 only_follows_on : (other : ScheduleKey) (others : List (List ℕ)) → table_of partner_alone (schedule_key other) ≡ Some (schedule_body others)
     → follows_on_key ≡ other
-only_follows_on other others h = by (is_eq (schedule_key_cmp follows_on_key other)) refl h
-  where
-    by : (b : Bool) → is_eq (schedule_key_cmp follows_on_key other) ≡ b → cond b (Some (schedule_body follows_on)) None ≡ Some (schedule_body others)
-        → follows_on_key ≡ other
-    by true same is = same_schedule follows_on_key other same
-    by false same is = none_some (schedule_body others) is
+only_follows_on = grind (arith, same_schedule, none_some)
 
 -- the docker of 11 June shows the associated train's identity, if the association has the date
 -- indicator `N`
 identity_there : IsPartnerIdentity (table_of partner_alone) (codes "C40002") (partner_start 78 23538) (codes "4D42")
 unfolding days_from_civil day_count days_of_years days_of_months
-identity_there =
-    inl (
-      follows_on_key,
-      follows_on,
-      record {
-        chosen = record {
-          running = record { uid_is = refl; is_live = refl; runs_then = refl };
-          first = λ other others running.
-              subst (λ (k : ScheduleKey). IsAtMost schedule_choice_cmp follows_on_key k) (only_follows_on other others running.is_live) (λ greater. cc);
-        };
-        no_cancellation = λ cancelled. omega arith;
-      },
-      refl,
-    )
+identity_there = inl (
+  follows_on_key,
+  follows_on,
+  record {
+    chosen = record {
+      running = record { uid_is = refl; is_live = refl; runs_then = refl };
+      first = λ other others running.
+          subst (λ (k : ScheduleKey). IsAtMost schedule_choice_cmp follows_on_key k) (only_follows_on other _ running.is_live) (λ greater. cc);
+    };
+    no_cancellation = λ cancelled. omega arith;
+  },
+  refl,
+)
 
 -- without the associated train the docker of 11 June can't show that train's identity
 dropped_partner_is_wrong : ¬ IsPartnerIdentity empty_table (codes "C40002") (partner_start 78 23538) (codes "4D42")
-dropped_partner_is_wrong (inl runs) = none_some (schedule_body runs.1) runs.2.chosen.running.is_live
-dropped_partner_is_wrong (inr none) = let first : ◌≡◌ {A = ℕ} 52 63 = ap (λ bytes. slice_index bytes 0) none.1 in omega arith
+dropped_partner_is_wrong = search (rules, none_some)
 
 -- ---- the summary of a file
 

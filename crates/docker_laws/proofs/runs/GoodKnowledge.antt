@@ -1,16 +1,16 @@
 -- If all events of a run are good, all knowledge after the run is good: every known file is a CIF
 -- file, and the format allows every known horizon.
-use Rattle.std.proofs.Common.{◌≡◌, ℕ, zero, suc, ◌≤◌, Bool, true, false, List, [], ◌∷◌, length, get_or, ap, ◌∙◌, refl, arith, All}
+use Rattle.std.proofs.Common.{◌≡◌, ℕ, ◌≤◌, Bool, true, false, List, [], ◌∷◌, length, get_or, refl, arith, All, rules}
+use Rattle.std.proofs.lemmas.Grind.{common_steps}
 use Rattle.std.specs.Prelude.{max, nat_lt, fold, slice_set}
 use Rattle.std.specs.List.{zip}
 use Rattle.std.proofs.Math.Nat.{zero-max}
 use Rattle.std.proofs.lemmas.Bool.{ltb-true, ltb-false}
 use Rattle.std.proofs.lemmas.List.Elements.{All-cons, All-append, All-set, All-push, All-nil, All-replicate, All-head, All-tail}
-use Rattle.docker_model.specs.records.Date.{last_day}
 use Rattle.docker_model.specs.file.File.{IsFile, most_records}
 use Rattle.docker_model.specs.file.Text.{lines_of}
 use Rattle.docker_model.specs.file.FileFault.{IsFileText}
-use Rattle.docker_model.specs.state.StateText.{Format, dks_1, dks_2, IsHorizonOf}
+use Rattle.docker_model.specs.state.StateText.{Format, IsHorizonOf}
 use Rattle.docker_model.specs.run.Run.{RunEvent, take_file, send_state, deliver, reload, horizon_event, Reply, done, refused, no_office, Known, KnownSets}
 use Rattle.docker_model.specs.run.Run.{nothing, united, office_known, message_known, after_done, after_reply, none_known, known_sets, IsReply, AreReplies}
 use Rattle.docker_model.specs.run.Knowledge.{AreFiles, IsGoodKnown, IsGoodEvent}
@@ -20,12 +20,10 @@ use Rattle.state_laws.proofs.states.Lapse.{max_most}
 
 -- if a format allows two horizons, it allows the greater of them
 max_good : (format : Format) (a b : ℕ) → IsHorizonOf format a → IsHorizonOf format b → IsHorizonOf format (max a b)
-max_good dks_1 a b first second = ap (λ n. max n b) first ∙ zero-max b ∙ second
-max_good dks_2 a b first second = max_most a b last_day first second
+max_good = search (rules, zero-max, max_most)
 
 none_good : (format : Format) → IsHorizonOf format 0
-none_good dks_1 = λ i. 0
-none_good dks_2 = omega arith
+none_good = search rules
 
 no_files_good : AreFiles []
 no_files_good = (All-nil IsFile, All-nil (λ file. length file ≤ most_records))
@@ -51,10 +49,9 @@ file_good format text limit low file =
     let few : length (lines_of text) ≤ most_records = omega arith in (
       (
         All-cons IsFile (lines_of text) [] file.is (All-nil IsFile),
-        All-cons (λ f. length f ≤ most_records) (lines_of text) [] few
-            (All-nil (λ f. length f ≤ most_records)),
+        All-cons (λ f. length f ≤ most_records) (lines_of text) [] few (All-nil (λ f. length f ≤ most_records)),
       ),
-      none_good format,
+      none_good _,
     )
 
 -- if a format allows a horizon, and an office knows only this horizon and no files, its knowledge
@@ -65,9 +62,7 @@ horizon_good format day is = (no_files_good, is)
 -- ---- the knowledge after a run of good events is good
 
 good_at : {A : Type 0} (P : A → Type 0) (xs : List A) (i : ℕ) (d : A) → All P xs → P d → P (get_or xs i d)
-good_at P [] i d all one = one
-good_at P (x ∷ xs) zero d all one = All-head P x xs all
-good_at P (x ∷ xs) (suc i) d all one = good_at P xs i d (All-tail P x xs all) one
+good_at = grind (common_steps, arith)
 
 -- the knowledge of each office is good (`IsGoodKnown`), and so is the knowledge that each message
 -- carries
@@ -100,18 +95,9 @@ module _ (format : Format) where
           let high = ltb-false office (length known.offices) h in let bad : done ≡ refused no_office = reply.absent (λ there. omega arith) in absurd (cc)
   good_done known (send_state office) good event reply =
       (good.0, All-push (IsGoodKnown format) known.messages (office_known known office) good.1 (office_good known office good))
-  good_done known (deliver office message) good event reply = (
-    with_good known office (united (message_known known message) (office_known known office)) good
-        (united_good format (message_known known message) (office_known known office) (message_good known message good) (office_good known office good)),
-    good.1,
-  )
-  good_done known (reload office message) good event reply =
-      (with_good known office (message_known known message) good (message_good known message good), good.1)
-  good_done known (horizon_event office day) good event reply = (
-    with_good known office (united (record { files = []; horizon = day }) (office_known known office)) good
-        (united_good format (record { files = []; horizon = day }) (office_known known office) (horizon_good format day event) (office_good known office good)),
-    good.1,
-  )
+  good_done known (deliver office message) good event reply = search (rules, with_good, united_good, message_good, office_good)
+  good_done known (reload office message) good event reply = search (rules, with_good, message_good)
+  good_done known (horizon_event office day) good event reply = search (rules, with_good, united_good, horizon_good, office_good)
 
   good_after : (known : KnownSets) (event : RunEvent) (reply : Reply) → AllGood format known → IsGoodEvent format event → IsReply known event reply
       → AllGood format (after_reply known (event, reply))
@@ -132,8 +118,7 @@ module _ (format : Format) where
   pub good_in_run : (offices : ℕ) (events : List RunEvent) (replies : List Reply) → All (IsGoodEvent format) events
       → AreReplies (none_known offices) events replies
       → AllGood format (known_sets offices events replies)
-  good_in_run offices events replies each are =
-      good_along (none_known offices) events replies (
-        All-replicate (IsGoodKnown format) offices nothing (nothing_good format),
-        All-nil (IsGoodKnown format),
-      ) each are
+  good_in_run offices events replies each are = good_along _ _ _ (
+    All-replicate (IsGoodKnown format) offices nothing (nothing_good _),
+    All-nil (IsGoodKnown format),
+  ) each are

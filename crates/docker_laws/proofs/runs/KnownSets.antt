@@ -1,12 +1,13 @@
 -- Lemmas on the knowledge after one more event of a run, and on the numbers of offices and
 -- messages.
 use Rattle.std.proofs.Common.{◌≡◌, ℕ, suc, ◌+◌, Bool, true, false, cond, List, [], ◌∷◌, ◌++◌, length, refl, ap, ◌∙◌, arith, length-append, length-set}
+use Rattle.std.proofs.Common.{rules}
 use Rattle.std.specs.Prelude.{fold, filter}
 use Rattle.std.specs.List.{zip}
 use Rattle.std.proofs.lemmas.List.Sums.{fold-append}
 use Rattle.std.proofs.lemmas.List.{length-replicate}
-use Rattle.docker_model.specs.run.Run.{RunEvent, take_file, send_state, deliver, reload, horizon_event, Reply, done, refused}
-use Rattle.docker_model.specs.run.Run.{KnownSets, nothing, office_known, after_reply, none_known, known_sets, IsReply, AreReplies}
+use Rattle.docker_model.specs.run.Run.{RunEvent, Reply}
+use Rattle.docker_model.specs.run.Run.{KnownSets, nothing, after_reply, none_known, known_sets, IsReply, AreReplies}
 use Rattle.docker_model.specs.run.Knowledge.{is_sent, sent_count}
 
 zip_more : {A B : Type 0} (xs : List A) (ys : List B) (x : A) (y : B) → length xs ≡ length ys → zip (xs ++ x ∷ []) (ys ++ y ∷ []) ≡ zip xs ys ++ (x, y) ∷ []
@@ -19,9 +20,7 @@ zip_more (a ∷ xs) (b ∷ ys) x y same = ap (λ rest. (a, b) ∷ rest) (zip_mor
 -- from the event and from its reply
 pub sets_more : (offices : ℕ) (events : List RunEvent) (replies : List Reply) (event : RunEvent) (reply : Reply) → length events ≡ length replies
     → known_sets offices (events ++ event ∷ []) (replies ++ reply ∷ []) ≡ after_reply (known_sets offices events replies) (event, reply)
-sets_more offices events replies event reply same =
-    ap (fold after_reply (none_known offices)) (zip_more events replies event reply same)
-    ∙ fold-append after_reply (none_known offices) (zip events replies) ((event, reply) ∷ [])
+sets_more = search (rules, zip_more, fold-append)
 
 -- ---- appending an event with an allowed reply leaves all replies of a run allowed
 
@@ -53,21 +52,11 @@ replies_more offices events replies event reply are is = replies_after (none_kno
 -- sent
 
 offices_stay : (known : KnownSets) (event : RunEvent) (reply : Reply) → length (after_reply known (event, reply)).offices ≡ length known.offices
-offices_stay known event (refused why) = refl
-offices_stay known (take_file office text limit) done = length-set known.offices office _
-offices_stay known (send_state office) done = refl
-offices_stay known (deliver office message) done = length-set known.offices office _
-offices_stay known (reload office message) done = length-set known.offices office _
-offices_stay known (horizon_event office day) done = length-set known.offices office _
+offices_stay = search (rules, length-set)
 
 messages_grow : (known : KnownSets) (event : RunEvent) (reply : Reply) → length (after_reply known (event, reply)).messages ≡ length known.messages + length
     (filter is_sent ((event, reply) ∷ []))
-messages_grow known event (refused why) = omega arith
-messages_grow known (take_file office text limit) done = omega arith
-messages_grow known (send_state office) done = length-append known.messages (office_known known office ∷ [])
-messages_grow known (deliver office message) done = omega arith
-messages_grow known (reload office message) done = omega arith
-messages_grow known (horizon_event office day) done = omega arith
+messages_grow = search (rules, length-append)
 
 offices_along : (known : KnownSets) (events : List RunEvent) (replies : List Reply) → length (fold after_reply known (zip events replies)).offices
     ≡ length known.offices
@@ -100,5 +89,4 @@ offices_are offices events replies = offices_along (none_known offices) events r
 -- in a run, the number of messages equals the number of states that were sent
 pub messages_are : (offices : ℕ) (events : List RunEvent) (replies : List Reply)
     → length (known_sets offices events replies).messages ≡ sent_count events replies
-messages_are offices events replies =
-    messages_along (none_known offices) events replies ∙ (let e : 0 + sent_count events replies ≡ sent_count events replies = omega arith in e)
+messages_are = search (rules, messages_along)

@@ -1,6 +1,6 @@
 -- Offices with the same knowledge have equal states, and offices that know the same files print the
 -- same dockers, even in different runs.
-use Rattle.std.proofs.Common.{◌≡◌, ℕ, ◌+◌, Bool, true, false, List, [], ap, sym, ◌∙◌, subst, refl, arith, All}
+use Rattle.std.proofs.Common.{◌≡◌, ℕ, ◌+◌, Bool, true, false, List, ap, sym, ◌∙◌, subst, refl, arith, All, rules}
 use Rattle.std.specs.Prelude.{◌↔◌, max, nat_lt}
 use Rattle.std.proofs.Math.Nat.{le-max_left, le-max_right, max-eq_left, max-eq_right}
 use Rattle.std.proofs.lemmas.Bool.{ltb-true, ltb-false}
@@ -12,7 +12,7 @@ use Rattle.docker_model.specs.state.State.{State, IsValid, live_table, lapse_sta
 use Rattle.docker_model.specs.state.Summary.{IsSummary}
 use Rattle.docker_model.specs.state.StateText.{Format, state_text}
 use Rattle.docker_model.specs.docker.DockerText.{IsDockerText, docker_text}
-use Rattle.docker_model.specs.run.Run.{RunEvent, Exchange, IsRun, AreReplies, none_known, IsStateOf, IsMessageOf}
+use Rattle.docker_model.specs.run.Run.{RunEvent, Exchange, IsRun, AreReplies, none_known, IsStateOf}
 use Rattle.docker_model.specs.run.Run.{Known, nothing, office_known, message_known, IsOffice, IsMessage}
 use Rattle.docker_model.specs.run.Knowledge.{HaveSameFiles, AreOneKnowledge, IsGoodKnown, IsGoodEvent, office_state, message_text, sets_of}
 use Rattle.docker_laws.specs.RunInvariant.{Holds}
@@ -45,11 +45,7 @@ run_holds format offices events exchange each run =
 -- if neither of two horizons makes the program refuse the dockers of a day, the greater horizon
 -- doesn't make the program refuse them either
 pub greater_prints : (a b day : ℕ) → ¬ IsDayRefused a day → ¬ IsDayRefused b day → ¬ IsDayRefused (max a b) day
-greater_prints a b day first second = by (nat_lt a b) refl
-  where
-    by : (t : Bool) → nat_lt a b ≡ t → ¬ IsDayRefused (max a b) day
-    by true h = let below = ltb-true a b h in subst (λ n. ¬ IsDayRefused n day) (sym (max-eq_right (omega arith))) second
-    by false h = subst (λ n. ¬ IsDayRefused n day) (sym (max-eq_left (ltb-false a b h))) first
+greater_prints = search (rules, ltb-true, max-eq_right, max-eq_left, ltb-false)
 
 -- suppose that the program doesn't refuse the dockers of a day because of a horizon. Then a state
 -- has the same dockers of that day before and after its entries lapse with this horizon
@@ -78,18 +74,15 @@ pub docker_of_files : (format : Format) (one two : Known) (first second : State)
     → HaveSameFiles one.files two.files → (place : List ℕ) (day : ℕ) → ¬ IsDayRefused one.horizon day → ¬ IsDayRefused two.horizon day → (text other : List ℕ)
     → IsDockerText (live_table first) place day text → IsDockerText (live_table second) place day other → text ≡ other
 docker_of_files format one two first second good also is that same place day prints_one prints_two text other told told_too =
-    let low = horizon_day format one.horizon good.1 in
-    let high = horizon_day format two.horizon also.1 in
-    let day_is : IsDay (max one.horizon two.horizon) = max_most one.horizon two.horizon _ low high in
-    let prints = greater_prints one.horizon two.horizon day prints_one prints_two in
-    let states = summary_unique one.files two.files same (max one.horizon two.horizon) (lapse_state (max one.horizon two.horizon) first)
-    (lapse_state (max one.horizon two.horizon) second)
-    (lapsed_summary one.files one.horizon (max one.horizon two.horizon) first (le-max_left one.horizon two.horizon) is)
-    (lapsed_summary two.files two.horizon (max one.horizon two.horizon) second (le-max_right one.horizon two.horizon) that) in
-    one_text (live_table (lapse_state (max one.horizon two.horizon) second)) place day text other
-    (subst (λ s. IsDockerText (live_table s) place day text) states
-    (docker_stays (max one.horizon two.horizon) first place day text day_is (summary_told format one first good is).valid prints told))
-    (docker_stays (max one.horizon two.horizon) second place day other day_is (summary_told format two second also that).valid prints told_too)
+    let low = horizon_day _ _ good.1 in
+    let high = horizon_day _ _ also.1 in
+    let day_is : IsDay (max one.horizon two.horizon) = max_most _ _ _ low high in
+    let prints = greater_prints _ _ _ prints_one prints_two in
+    let states = summary_unique _ _ same _ _ _ (lapsed_summary _ _ _ _ (le-max_left one.horizon two.horizon) is)
+    (lapsed_summary _ _ _ _ (le-max_right one.horizon two.horizon) that) in
+    one_text _ _ _ _ _ (subst (λ s. IsDockerText (live_table s) place day text) states
+    (docker_stays _ _ _ _ _ day_is (summary_told _ _ _ good is).valid prints told))
+    (docker_stays _ _ _ _ _ day_is (summary_told _ _ _ also that).valid prints told_too)
 
 -- ---- offices with the same knowledge have equal states
 
@@ -97,20 +90,15 @@ module _ (format : Format) (offices others : ℕ) (events more : List RunEvent) 
     (second : IsRun format others more two) (i j : ℕ) where
   module _ (in_one : IsOffice (sets_of offices events one) i) (in_two : IsOffice (sets_of others more two) j) where
     this_state : IsStateOf (office_known (sets_of offices events one) i) (office_state one.states i)
-    this_state =
-        zip_at IsStateOf (sets_of offices events one).offices one.states i nothing (record { horizon = 0; ledger = []; entries = [] }) first.states in_one
+    this_state = search (rules, zip_at)
 
     that_state : IsStateOf (office_known (sets_of others more two) j) (office_state two.states j)
-    that_state =
-        zip_at IsStateOf (sets_of others more two).offices two.states j nothing (record { horizon = 0; ledger = []; entries = [] }) second.states in_two
+    that_state = search (rules, zip_at)
 
     -- two offices with the same knowledge have equal states
     pub same_state : AreOneKnowledge (office_known (sets_of offices events one) i) (office_known (sets_of others more two) j)
         → office_state one.states i ≡ office_state two.states j
-    same_state same =
-        summary_unique (office_known (sets_of offices events one) i).files (office_known (sets_of others more two) j).files same.0
-        (office_known (sets_of others more two) j).horizon
-        (office_state one.states i) (office_state two.states j)
+    same_state same = summary_unique _ _ same.0 _ _ _
         (subst (λ h. IsSummary (office_known (sets_of offices events one) i).files h (office_state one.states i)) same.1 this_state) that_state
 
     -- offices that know the same files print the same docker for each place and each day, unless
@@ -121,27 +109,20 @@ module _ (format : Format) (offices others : ℕ) (events more : List RunEvent) 
         → (text other : List ℕ)
         → IsDockerText (live_table (office_state one.states i)) place day text → IsDockerText (live_table (office_state two.states j)) place day other
         → text ≡ other
-    same_docker each each_too same place day prints prints_too text other is that =
-        docker_of_files format (office_known (sets_of offices events one) i) (office_known (sets_of others more two) j) (office_state one.states i)
-        (office_state two.states j)
-        (All-get_or (IsGoodKnown format) (sets_of offices events one).offices i nothing in_one
-        (good_in_run format offices events one.replies each first.replies).0)
-        (All-get_or (IsGoodKnown format) (sets_of others more two).offices j nothing in_two
-        (good_in_run format others more two.replies each_too second.replies).0)
-        this_state that_state same place day (subst (λ h. ¬ IsDayRefused h day) this_state.horizon_is prints)
-        (subst (λ h. ¬ IsDayRefused h day) that_state.horizon_is prints_too)
-        text other is that
+    same_docker each each_too same place day prints prints_too text other is that = docker_of_files _ _ _ _ _
+        (All-get_or (IsGoodKnown format) (sets_of offices events one).offices i nothing in_one (good_in_run _ _ _ _ each first.replies).0)
+        (All-get_or (IsGoodKnown format) (sets_of others more two).offices j nothing in_two (good_in_run _ _ _ _ each_too second.replies).0)
+        this_state that_state same _ _ (subst (λ h. ¬ IsDayRefused h day) this_state.horizon_is prints)
+        (subst (λ h. ¬ IsDayRefused h day) that_state.horizon_is prints_too) _ _ is that
 
   -- two messages that carry the same knowledge have equal texts
   pub same_message : IsMessage (sets_of offices events one) i → IsMessage (sets_of others more two) j
       → AreOneKnowledge (message_known (sets_of offices events one) i) (message_known (sets_of others more two) j)
       → message_text one.messages i ≡ message_text two.messages j
   same_message in_one in_two same =
-      let this = zip_at (IsMessageOf format) (sets_of offices events one).messages one.messages i nothing [] first.messages in_one in
-      let that = zip_at (IsMessageOf format) (sets_of others more two).messages two.messages j nothing [] second.messages in_two in
-      this.2 ∙ ap (state_text format) (summary_unique (message_known (sets_of offices events one) i).files
-      (message_known (sets_of others more two) j).files same.0
-      (message_known (sets_of others more two) j).horizon this.0 that.0
+      let this = zip_at _ _ _ _ _ _ first.messages in_one in
+      let that = zip_at _ _ _ _ _ _ second.messages in_two in
+      this.2 ∙ ap (state_text format) (summary_unique _ _ same.0 _ _ _
       (subst (λ h. IsSummary (message_known (sets_of offices events one) i).files h this.0) same.1 this.1) that.1) ∙ sym that.2
 
 -- a docker that an office prints is the docker of the plain table of the files that the office
@@ -153,11 +134,6 @@ pub plain_docker : (format : Format) (offices : ℕ) (events : List RunEvent) (e
     → (place : List ℕ) (day : ℕ) → ¬ IsDayRefused (office_state exchange.states office).horizon day → (text : List ℕ)
     → IsDockerText (live_table (office_state exchange.states office)) place day text ↔ IsDockerText plain place day text
 plain_docker format offices events exchange run each office there plain is_plain place day prints text =
-    let good = All-get_or (IsGoodKnown format) (sets_of offices events exchange).offices office nothing there
-    (good_in_run format offices events exchange.replies each run.replies).0 in
-    let state = zip_at IsStateOf (sets_of offices events exchange).offices exchange.states office nothing
-    (record { horizon = 0; ledger = []; entries = [] }) run.states there in
-    printed_is_plain (office_known (sets_of offices events exchange) office).files (office_known (sets_of offices events exchange) office).horizon
-    (office_state exchange.states office) plain
-    place day text good.0.0 good.0.1 (horizon_day format (office_known (sets_of offices events exchange) office).horizon good.1) state is_plain
-    (subst (λ h. ¬ IsDayRefused h day) state.horizon_is prints)
+    let good = All-get_or (IsGoodKnown format) (sets_of offices events exchange).offices office nothing there (good_in_run _ _ _ _ each run.replies).0 in
+    let state = zip_at _ _ _ _ _ _ run.states there in
+    printed_is_plain _ _ _ _ _ _ _ good.0.0 good.0.1 (horizon_day _ _ good.1) state is_plain (subst (λ h. ¬ IsDayRefused h day) state.horizon_is prints)

@@ -1,9 +1,10 @@
 -- `Holds` is true at the start of a run and after each event. `Holds` says that the states and
 -- messages match the knowledge. Each state is the summary of the files that its office knows. Each
 -- message is the text of the summary of the files that its sender knew.
-use Rattle.std.proofs.Common.{◌≡◌, ℕ, ◌^◌, ◌<◌, ◌≤◌, List, [], ◌∷◌, ◌++◌, length, refl, sym, ◌∙◌, subst, arith, All, set}
+use Rattle.std.proofs.Common.{◌≡◌, ℕ, ◌^◌, ◌<◌, ◌≤◌, List, [], ◌∷◌, ◌++◌, length, refl, sym, ◌∙◌, subst, arith, All, set, rules}
+use Rattle.std.proofs.lemmas.Grind.{common_steps}
 use Rattle.std.proofs.Math.Nat.{max_comm}
-use Rattle.std.proofs.lemmas.List.Elements.{All-set, All-push, All-nil, All-replicate, All-get_or}
+use Rattle.std.proofs.lemmas.List.Elements.{All-set, All-push, All-get_or}
 use Rattle.docker_model.specs.file.File.{most_records}
 use Rattle.docker_model.specs.file.Text.{lines_of}
 use Rattle.docker_model.specs.file.FileFault.{IsFileText}
@@ -11,7 +12,7 @@ use Rattle.docker_model.specs.state.State.{State, IsJoin, raise_horizon}
 use Rattle.docker_model.specs.state.Summary.{IsSummary}
 use Rattle.docker_model.specs.state.StateText.{Format, state_text, IsHorizonOf, IsToldState}
 use Rattle.docker_model.specs.state.StateFault.{IsStateText}
-use Rattle.docker_model.specs.run.Run.{RunEvent, take_file, send_state, deliver, reload, horizon_event, done, refused, Refusal, Known, KnownSets, IsOffice}
+use Rattle.docker_model.specs.run.Run.{take_file, send_state, deliver, reload, horizon_event, done, Known, KnownSets, IsOffice}
 use Rattle.docker_model.specs.run.Run.{IsMessage, IsStateOf, IsMessageOf, nothing, united, office_known, message_known, after_reply, none_known}
 use Rattle.docker_model.specs.run.Knowledge.{IsGoodKnown, office_state, message_text}
 use Rattle.docker_laws.specs.RunInvariant.{Holds}
@@ -57,12 +58,12 @@ module _ (format : Format) (known : KnownSets) (states : List State) (messages :
       → (state : State) × IsStateOf (message_known known message) state × IsStateText format (length (message_text messages message))
       (message_text messages message) state
   message_reads message there short =
-      let made = message_is message there in
-      let counts = counts_fit format made.0 (subst (λ text. length text < 2 ^ 64) made.2 short) in (
+      let made = message_is _ there in
+      let counts = counts_fit _ _ (subst (λ text. length text < 2 ^ 64) made.2 short) in (
         made.0,
         made.1,
         record {
-          valid = (summary_told format (message_known known message) made.0 (message_good message there) made.1, counts.0, counts.1);
+          valid = (summary_told _ _ _ (message_good _ there) made.1, counts.0, counts.1);
           is = made.2;
           within = omega arith;
         },
@@ -77,10 +78,6 @@ module _ (format : Format) (known : KnownSets) (states : List State) (messages :
       subst (IsStateOf (message_known known message)) (one_text format made.0 state made.2.valid is.valid (sym made.2.is ∙ is.is)) made.1
 
   -- ---- after each event, states and messages still match the knowledge
-
-  -- after a refused event, states and messages still match the knowledge (`Holds`)
-  pub after_refusal : (event : RunEvent) (why : Refusal) → Holds format (after_reply known (event, refused why)) states messages
-  after_refusal event why = holds
 
   -- suppose that an office's knowledge is replaced, and that the office's state is replaced by the
   -- state of the new knowledge. Then states and messages still match the knowledge (`Holds`)
@@ -100,31 +97,24 @@ module _ (format : Format) (known : KnownSets) (states : List State) (messages :
       → IsJoin (office_state states office) one joined
       → Holds format (record { offices = set known.offices office (united more (office_known known office)); messages = known.messages })
       (set states office joined) messages
-  joined_in office more one joined there good summary join =
-      with_office_holds office (united more (office_known known office))
-      joined (united_good format more (office_known known office) good (office_good office there))
-      (join_is_summary more.files (office_known known office).files more.horizon (office_known known office).horizon one
-      (office_state states office) joined summary (office_is office there)
-      (join_commutes (office_state states office) one joined join))
+  joined_in office more one joined there good summary join = with_office_holds _ _ _ (united_good _ _ _ good (office_good _ there)) (join_is_summary _ _ _ _ _
+      _ _ summary (office_is _ there) (join_commutes _ _ _ join))
 
   -- after a file is taken, states and messages still match the knowledge (`Holds`)
   pub after_take : (office : ℕ) (text : List ℕ) (limit : ℕ) (one joined : State) → IsOffice known office → limit ≤ most_records
       → IsFileText limit text (lines_of text)
       → IsSummary (lines_of text ∷ []) 0 one → IsJoin (office_state states office) one joined
       → Holds format (after_reply known (take_file office text limit, done)) (set states office joined) messages
-  after_take office text limit one joined there low file summary join =
-      joined_in office (record { files = lines_of text ∷ []; horizon = 0 }) one joined there (file_good format text limit low file) summary join
+  after_take = search (rules, joined_in, file_good)
 
   -- after a state is sent, states and messages still match the knowledge (`Holds`)
   pub after_send : (office : ℕ) → IsOffice known office → Holds format (after_reply known (send_state office, done)) states
       (messages ++ state_text format (office_state states office) ∷ [])
   after_send office there = record {
     offices = holds.offices;
-    sent = All-push (IsGoodKnown format) known.messages (office_known known office) holds.sent (office_good office there);
+    sent = All-push (IsGoodKnown format) known.messages (office_known known office) holds.sent (office_good _ there);
     states_are = holds.states_are;
-    messages_are =
-        zip_end (IsMessageOf format) known.messages messages (office_known known office) (state_text format (office_state states office)) holds.messages_are
-        (office_state states office, office_is office there, refl);
+    messages_are = zip_end _ _ _ _ _ holds.messages_are (office_state states office, office_is _ there, refl);
   }
 
   -- after a message is delivered, states and messages still match the knowledge (`Holds`)
@@ -132,16 +122,14 @@ module _ (format : Format) (known : KnownSets) (states : List State) (messages :
       → length (message_text messages message) < 2 ^ 64
       → IsStateText format limit (message_text messages message) received → IsJoin (office_state states office) received joined
       → Holds format (after_reply known (deliver office message, done)) (set states office joined) messages
-  after_delivery office message limit received joined there sent short is join =
-      joined_in office (message_known known message) received joined there (message_good message sent) (what_is_read message sent short limit received is) join
+  after_delivery = search (rules, joined_in, message_good, what_is_read)
 
   -- after a message is reloaded, states and messages still match the knowledge (`Holds`)
   pub after_reload : (office message : ℕ) (limit : ℕ) (received : State) → IsOffice known office → IsMessage known message
       → length (message_text messages message) < 2 ^ 64
       → IsStateText format limit (message_text messages message) received
       → Holds format (after_reply known (reload office message, done)) (set states office received) messages
-  after_reload office message limit received there sent short is =
-      with_office_holds office (message_known known message) received (message_good message sent) (what_is_read message sent short limit received is)
+  after_reload = search (rules, with_office_holds, message_good, what_is_read)
 
   -- after a horizon is set, states and messages still match the knowledge (`Holds`)
   pub after_horizon : (office day : ℕ) → IsOffice known office → IsHorizonOf format day
@@ -157,9 +145,4 @@ module _ (format : Format) (known : KnownSets) (states : List State) (messages :
 -- is the state of an office that knows no files and no horizon
 pub holds_at_first : (format : Format) (offices : ℕ) (states : List State) → length states ≡ offices → All (IsSummary [] 0) states
     → Holds format (none_known offices) states []
-holds_at_first format offices states long all = record {
-  offices = All-replicate (IsGoodKnown format) offices nothing (nothing_good format);
-  sent = All-nil (IsGoodKnown format);
-  states_are = zip_replicate IsStateOf offices nothing states long all;
-  messages_are = tt;
-}
+holds_at_first = grind (common_steps, arith, nothing_good, zip_replicate)

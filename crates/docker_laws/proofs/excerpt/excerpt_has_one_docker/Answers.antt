@@ -1,4 +1,4 @@
-use Rattle.docker_laws.proofs.dockers.ExcerptDocker.{excerpt_list_iff, excerpt_text_iff, excerpt_good}
+use Rattle.docker_laws.proofs.dockers.ExcerptDocker.{excerpt_list_iff, excerpt_text_iff}
 use Rattle.docker_laws.proofs.excerpt.excerpt_has_one_docker.Goals as goal
 
 pub returns-clause-list : goal.returns-clause-list
@@ -6,6 +6,3 @@ returns-clause-list c = λ place live part day lines is. excerpt_list_iff place 
 
 pub returns-clause-text : goal.returns-clause-text
 returns-clause-text c = λ place live part day text is. excerpt_text_iff place live part is day text
-
-pub returns-clause-good : goal.returns-clause-good
-returns-clause-good c = excerpt_good

@@ -1,13 +1,10 @@
 use Rattle.docker_model.specs.state.State.{live_table}
 use Rattle.docker_laws.proofs.dockers.ExcerptDocker.{excerpt_list_iff, excerpt_text_iff}
-use Rattle.docker_laws.proofs.dockers.ExcerptState.{excerpt_valid, excerpt_refuses, excerpt_itself, excerpt_again}
+use Rattle.docker_laws.proofs.dockers.ExcerptState.{excerpt_valid, excerpt_itself, excerpt_again}
 use Rattle.docker_laws.proofs.excerpt.excerpt_of_state.Goals as goal
 
 pub returns-clause-valid : goal.returns-clause-valid
 returns-clause-valid c = excerpt_valid
-
-pub returns-clause-refused : goal.returns-clause-refused
-returns-clause-refused c = excerpt_refuses
 
 pub returns-clause-list : goal.returns-clause-list
 returns-clause-list c = λ place state part day lines is. excerpt_list_iff place (live_table state) (live_table part) is.live day lines

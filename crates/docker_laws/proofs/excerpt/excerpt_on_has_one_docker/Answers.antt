@@ -4,9 +4,6 @@ use Rattle.docker_laws.proofs.excerpt.excerpt_on_has_one_docker.Goals as goal
 pub returns-clause-valid : goal.returns-clause-valid
 returns-clause-valid c = excerpt_on_valid
 
-pub returns-clause-refused : goal.returns-clause-refused
-returns-clause-refused c = λ place day other state. (λ refused. refused, λ refused. refused)
-
 pub returns-clause-list : goal.returns-clause-list
 returns-clause-list c = excerpt_on_list
 

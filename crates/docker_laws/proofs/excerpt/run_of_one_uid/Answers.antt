@@ -1,20 +1,8 @@
-use Rattle.docker_laws.proofs.dockers.ExcerptSteps.{keeps_run, drops_run, ends_none, run_needed_iff, calls_more, names_so_far, names_stay, names_with, run_uid}
+use Rattle.docker_laws.proofs.dockers.ExcerptSteps.{run_needed_iff, names_so_far, names_stay, names_with, run_uid}
 use Rattle.docker_laws.proofs.excerpt.run_of_one_uid.Goals as goal
-
-pub returns-clause-keeps : goal.returns-clause-keeps
-returns-clause-keeps c = keeps_run
-
-pub returns-clause-drops : goal.returns-clause-drops
-returns-clause-drops c = drops_run
-
-pub returns-clause-none : goal.returns-clause-none
-returns-clause-none c = ends_none
 
 pub returns-clause-needed : goal.returns-clause-needed
 returns-clause-needed c = run_needed_iff
-
-pub returns-clause-calls : goal.returns-clause-calls
-returns-clause-calls c = calls_more
 
 pub returns-clause-names : goal.returns-clause-names
 returns-clause-names c = names_so_far

@@ -1,16 +1,9 @@
-use Rattle.std.proofs.Common.{refl}
 use Rattle.docker_laws.proofs.dockers.ThinChanges.{thin_over}
 use Rattle.docker_laws.proofs.dockers.ThinState.{kept_good}
 use Rattle.docker_laws.proofs.thinning.kept_changes_make_the_thinned_table.Goals as goal
 
-pub returns-clause-table : goal.returns-clause-table
-returns-clause-table c = λ place day all kept key is. is.enough key
-
 pub returns-clause-over : goal.returns-clause-over
 returns-clause-over c = thin_over
-
-pub returns-clause-file : goal.returns-clause-file
-returns-clause-file c = λ file. refl
 
 pub returns-clause-good : goal.returns-clause-good
 returns-clause-good c = λ place day file kept change is_file few is among. (kept_good place day file is_file few kept is change among).0

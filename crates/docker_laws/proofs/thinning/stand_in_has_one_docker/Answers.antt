@@ -3,12 +3,10 @@ use Rattle.docker_laws.proofs.dockers.ThinDocker.{stand_in_list_iff, stand_in_te
 use Rattle.docker_laws.proofs.thinning.stand_in_has_one_docker.Goals as goal
 
 pub returns-clause-list : goal.returns-clause-list
-returns-clause-list c = λ place day live part lines good good_part stands.
-    stand_in_list_iff place day live part stands (bodies_few live good) (bodies_few part good_part) lines
+returns-clause-list c = λ place day live part lines good good_part stands. stand_in_list_iff _ _ _ _ stands (bodies_few _ good) (bodies_few _ good_part) _
 
 pub returns-clause-text : goal.returns-clause-text
-returns-clause-text c = λ place day live part text good good_part stands.
-    stand_in_text_iff place day live part stands (bodies_few live good) (bodies_few part good_part) text
+returns-clause-text c = λ place day live part text good good_part stands. stand_in_text_iff _ _ _ _ stands (bodies_few _ good) (bodies_few _ good_part) _
 
 pub returns-clause-thinned : goal.returns-clause-thinned
 returns-clause-thinned c = thinned_stands

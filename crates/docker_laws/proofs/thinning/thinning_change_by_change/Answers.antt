@@ -1,9 +1,6 @@
-use Rattle.docker_laws.proofs.dockers.ThinChanges.{thinning_at_first, thinning_elsewhere, thinning_kept, thinning_dropped}
+use Rattle.docker_laws.proofs.dockers.ThinChanges.{thinning_elsewhere, thinning_kept, thinning_dropped}
 use Rattle.docker_laws.proofs.dockers.ThinChanges.{thinning_removed, thinning_replaced, thinning_more, thinning_of_all}
 use Rattle.docker_laws.proofs.thinning.thinning_change_by_change.Goals as goal
-
-pub returns-clause-first : goal.returns-clause-first
-returns-clause-first c = thinning_at_first
 
 pub returns-clause-elsewhere : goal.returns-clause-elsewhere
 returns-clause-elsewhere c = thinning_elsewhere
