@@ -1,5 +1,5 @@
 -- The state made from one file has the file's ledger item and, for each key, the greatest entry that the file's changes make.
-use Rattle.std.proofs.Common.{◌≡◌, ℕ, ◌≤◌, List, [], ◌∷◌, ◌++◌, map, length}
+use Rattle.std.proofs.Common.{◌≡◌, ℕ, ◌≤◌, List, [], ◌∷◌, ◌++◌, map, length, rules}
 use Rattle.std.proofs.Common.{refl, ap, sym, ◌∙◌, subst, inl, inr, ◌⊎◌, Contains, All, Bool, true, false, Some, None, arith}
 use Rattle.std.specs.Prelude.{Option, ◌↔◌, slice_index_or, ◌==◌}
 use Rattle.std.specs.Cmp.{tied_itself}
@@ -15,7 +15,7 @@ use Rattle.docker_model.specs.state.Order.{IsAtMost, IsStrictlyAscending}
 use Rattle.docker_model.specs.state.State.{State, IsValid, IsGreatestAmong}
 use Rattle.docker_model.specs.state.Summary.{IsSummary, IsKeptFile, IsEntryOf, entry_of}
 use Rattle.cif_laws.proofs.orders.Orders.{file_stamp_total}
-use Rattle.cif_laws.proofs.lists.Membership.{Contains-cons, cons-Contains-first, nil-Contains, Contains-map, map-Contains, all_members}
+use Rattle.cif_laws.proofs.lists.Membership.{cons-Contains-first, nil-Contains, Contains-map, map-Contains, all_members}
 use Rattle.cif_laws.proofs.files.FileChanges.{file_change}
 use Rattle.state_laws.proofs.states.SummaryValid.{summary_is_valid}
 use Rattle.state_laws.proofs.joins.RaisedHorizon.{plain_summary}
@@ -39,16 +39,11 @@ use Rattle.docker_state.proofs.StateJoin.{op_records}
 
 -- the line at index 0 is the first line
 pub first_is : (lines : List (List ℕ)) → slice_index_or lines 0 [] ≡ first_record lines
-first_is [] = refl
-first_is (line ∷ lines) = refl
+first_is = search rules
 
 -- a member of a list of one element is equal to this element
 pub only : {A : Type 0} (x z : A) → Contains (x ∷ []) z → x ≡ z
-only x z among = by (Contains-cons x [] z among)
-  where
-    by : (x ≡ z) ⊎ Contains [] z → x ≡ z
-    by (inl same) = same
-    by (inr none) = absurd (nil-Contains z none)
+only = search (rules, nil-Contains)
 
 -- no stamp is above itself
 not_above_itself : (stamp : FileStamp) → IsAtMost file_stamp_cmp stamp stamp
@@ -80,9 +75,8 @@ one_floor item = by (item.indicator == 70) (eqb_tells item.indicator 70)
 -- make
 pub made_records : (all : List model.Change) → HaveRecords all → (stamp : FileStamp) (made : List (Key × Entry))
     → map row_meant made ≡ map (made_by stamp) all → All (λ (row : Key × Entry). HasRecords (op_meant row.1.op)) made
-made_records all have stamp made made_is = all_members (λ (row : Key × Entry). HasRecords (op_meant row.1.op)) made (λ row among.
-    let found = Contains-map (made_by stamp) all (row_meant row)
-    (subst (λ (rows : List (model.Key × ops.Entry)). Contains rows (row_meant row)) made_is (map-Contains row_meant made row among)) in
+made_records all have stamp made made_is = all_members _ _ (λ row among.
+    let found = Contains-map _ _ _ (subst (λ (rows : List (model.Key × ops.Entry)). Contains rows (row_meant row)) made_is (map-Contains _ _ _ among)) in
     subst (λ (pair : model.Key × ops.Entry). HasRecords pair.1.op) found.2 (have found.0 found.1))
 
 -- the bodies put by a file's changes consist of records
@@ -91,9 +85,7 @@ file_records file is_file few change among = op_records change.key (op_of change
 
 -- an empty ledger with one item appended is the ledger of just this item
 pub one_item : (item : LedgerItem) (before ledger : List LedgerItem) → before ≡ [] → ledger ≡ before ++ item ∷ [] → map item_meant ledger ≡ item_meant item ∷ []
-one_item item before ledger none pushed =
-    let all : ledger ≡ item ∷ [] = pushed ∙ ap (λ (xs : List LedgerItem). xs ++ item ∷ []) none in
-    ap (map item_meant) all
+one_item = search rules
 
 -- suppose that a file stamp is the stamp of a ledger item. Then changes make the same rows with the
 -- file stamp as with the item's stamp
@@ -125,12 +117,11 @@ module _ (file : List (List ℕ)) (state : State) (is : IsMadeState (ledger_item
   to_made : (f : Option FileStamp) (key : model.Key) (entry : ops.Entry) → IsEntryOf (file ∷ []) f key entry
       → Contains (map (made_by (file_stamp_of file)) (changes file)) (key, entry)
   to_made f key entry of =
-      let same : file ≡ of.file = only file of.file of.kept.among in
+      let same : file ≡ of.file = only _ _ of.kept.among in
       let among : Contains (changes file) of.change = subst (λ (x : List (List ℕ)). Contains (changes x) of.change) (sym same) of.among in
       let entry_is : entry_of file of.change ≡ entry = subst (λ (x : List (List ℕ)). entry_of x of.change ≡ entry) (sym same) of.entry_is in
       let pair : made_by (file_stamp_of file) of.change ≡ (key, entry) = (λ i. (of.key_is i, entry_is i)) in
-      subst (Contains (map (made_by (file_stamp_of file)) (changes file))) pair
-      (map-Contains (made_by (file_stamp_of file)) (changes file) of.change among)
+      subst (Contains (map (made_by (file_stamp_of file)) (changes file))) pair (map-Contains _ _ _ among)
 
   from_made : (f : Option FileStamp) → IsKept f (file_stamp_of file) → (key : model.Key) (entry : ops.Entry)
       → Contains {X = model.Key × ops.Entry} (map (made_by (file_stamp_of file)) (changes file)) (key, entry)
@@ -140,26 +131,26 @@ module _ (file : List (List ℕ)) (state : State) (is : IsMadeState (ledger_item
       record { file = file; kept = kept_one f kept; change = found.0; among = found.1; key_is = (λ i. (found.2 i).0); entry_is = (λ i. (found.2 i).1) }
 
   summary_under : (f : Option FileStamp) → IsFloor (ledger_item_of file ∷ []) f → IsKept f (file_stamp_of file) → IsSummary (file ∷ []) 0 state
-  summary_under f is_floor kept = (plain_summary (file ∷ []) state).0 (record {
+  summary_under f is_floor kept = (plain_summary (file ∷ []) _).0 (record {
     no_horizon = is.horizon;
     floor = f;
     is_floor = is_floor;
     ledger_ascends = subst (IsStrictlyAscending ledger_item_cmp) (sym is.ledger) (tt, tt);
     ledger = λ item. (
-      λ among. (file, kept_one f kept, only (ledger_item_of file) item (subst (λ (xs : List stamps.LedgerItem). Contains xs item) is.ledger among)),
+      λ among. (file, kept_one f kept, only _ item (subst (λ (xs : List stamps.LedgerItem). Contains xs item) is.ledger among)),
       λ told. subst (λ (xs : List stamps.LedgerItem). Contains xs item) (sym is.ledger)
-          (subst (λ (i : stamps.LedgerItem). Contains (ledger_item_of file ∷ []) i) (ap ledger_item_of (only file told.0 told.1.among) ∙ told.2)
-          (cons-Contains-first (ledger_item_of file) [])),
+          (subst (λ (i : stamps.LedgerItem). Contains (ledger_item_of file ∷ []) i) (ap ledger_item_of (only _ told.0 told.1.among) ∙ told.2)
+          (cons-Contains-first _ [])),
     );
     entries_ascend = is.ascending;
     entries = λ key entry. (
       λ among. let best = (is.entries key entry).0 among in record {
-        is = from_made f kept key entry best.among;
-        greatest = λ other of. best.greatest other (to_made f key other of);
+        is = from_made _ kept key _ best.among;
+        greatest = λ other of. best.greatest other (to_made f _ other of);
       },
       λ best. (is.entries key entry).1 (record {
-        among = to_made f key entry best.is;
-        greatest = λ other among. best.greatest other (from_made f kept key other among);
+        among = to_made _ key _ best.is;
+        greatest = λ other among. best.greatest other (from_made f kept _ other among);
       }),
     );
   })
@@ -170,11 +161,8 @@ module _ (file : List (List ℕ)) (state : State) (is : IsMadeState (ledger_item
 
   -- the state that a file's changes make is valid
   pub file_valid : IsFile file → length file ≤ most_records → IsValid state
-  file_valid is_file few =
-      summary_is_valid (file ∷ []) 0 state (omega arith)
-      (all_members IsFile (file ∷ []) (λ f among. subst IsFile (only file f among) is_file))
-      (all_members (λ f. length f ≤ most_records) (file ∷ []) (λ f among. subst (λ (x : List (List ℕ)). length x ≤ most_records) (only file f among) few))
-      file_summary
+  file_valid is_file few = summary_is_valid (file ∷ []) _ state (omega arith) (all_members _ (file ∷ []) (λ f among. subst IsFile (only _ f among) is_file))
+      (all_members _ (file ∷ []) (λ f among. subst (λ (x : List (List ℕ)). length x ≤ most_records) (only _ f among) few)) file_summary
 
 -- the ledger item of a header line is the ledger item of any file that begins with this line
 pub item_is_of : (head line : List ℕ) (item : stamps.LedgerItem) (lines : List (List ℕ)) → head ≡ line → line ≡ slice_index_or lines 0 []
@@ -184,9 +172,7 @@ item_is_of head line item lines same first_line told = told lines (same ∙ firs
 -- the state that the ledger item and the changes of a file make is the file's summary
 pub summary_of_made : (item : stamps.LedgerItem) (all : List model.Change) (lines : List (List ℕ)) (state : State) → item ≡ ledger_item_of lines
     → all ≡ changes lines → IsMadeState item all state → IsSummary (lines ∷ []) 0 state
-summary_of_made item all lines state item_is all_is is =
-    file_summary lines state
-    (subst (λ (i : stamps.LedgerItem). IsMadeState i (changes lines) state) item_is (subst (λ (a : List model.Change). IsMadeState item a state) all_is is))
+summary_of_made = search (rules, file_summary)
 
 -- a state is valid if the ledger item and the changes of a file make it
 pub valid_of_made : (item : stamps.LedgerItem) (all : List model.Change) (lines : List (List ℕ)) → item ≡ ledger_item_of lines → all ≡ changes lines

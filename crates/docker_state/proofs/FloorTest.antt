@@ -1,5 +1,6 @@
 -- Lemmas on filtering a list: an element passes if its file stamp isn't below the floor.
 use Rattle.std.proofs.Common.{◌≡◌, arith, List, [], ◌∷◌, length, map, refl, ap, sym, ◌∙◌, subst, Contains, Bool, true, false, cond, Some, None}
+use Rattle.std.proofs.Common.{rules}
 use Rattle.std.specs.Prelude.{filter, Option, ◌↔◌, IsTrue}
 use Rattle.std.specs.declared.cmp.Ordering.TheVariants.{Less, Equal, Greater}
 use Rattle.docker_model.specs.state.Stamp.{FileStamp, file_stamp_cmp, IsKept}
@@ -25,36 +26,21 @@ module _ {X P : Type 0} (R : P → X → Bool → P → Type 0) (test : X → Bo
 
   -- the library's filter leaves exactly the elements that pass the test
   pub kept_by : (xs ys : List X) → IsFiltered R p xs ys → ys ≡ filter test xs
-  kept_by xs ys is = is.4 ∙ told is.0 xs p is.1 refl is.2 is.3
+  kept_by = search (rules, told)
 
--- the lemmas for filtering an ascending list
 module _ {A : Type 0} (cmp : A → A → Ordering) (test : A → Bool) where
   filter_above : (low : A) (xs : List A) → AllByRecursion (IsBelow cmp low) xs → AllByRecursion (IsBelow cmp low) (filter test xs)
   filter_above low [] above = tt
-  filter_above low (x ∷ xs) above = by (test x) (filter_above low xs above.1)
-    where
-      by : (b : Bool) → AllByRecursion (IsBelow cmp low) (filter test xs) → AllByRecursion (IsBelow cmp low) (cond b (x ∷ filter test xs) (filter test xs))
-      by true rest = (above.0, rest)
-      by false rest = rest
+  filter_above low (x ∷ xs) above = grind (arith, (filter_above low xs above.1))
 
   -- filtering an ascending list leaves an ascending list
   pub filter_ascends : (xs : List A) → IsStrictlyAscending cmp xs → IsStrictlyAscending cmp (filter test xs)
   filter_ascends [] up = tt
-  filter_ascends (x ∷ xs) up = by (test x) (filter_ascends xs up.1)
-    where
-      by : (b : Bool) → IsStrictlyAscending cmp (filter test xs) → IsStrictlyAscending cmp (cond b (x ∷ filter test xs) (filter test xs))
-      by true rest = (filter_above x xs up.0, rest)
-      by false rest = rest
+  filter_ascends (x ∷ xs) up = grind (arith, filter_above, (filter_ascends xs up.1))
 
--- if a test depends only on the value of a function, filtering a list by the test commutes with mapping the function over the list
 pub filter-map : {A B : Type 0} (f : A → B) (test : B → Bool) (xs : List A) → map f (filter (λ x. test (f x)) xs) ≡ filter test (map f xs)
 filter-map f test [] = refl
-filter-map f test (x ∷ xs) = by (test (f x)) (filter-map f test xs)
-  where
-    by : (b : Bool) → map f (filter (λ v. test (f v)) xs) ≡ filter test (map f xs)
-        → map f (cond b (x ∷ filter (λ v. test (f v)) xs) (filter (λ v. test (f v)) xs)) ≡ cond b (f x ∷ filter test (map f xs)) (filter test (map f xs))
-    by true same = ap (λ zs. f x ∷ zs) same
-    by false same = same
+filter-map f test (x ∷ xs) = grind (arith, (filter-map f test xs))
 
 -- whether the result of a comparison is `Less` or `Equal`
 not_above : Ordering → Bool
@@ -70,28 +56,16 @@ keeps (Some floor) stamp = not_above (file_stamp_cmp floor stamp)
 -- a stamp that passes the test `keeps floor` isn't below the floor
 pub keeps_is : (floor : Option FileStamp) (stamp : FileStamp) → keeps floor stamp ≡ true → IsKept floor stamp
 unfolding keeps not_above
-keeps_is None stamp h = tt
-keeps_is (Some floor) stamp h = λ above. let bad : false ≡ true = ap not_above (sym above) ∙ h in cc
+keeps_is = search (rules, not_above)
 
 -- a stamp that isn't below the floor passes the test `keeps floor`
 pub is_keeps : (floor : Option FileStamp) (stamp : FileStamp) → IsKept floor stamp → keeps floor stamp ≡ true
 unfolding keeps not_above
-is_keeps None stamp kept = refl
-is_keeps (Some floor) stamp kept = by (file_stamp_cmp floor stamp) kept
-  where
-    by : (o : Ordering) → ¬ (o ≡ Greater) → not_above o ≡ true
-    by Less below = refl
-    by Equal below = refl
-    by Greater below = absurd (below refl)
+is_keeps = search (rules, not_above)
 
 -- a test that passes if and only if the stamp isn't below the floor returns the same as `keeps floor stamp`
 pub says_kept : (floor : Option FileStamp) (stamp : FileStamp) (b : Bool) → IsTrue b ↔ IsKept floor stamp → b ≡ keeps floor stamp
-says_kept floor stamp true told = sym (is_keeps floor stamp (told.0 refl))
-says_kept floor stamp false told = by (keeps floor stamp) refl
-  where
-    by : (b : Bool) → keeps floor stamp ≡ b → false ≡ b
-    by false h = refl
-    by true h = told.1 (keeps_is floor stamp h)
+says_kept = search (rules, is_keeps, told, keeps, keeps_is)
 
 -- the lemmas for the elements that aren't below a floor, after a function has converted them
 module _ {A B : Type 0} (f : A → B) (cmp : B → B → Ordering) (floor : Option FileStamp) (stamp : B → FileStamp) (xs ys : List A)

@@ -1,5 +1,5 @@
 -- The floor of two ledgers together, given the floor of each.
-use Rattle.std.proofs.Common.{◌≡◌, List, ◌++◌, ap, sym, ◌∙◌, inl, inr, ◌⊎◌, Contains}
+use Rattle.std.proofs.Common.{◌≡◌, List, ◌++◌, sym, ◌∙◌, inl, inr, ◌⊎◌, Contains, rules}
 use Rattle.std.specs.Ordering.{on}
 use Rattle.std.proofs.lemmas.List.Elements.{Contains-append_left, Contains-append_right, Contains-append_cases}
 use Rattle.docker_model.specs.state.Order.{IsAtMost, IsGreater}
@@ -73,8 +73,4 @@ module _ (left right : List LedgerItem) where
 
 -- if `c` is the greater of `a` and `b` by the values of `f`, then `f c` is the greater of `f a` and `f b`
 pub greater_meant : {A B : Type 0} (f : A → B) (cmp : _) (a b c : A) → IsGreater (on f cmp) a b c → IsGreater cmp (f a) (f b) (f c)
-greater_meant f cmp a b c is = record { among = by is.among; first = is.first; second = is.second }
-  where
-    by : (c ≡ a) ⊎ (c ≡ b) → (f c ≡ f a) ⊎ (f c ≡ f b)
-    by (inl same) = inl (ap f same)
-    by (inr same) = inr (ap f same)
+greater_meant = search rules

@@ -17,10 +17,8 @@ pub parts_at_gap : (rows : List (Key × Entry)) (key : model.Key) (at : ℕ) →
     → IsPartitionPoint (λ row. by_key key row ≡ Less) (λ row. by_key key row ≡ Greater) rows at
 parts_at_gap rows key at up below above = (
   λ i d low high. lesser (by_key key (get_or rows i d)) (by_key key (get_or rows (at - 1) d))
-      (rows_rise rows key up i (at - 1) d (omega arith) (let within = below.0 in omega arith)) (above d (omega arith)),
-  λ i d low high.
-      greater (by_key key (get_or rows at d)) (by_key key (get_or rows i d))
-      (rows_rise rows key up at i d low high) (below.1 d (omega arith)),
+      (rows_rise _ _ up i (at - 1) d (omega arith) (let within = below.0 in omega arith)) (above d (omega arith)),
+  λ i d low high. greater (by_key key (get_or rows at d)) (by_key key (get_or rows i d)) (rows_rise _ _ up at i d low high) (below.1 d (omega arith)),
 )
   where
     lesser : (o p : Ordering) → ordering_index o ≤ ordering_index p → p ≡ Less → o ≡ Less

@@ -1,8 +1,8 @@
 -- If rows are sorted by key and then by entry, the last row for each key has the greatest entry for the key.
-use Rattle.std.proofs.Common.{◌≡◌, List, [], ◌∷◌, map, refl, ap, sym, ◌∙◌, subst, inl, inr, ◌⊎◌, Contains, Bool, true, false, cond}
+use Rattle.std.proofs.Common.{◌≡◌, List, [], ◌∷◌, map, refl, ap, sym, ◌∙◌, subst, inl, inr, ◌⊎◌, Contains, Bool, true, false, cond, rules}
 use Rattle.std.specs.declared.cmp.Ordering.{Ordering}
 use Rattle.std.specs.declared.cmp.Ordering.TheVariants.{Less, Equal, Greater}
-use Rattle.std.specs.Ordering.{is_eq, is_lt, ordering_reverse}
+use Rattle.std.specs.Ordering.{is_eq, is_lt}
 use Rattle.std.specs.Cmp.{IsTotalOrder, then_total, on_total, tied_itself}
 use Rattle.docker_model.specs.file.Change as model
 use Rattle.docker_model.specs.state.Op as ops
@@ -26,8 +26,7 @@ pub by_entry_total : IsTotalOrder by_entry
 by_entry_total = then_total (on_total (λ (r : Key × Entry). key_meant r.0) key_total) (on_total (λ (r : Key × Entry). entry_meant r.1) entry_total)
 
 pub not_under : (a b : Key × Entry) → is_lt (by_entry b a) ≡ false → IsAtMost by_entry a b
-not_under a b h above = let turned : by_entry b a ≡ Less = by_entry_total.antisymm b a ∙ ap ordering_reverse above in
-    let bad : true ≡ false = sym (ap is_lt turned) ∙ h in cc
+not_under = search (rules, by_entry, by_entry_total)
 
 -- Says that `last_rows rows` has a row with the key of `w`. `last_rows` keeps only the last row for each key.
 abbrev LastOf : List (Key × Entry) → Key × Entry → Type 0
@@ -35,11 +34,7 @@ LastOf rows w = (m : Key × Entry) × Contains (last_rows rows) m × (row_cmp w 
 
 last_of : (rows : List (Key × Entry)) (w : Key × Entry) → Contains rows w → LastOf rows w
 last_of [] w among = absurd (nil-Contains w among)
-last_of (row ∷ []) w among = by (Contains-cons row [] w among)
-  where
-    by : (row ≡ w) ⊎ Contains [] w → LastOf (row ∷ []) w
-    by (inl same) = (row, cons-Contains-first row [], ap (λ (v : Key × Entry). row_cmp v row) (sym same) ∙ tied_itself key_total (key_meant row.0))
-    by (inr none) = absurd (nil-Contains w none)
+last_of (row ∷ []) w among = search (rules, cons-Contains-first, key_total, nil-Contains)
 last_of (row ∷ next ∷ rows) w among = by (is_eq (row_cmp next row)) refl (λ v inside. last_of (next ∷ rows) v inside) (Contains-cons row (next ∷ rows) w among)
   where
     eq_is : (o : Ordering) → is_eq o ≡ true → o ≡ Equal

@@ -1,16 +1,14 @@
 -- Lemmas on setting a horizon on a state. If the new horizon is after the old horizon, each entry whose body ended before the new horizon lapses. Otherwise
 -- nothing changes.
-use Rattle.std.proofs.Common.{◌≡◌, ℕ, ◌≤◌, List, map, ap, sym, ◌∙◌, subst}
+use Rattle.std.proofs.Common.{◌≡◌, ℕ, ◌≤◌, List, map, sym, subst, rules}
 use Rattle.std.proofs.Math.Nat.{max-eq_left, max-eq_right}
-use Rattle.docker_model.specs.state.Lapse.{HasNotToLapse, lapse_entries}
+use Rattle.docker_model.specs.state.Lapse.{lapse_entries}
 use Rattle.docker_model.specs.records.Date.{IsDay}
-use Rattle.docker_model.specs.state.State.{HaveLapsed, IsValid, raise_horizon, lapse_state}
+use Rattle.docker_model.specs.state.State.{HaveLapsed, IsValid, raise_horizon}
 use Rattle.std.specs.Prelude.{max, Option}
 use Rattle.std.proofs.lemmas.List.Elements.{recursion_from_All}
 use Rattle.state_laws.proofs.states.KeptEntries.{entries_stay}
 use Rattle.state_laws.proofs.joins.JoinValid.{raised_is_valid}
-use Rattle.docker_model.specs.file.Change as model
-use Rattle.docker_model.specs.state.Op as ops
 use Rattle.cif_change.specs.declared.key.Key.{Key}
 use Rattle.state_index.specs.declared.index.Index.{Index}
 use Rattle.docker_join.specs.declared.entry.Entry.{Entry}
@@ -18,27 +16,22 @@ use Rattle.docker_join.specs.Meaning.{row_meant}
 use Rattle.docker_state.specs.declared.item.LedgerItem.{LedgerItem}
 use Rattle.state_index.specs.Rooms.{items_of}
 use Rattle.docker_state.specs.Indexed.{HasRoomIfAny, IsIndexIfAny}
-use Rattle.docker_state.specs.Meaning.{item_meant, state_meant}
+use Rattle.docker_state.specs.Meaning.{state_meant}
 
 module _ (own day : ℕ) (low : own ≤ day) (ledger : List LedgerItem) (rows after : List (Key × Entry))
     (lapsed : map row_meant after ≡ lapse_entries day (map row_meant rows)) where
   -- raising the horizon of a state to `day` gives the state with the horizon `day` and the rows `after`, in which entries whose bodies ended before `day` have
   -- lapsed
   pub rows_raised : state_meant day ledger after ≡ raise_horizon day (state_meant own ledger rows)
-  rows_raised =
-      (λ i. record { horizon = day; ledger = map item_meant ledger; entries = lapsed i })
-      ∙ ap (λ h. lapse_state h (state_meant own ledger rows)) (sym (max-eq_right low))
+  rows_raised = search (rules, max-eq_right)
 
   -- a valid state is still valid after its horizon is raised
   pub raised_valid : IsDay day → IsValid (state_meant own ledger rows) → IsValid (state_meant day ledger after)
-  raised_valid within valid = subst IsValid (sym rows_raised) (raised_is_valid day (state_meant own ledger rows) within valid)
+  raised_valid = search (rules, rows_raised, raised_is_valid)
 
--- if entries whose bodies ended before a horizon have already lapsed, nothing changes when entries lapse again with the same horizon or an earlier one
 pub under_own : (own day : ℕ) → day ≤ own → (rows : List (Key × Entry)) → HaveLapsed own (map row_meant rows)
     → map row_meant rows ≡ lapse_entries (max own day) (map row_meant rows)
-under_own own day low rows have =
-    sym (entries_stay own (map row_meant rows) (recursion_from_All (λ (entry : model.Key × ops.Entry). HasNotToLapse own entry.1.op) (map row_meant rows) have))
-    ∙ ap (λ h. lapse_entries h (map row_meant rows)) (sym (max-eq_left low))
+under_own = search (rules, entries_stay, recursion_from_All, max-eq_left)
 
 -- if no row has lapsed, the index is still the index of the rows, and its memory is still enough
 pub same_index : (rows after : List (Key × Entry)) → after ≡ rows → (index : Option Index) → IsIndexIfAny (map row_meant rows) index

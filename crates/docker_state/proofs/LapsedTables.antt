@@ -1,13 +1,11 @@
 -- It makes no difference whether entries lapse before or after two tables are joined.
-use Rattle.std.proofs.Common.{◌≡◌, ℕ, List, ◌++◌, map, ap, sym, ◌∙◌, subst, Contains, Bool, true, false, cond}
-use Rattle.std.specs.Prelude.{◌↔◌, nat_lt}
+use Rattle.std.proofs.Common.{◌≡◌, ℕ, List, ◌++◌, map, ap, sym, ◌∙◌, subst, Contains, rules}
+use Rattle.std.specs.Prelude.{◌↔◌}
 use Rattle.std.proofs.lemmas.List.{map-append}
 use Rattle.docker_model.specs.file.Change as model
 use Rattle.docker_model.specs.state.Order.{IsStrictlyAscending}
 use Rattle.docker_model.specs.state.Op as ops
-use Rattle.docker_model.specs.state.Op.{body_end, deleted, lapsed, put_with}
 use Rattle.docker_model.specs.state.Lapse.{lapse, lapse_entry, lapse_keyed, lapse_entries}
-use Rattle.docker_model.specs.state.State.{IsGreatestAmong}
 use Rattle.state_laws.proofs.states.KeptEntries.{lapse_ascends}
 use Rattle.state_laws.proofs.states.LapsedGreatest.{lapsed_from, greatest_lapses}
 use Rattle.cif_change.specs.declared.key.Key.{Key}
@@ -20,20 +18,12 @@ use Rattle.docker_state.proofs.TableJoin.{Keyed, by_key, higher, value_in, same_
 
 -- if the lines of an op's body are records, so are the lines of the body that remains after `lapse`
 pub lapse_records : (horizon : ℕ) (op : ops.Op) → HasRecords op → HasRecords (lapse horizon op)
-lapse_records horizon deleted good = tt
-lapse_records horizon lapsed good = tt
-lapse_records horizon (put_with body) good = by (nat_lt (body_end body) horizon)
-  where
-    by : (b : Bool) → HasRecords (cond b lapsed (put_with body))
-    by true = tt
-    by false = good
+lapse_records = search rules
 
 -- ascending rows still ascend after entries have lapsed
 pub lapsed_up : (horizon : ℕ) (rows after : List (Key × Entry)) → map row_meant after ≡ lapse_entries horizon (map row_meant rows) → AreAscending rows
     → AreAscending after
-lapsed_up horizon rows after is up =
-    meant_ascending row_meant by_key after
-    (subst (IsStrictlyAscending by_key) (sym is) (lapse_ascends horizon (map row_meant rows) (ascending_meant row_meant by_key rows up)))
+lapsed_up horizon rows after is up = meant_ascending _ _ _ (subst (IsStrictlyAscending by_key) (sym is) (lapse_ascends _ _ (ascending_meant _ _ _ up)))
 
 module _ (horizon : ℕ) (first second left right : List (Key × Entry)) (up_first : AreAscending first) (up_second : AreAscending second)
     (left_is : map row_meant left ≡ lapse_entries horizon (map row_meant first)) (right_is : map row_meant right ≡ lapse_entries horizon (map row_meant second))
@@ -62,10 +52,7 @@ module _ (horizon : ℕ) (first second left right : List (Key × Entry)) (up_fir
   -- for each entry in the join, the result of `lapse_entry horizon` is in the join of the lapsed tables
   lapse_in : (key : model.Key) (entry : ops.Entry) → Contains (map row_meant whole) (key, entry)
       → Contains (map row_meant joined) (key, lapse_entry horizon entry)
-  lapse_in key entry among =
-      greatest_joined left right joined up_left up_right joined_is records_after key (lapse_entry horizon entry)
-      (subst (λ (xs : List Keyed). IsGreatestAmong xs key (lapse_entry horizon entry)) (sym all_lapsed)
-      (greatest_lapses horizon Before key entry (joined_greatest first second whole up_first up_second whole_is key entry among)))
+  lapse_in = search (rules, greatest_joined, up_left, up_right, records_after, all_lapsed, greatest_lapses, joined_greatest)
 
   -- the join has at most one entry for each key
   one_there : (key : model.Key) (a b : ops.Entry) → Contains (map row_meant joined) (key, a) → Contains (map row_meant joined) (key, b) → a ≡ b
@@ -79,9 +66,9 @@ module _ (horizon : ℕ) (first second left right : List (Key × Entry)) (up_fir
       ↔ ((before : ops.Entry) × Contains (map row_meant whole) (key, before) × (lapse_entry horizon before ≡ entry))
   joined_lapses key entry = (
     λ among.
-        let best = joined_greatest left right joined up_left up_right joined_is key entry among in
-        let found = lapsed_from horizon Before key entry (subst (λ (xs : List Keyed). Contains xs (key, entry)) all_lapsed best.among) in
-        let top = joined_has first second whole up_first up_second whole_is key found.0 found.1 in
-        (top.0, top.1, one_there key (lapse_entry horizon top.0) entry (lapse_in key top.0 top.1) among),
-    λ told. subst (λ (e : ops.Entry). Contains (map row_meant joined) (key, e)) told.2 (lapse_in key told.0 told.1),
+        let best = joined_greatest _ _ _ up_left up_right joined_is _ _ among in
+        let found = lapsed_from _ _ _ _ (subst (λ (xs : List Keyed). Contains xs (key, entry)) all_lapsed best.among) in
+        let top = joined_has _ _ _ up_first up_second whole_is _ _ found.1 in
+        (top.0, top.1, one_there _ _ _ (lapse_in _ _ top.1) among),
+    λ told. subst (λ (e : ops.Entry). Contains (map row_meant joined) (key, e)) told.2 (lapse_in _ _ told.1),
   )

@@ -1,5 +1,5 @@
 -- Sorted rows, and the last row for each key among them.
-use Rattle.std.proofs.Common.{◌≡◌, List, [], ◌∷◌, inl, inr, ◌⊎◌, refl, ap, sym, ◌∙◌, Bool, true, false, cond, subst, Contains}
+use Rattle.std.proofs.Common.{◌≡◌, List, [], ◌∷◌, inl, inr, ◌⊎◌, refl, ap, sym, ◌∙◌, Bool, true, false, cond, subst, Contains, arith, rules}
 use Rattle.std.specs.List.{AllByRecursion}
 use Rattle.std.specs.declared.cmp.Ordering.{Ordering}
 use Rattle.std.specs.declared.cmp.Ordering.TheVariants.{Less, Equal, Greater}
@@ -31,22 +31,13 @@ LaterKey a b = (row_cmp a b ≡ Less) ⊎ ((row_cmp a b ≡ Equal) × IsAtMost e
 
 -- of two sorted rows, the later row has the greater key, or both have the same key and the later row's entry isn't less than the earlier row's
 pub later_key : (a b : Key × Entry) → IsAtMost by_entry a b → LaterKey a b
-later_key a b = by (row_cmp a b) refl
-  where
-    by : (o : Ordering) → row_cmp a b ≡ o → ¬ (ordering_then o (entry_cmp (entry_meant a.1) (entry_meant b.1)) ≡ Greater) → LaterKey a b
-    by Less is low = inl is
-    by Equal is low = inr (is, low)
-    by Greater is low = absurd (low refl)
+later_key = search rules
 
 -- if all rows have a property, so does the last row for each key
 pub lasts_all : (P : Key × Entry → Type 0) (rows : List (Key × Entry)) → AllByRecursion P rows → AllByRecursion P (last_rows rows)
 lasts_all P [] all = tt
 lasts_all P (row ∷ []) all = (all.0, tt)
-lasts_all P (row ∷ next ∷ rows) all = by (is_eq (row_cmp next row)) (lasts_all P (next ∷ rows) all.1)
-  where
-    by : (b : Bool) → AllByRecursion P (last_rows (next ∷ rows)) → AllByRecursion P (cond b (last_rows (next ∷ rows)) (row ∷ last_rows (next ∷ rows)))
-    by true rest = rest
-    by false rest = (all.0, rest)
+lasts_all P (row ∷ next ∷ rows) all = grind (arith, (lasts_all P (next ∷ rows) all.1))
 
 -- if a row of a sorted list has a lower key than the next row, it has a lower key than all rows after it
 below_all : (row next : Key × Entry) (rows : List (Key × Entry)) → row_cmp row next ≡ Less → AllByRecursion (IsAtMost by_entry next) rows
@@ -85,30 +76,19 @@ lasts_ascend (row ∷ next ∷ rows) sorted = by (row_cmp next row) refl (lasts_
 
 -- if two neighbouring rows of a sorted list have different keys, the key of the first row is the lower one
 front_below : (row next : Key × Entry) → ¬ (row_cmp next row ≡ Equal) → LaterKey row next → row_cmp row next ≡ Less
-front_below row next apart (inl below) = below
-front_below row next apart (inr same) = absurd (apart (key_total.antisymm (key_meant next.0) (key_meant row.0) ∙ ap ordering_reverse same.0))
+front_below = search (rules, key_total)
 
 -- a member of a list of one element is equal to this element
 alone : {A : Type 0} (x v : A) → Contains (x ∷ []) v → x ≡ v
-alone x v inside = by (Contains-cons x [] v inside)
-  where
-    by : (x ≡ v) ⊎ Contains [] v → x ≡ v
-    by (inl same) = same
-    by (inr none) = absurd (nil-Contains v none)
+alone = search (rules, nil-Contains)
 
 -- of two sorted rows with the same key, the later row's entry isn't less than the earlier row's
 of_one_key : (a b : Key × Entry) → IsAtMost by_entry a b → row_cmp a b ≡ Equal → IsAtMost entry_cmp (entry_meant a.1) (entry_meant b.1)
-of_one_key a b low tied = by (later_key a b low)
-  where
-    by : LaterKey a b → IsAtMost entry_cmp (entry_meant a.1) (entry_meant b.1)
-    by (inl less) = absurd (let bad : Less ≡ Equal = sym less ∙ tied in cc)
-    by (inr same) = same.1
+of_one_key = search (rules, later_key)
 
 -- each row of `last_rows rows` is one of the rows
 pub lasts_among : (rows : List (Key × Entry)) (z : Key × Entry) → Contains (last_rows rows) z → Contains rows z
-lasts_among rows z last =
-    below_by_recursion (Contains rows) (last_rows rows) z
-    (lasts_all (Contains rows) rows (recursion_from_All (Contains rows) rows (all_members (Contains rows) rows (λ x among. among)))) last
+lasts_among rows z last = below_by_recursion _ _ _ (lasts_all _ _ (recursion_from_All (Contains rows) rows (all_members _ _ (λ x among. among)))) last
 
 -- of all sorted rows with the same key, the last row has the greatest entry
 pub lasts_top : (rows : List (Key × Entry)) → AreSorted rows → (z : Key × Entry) → Contains (last_rows rows) z → (w : Key × Entry) → Contains rows w

@@ -1,10 +1,9 @@
 -- Lemmas on the search that finds out whether a ledger has all items of a list, apart from the
 -- items below the floor.
-use Rattle.std.proofs.Common.{◌≡◌, ◌+◌, ℕ, ◌<◌, ◌≤◌, List, map, Bool, true, length, get_or, ◌∙◌, subst, arith}
+use Rattle.std.proofs.Common.{◌≡◌, ◌+◌, ℕ, ◌<◌, ◌≤◌, List, map, Bool, true, length, get_or, subst, arith, rules}
 use Rattle.std.specs.Prelude.{Option, ◌↔◌, IsTrue}
 use Rattle.std.specs.List.{AllWithin}
 use Rattle.std.proofs.lemmas.List.{get_or_default}
-use Rattle.std.proofs.lemmas.List.Elements.{AllWithin-more}
 use Rattle.docker_model.specs.state.Stamp.{FileStamp, LedgerItem}
 use Rattle.cif_laws.proofs.lists.Membership.{Contains-map}
 use Rattle.docker_state.specs.Staging.{HasIfKept, HasKeptItems}
@@ -23,6 +22,4 @@ module _ {A : Type 0} (f : A → LedgerItem) (ledger : List LedgerItem) (floor :
   -- below the floor. Then the ledger has each of the first n + 1 items that isn't below the floor
   pub one_more_has : (at : ℕ) (item : A) → at < length items → item ≡ get_or items at item → (b : Bool) → IsTrue b ↔ HasIfKept ledger (f item) floor → b ≡ true
       → AllWithin (λ v. HasIfKept ledger (f v) floor) items 0 at → AllWithin (λ v. HasIfKept ledger (f v) floor) items 0 (at + 1)
-  one_more_has at item within is b tells has before =
-      AllWithin-more (λ v. HasIfKept ledger (f v) floor) items 0 at before
-      (λ d. subst (λ (v : A). HasIfKept ledger (f v) floor) (is ∙ get_or_default items at item d within) (tells.0 has))
+  one_more_has = search (rules, get_or_default)

@@ -1,5 +1,5 @@
 -- The walk over a state's live keys returns the live table, in ascending order of keys.
-use Rattle.std.proofs.Common.{◌≡◌, List, [], ◌∷◌, refl, ap, sym, ◌∙◌, subst, inl, inr, ◌⊎◌, Contains, Some, None}
+use Rattle.std.proofs.Common.{◌≡◌, List, [], ◌∷◌, refl, ap, sym, ◌∙◌, subst, inl, inr, ◌⊎◌, Contains, Some, arith, rules}
 use Rattle.std.specs.Prelude.{◌↔◌}
 use Rattle.std.specs.List.{AllByRecursion}
 use Rattle.std.specs.declared.cmp.Ordering.TheVariants.{Less}
@@ -64,9 +64,7 @@ to_live (first ∷ entries) key entry body is among = by (to_live entries key en
     by rest (inr inside) = before first.1.op (rest inside)
 
 put_of : (op : Op) (body : Body) → body_of op ≡ Some body → op ≡ put_with body
-put_of deleted body is = cc
-put_of lapsed body is = cc
-put_of (put_with other) body is = let same : other ≡ body = cc in ap put_with same
+put_of = search rules
 
 -- in a valid state, if an entry puts a body under a key, the body is live under the key
 pub live_put : (state : State) → IsValid state → (key : Key) (body : Body) → PutThere state.entries key body → live_table state key ≡ Some body
@@ -80,11 +78,7 @@ live_put state valid key body put = by (find_in state.entries key)
 
 -- if a body is live under a key, an entry puts the body under the key
 pub live_has : (state : State) (key : Key) (body : Body) → live_table state key ≡ Some body → PutThere state.entries key body
-live_has state key body is = by (find_in state.entries key)
-  where
-    by : Found state.entries key ⊎ NotFound state.entries key → PutThere state.entries key body
-    by (inl found) = (found.0.1, found.2, put_of found.0.1.op body (sym (live_at state key found.0 found.1) ∙ is))
-    by (inr gone) = absurd (let none : None ≡ Some body = sym (live_none state key gone.0) ∙ is in cc)
+live_has = search (rules, find_in, put_of, live_at, live_none)
 
 -- in a valid state, the walk over the entries returns a key with a body if and only if this body is live under the key
 pub live_walks : (state : State) → IsValid state → (walked : List (Key × Body)) → walked ≡ live_rows state.entries
@@ -99,13 +93,7 @@ live_walks state valid walked walked_is key body = (
 live_above : (key : Key) (entries : List (Key × Entry)) → AllByRecursion (λ (entry : Key × Entry). key_cmp key entry.0 ≡ Less) entries
     → AllByRecursion (λ (row : Key × Body). key_cmp key row.0 ≡ Less) (live_rows entries)
 live_above key [] above = tt
-live_above key (first ∷ entries) above = by first.1.op (live_above key entries above.1)
-  where
-    by : (op : Op) → AllByRecursion (λ (row : Key × Body). key_cmp key row.0 ≡ Less) (live_rows entries)
-        → AllByRecursion (λ (row : Key × Body). key_cmp key row.0 ≡ Less) (put_before first.0 op (live_rows entries))
-    by deleted rest = rest
-    by lapsed rest = rest
-    by (put_with body) rest = (above.0, rest)
+live_above key (first ∷ entries) above = grind (arith, (live_above key entries above.1))
 
 -- the walk over ascending entries returns keys in ascending order
 pub ascends : (entries : List (Key × Entry)) → AreAscending entries → AreInKeyOrder (live_rows entries)

@@ -1,25 +1,23 @@
 -- A stamp that is newer than all files in a ledger is newer than all entries from these files.
-use Rattle.std.proofs.Common.{◌≡◌, Bool, true, false, List, [], ◌∷◌, ◌++◌, map, refl, ap, sym, ◌∙◌, subst, inl, inr, ◌⊎◌, Contains}
+use Rattle.std.proofs.Common.{◌≡◌, Bool, true, List, [], ◌∷◌, ◌++◌, map, sym, ◌∙◌, subst, inl, inr, ◌⊎◌, Contains, rules}
 use Rattle.std.specs.Prelude.{Option, ◌↔◌, IsTrue}
 use Rattle.std.specs.declared.cmp.Ordering.{Ordering}
-use Rattle.std.specs.declared.cmp.Ordering.TheVariants.{Less, Equal, Greater}
+use Rattle.std.specs.declared.cmp.Ordering.TheVariants.{Less, Equal}
 use Rattle.std.specs.Ordering.{is_lt, nat_cmp, ordering_then}
 use Rattle.std.proofs.lemmas.List.{map-append}
 use Rattle.docker_model.specs.file.Change.{Key}
-use Rattle.docker_model.specs.state.Order.{bytes_cmp, IsBelow, IsAtMost, IsStrictlyAscending}
+use Rattle.docker_model.specs.state.Order.{IsBelow, IsAtMost, IsStrictlyAscending}
 use Rattle.docker_model.specs.state.Op.{Entry, op_cmp}
 use Rattle.docker_model.specs.state.Stamp.{FileStamp, LedgerItem, file_stamp_cmp, ledger_item_cmp, IsKept}
 use Rattle.state_laws.specs.Staging.{IsToStage}
 use Rattle.docker_model.specs.state.State.{State, IsValid, IsGoodEntry}
-use Rattle.cif_laws.proofs.lists.Membership.{Contains-cons, Contains-map, Contains-single, below_by_recursion, cons-Contains, cons-Contains-first, member_of}
+use Rattle.cif_laws.proofs.lists.Membership.{Contains-cons, Contains-map, below_by_recursion, cons-Contains, cons-Contains-first, member_of}
 use Rattle.cif_laws.proofs.orders.AtMost.{at_most_below, at_most_or, at_most_trans, level}
 use Rattle.cif_laws.proofs.orders.Orders.{file_stamp_total}
 
 -- of two ledger items, the lower item's stamp isn't above the higher item's stamp
 stamp_at_most : (a b : LedgerItem) → IsBelow ledger_item_cmp a b → IsAtMost file_stamp_cmp a.stamp b.stamp
-stamp_at_most a b below = λ above.
-    let bad : Greater ≡ Less =
-    sym (λ i. ordering_then (above i) (ordering_then (nat_cmp a.indicator b.indicator) (bytes_cmp a.last_reference b.last_reference))) ∙ below in cc
+stamp_at_most = search rules
 
 -- if a stamp is above the stamp of the higher of two ledger items, it is also above the stamp of
 -- the lower item
@@ -41,8 +39,7 @@ last_there (item ∷ before) last = cons-Contains item (before ++ last ∷ []) l
 -- a stamp above the stamp of a ledger's last item is above the stamps of all items
 pub above_last : (before : List LedgerItem) (last : LedgerItem) (stamp : FileStamp) → IsStrictlyAscending ledger_item_cmp (before ++ last ∷ [])
     → IsBelow file_stamp_cmp last.stamp stamp → (item : LedgerItem) → Contains (before ++ last ∷ []) item → IsBelow file_stamp_cmp item.stamp stamp
-above_last [] last stamp up low item among =
-    subst (λ (one : LedgerItem). IsBelow file_stamp_cmp one.stamp stamp) (Contains-single last item among) low
+above_last [] last stamp up low item among = search rules
 above_last (first ∷ before) last stamp up low item among =
     by (λ behind. above_last before last stamp up.1 low item behind) (Contains-cons first (before ++ last ∷ []) item among)
   where
@@ -54,19 +51,13 @@ above_last (first ∷ before) last stamp up low item among =
     by rest (inr behind) = rest behind
 
 less_is : (o : Ordering) → is_lt o ≡ true → o ≡ Less
-less_is Less told = refl
-less_is Equal told = let bad : true ≡ false = sym told in cc
-less_is Greater told = let bad : true ≡ false = sym told in cc
+less_is = search rules
 
 -- if the code finds that a stamp is above the stamp of the ledger's last item, the stamp is above the stamps of all items
 pub above_each : {A : Type 0} (meant : A → LedgerItem) (items before : List A) (last : A) (stamp file : FileStamp) (b : Bool)
     → items ≡ before ++ last ∷ [] → IsStrictlyAscending ledger_item_cmp (map meant items) → file ≡ (meant last).stamp
     → b ≡ is_lt (file_stamp_cmp file stamp) → IsTrue b → (item : LedgerItem) → Contains (map meant items) item → IsBelow file_stamp_cmp item.stamp stamp
-above_each meant items before last stamp file b are up file_is is told item among =
-    let same : map meant items ≡ map meant before ++ meant last ∷ [] = ap (map meant) are ∙ map-append meant before (last ∷ []) in
-    above_last (map meant before) (meant last) stamp (subst (IsStrictlyAscending ledger_item_cmp) same up)
-    (subst (λ (one : FileStamp). IsBelow file_stamp_cmp one stamp) file_is (less_is (file_stamp_cmp file stamp) (sym is ∙ told)))
-    item (subst (λ (all : List LedgerItem). Contains all item) same among)
+above_each = search (rules, map-append, above_last, less_is)
 
 -- suppose that an entry's file is newer than all files in the ledger of the state `own`. Then the
 -- entry has to be staged if and only if it isn't below the floor

@@ -1,5 +1,6 @@
 -- Lemmas on a join in which the second state adds nothing to the first state.
 use Rattle.std.proofs.Common.{◌≡◌, Bool, true, false, List, [], ◌∷◌, ◌++◌, map, length, refl, ap, sym, ◌∙◌, subst, inl, inr, ◌⊎◌, Contains, arith}
+use Rattle.std.proofs.lemmas.Grind.{common_steps}
 use Rattle.std.specs.Prelude.{Option, ◌↔◌, IsTrue}
 use Rattle.std.specs.Ordering.{ordering_reverse}
 use Rattle.docker_model.specs.file.Change.{Key}
@@ -30,8 +31,7 @@ below_brings_none own other valid floor below key entry among to =
 -- if there are no rows, no row has to be staged
 pub none_of_no_row : {A : Type 0} (meant : A → Key × Entry) (own : State) (floor : Option FileStamp) (rows : List A) → length rows ≡ 0
     → HasNoneToStage own floor (map meant rows)
-none_of_no_row meant own floor [] none = λ key entry among. absurd (nil-Contains (key, entry) among)
-none_of_no_row meant own floor (row ∷ rows) some = absurd (omega arith)
+none_of_no_row = grind (common_steps, arith, nil-Contains)
 
 -- if neither the first row nor any row after it has to be staged, no row has to be staged
 pub none_of_more : (own : State) (floor : Option FileStamp) (row : Key × Entry) (rows : List (Key × Entry)) → ¬ IsToStage own floor row.0 row.1
@@ -57,9 +57,8 @@ untold b fails tells holds = let bad : false ≡ true = sym fails ∙ tells.1 ho
 -- with the greater of the two horizons.
 pub covered : (own other : State) → IsValid own → IsValid other → (floor : Option FileStamp) → IsFloor (own.ledger ++ other.ledger) floor
     → HasKeptItems own.ledger other.ledger floor → HasNoneToStage own floor other.entries → IsJoin own other (raise_horizon other.horizon own)
-covered own other valid valid_too floor is_floor has none =
-    staging_joins own other floor [] own valid valid_too is_floor stages
-    (join_with_staged own other floor [] own valid.entries.1 is_floor stages (join_of_nothing_new own valid other.ledger floor is_floor has [] refl))
+covered own other valid valid_too floor is_floor has none = staging_joins own _ floor _ own valid valid_too is_floor stages
+    (join_with_staged _ other _ [] _ valid.entries.1 is_floor stages (join_of_nothing_new own valid _ floor is_floor has _ refl))
   where
     stages : IsStaged own floor other.entries []
     stages = record {

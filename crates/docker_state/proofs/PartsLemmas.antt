@@ -21,6 +21,5 @@ pub valid_with_entry : (ledger : List LedgerItem) (rows : List (Key × Entry)) (
     → (after : List (Key × Entry)) → after ≡ rows ++ (key, entry) ∷ [] → IsValid (state_meant 0 ledger after)
 valid_with_entry ledger rows state view valid key entry here of after pushed =
     subst (λ (all : List (model.Key × ops.Entry)). IsValid (record { horizon = 0; ledger = map item_meant ledger; entries = all }))
-    (sym (ap (map row_meant) pushed ∙ map-append row_meant rows ((key, entry) ∷ [])))
-    (valid_more (state_meant 0 ledger rows) (key_meant key) (entry_meant entry).stamp (entry_meant entry).op valid
-    (subst (λ (s : State). IsStampHere s (key_meant key) (entry_meant entry).stamp) (sym view) here) of (none_has_to (entry_meant entry).op))
+    (sym (ap (map row_meant) pushed ∙ map-append row_meant rows ((key, entry) ∷ []))) (valid_more _ _ _ _ valid
+    (subst (λ (s : State). IsStampHere s (key_meant key) (entry_meant entry).stamp) (sym view) here) of (none_has_to _))

@@ -1,6 +1,6 @@
 -- Rows that changes make, without numbers, and the last row for each key among them.
-use Rattle.std.proofs.Common.{◌≡◌, ℕ, suc, ◌<◌, List, [], ◌∷◌, ◌++◌, map, length, get_or}
-use Rattle.std.proofs.Common.{refl, ap, sym, ◌∙◌, subst, Contains, All, false, cond, arith}
+use Rattle.std.proofs.Common.{◌≡◌, ℕ, suc, ◌<◌, List, [], ◌∷◌, ◌++◌, map, length, get_or, rules}
+use Rattle.std.proofs.Common.{sym, subst, Contains, All, false, arith}
 use Rattle.std.specs.Prelude.{slice_get, ◌↔◌}
 use Rattle.std.specs.List.{AllByRecursion}
 use Rattle.std.specs.List.Sorted.{IsSorted, IsPermutation}
@@ -27,15 +27,12 @@ use Rattle.docker_state.proofs.GreatestRows.{by_entry_total, not_under, last_is_
 pub one_row_more : (file : FileStamp) (changes : List model.Change) (change : model.Change) (rows after : List (Key × Entry)) (row : Key × Entry)
     → after ≡ rows ++ row ∷ [] → row_meant row ≡ made_by file change → map row_meant rows ≡ map (made_by file) changes
     → map row_meant after ≡ map (made_by file) (changes ++ change ∷ [])
-one_row_more file changes change rows after row pushed same before =
-    ap (map row_meant) pushed ∙ map-append row_meant rows (row ∷ []) ∙ (λ i. before i ++ same i ∷ []) ∙ sym (map-append (made_by file) changes (change ∷ []))
+one_row_more = search (rules, map-append)
 
 -- suppose that the first two rows have different keys, and that each row after the first is the last row for its key. Then each row is the last row for its key
 pub one_apart_more : (row : Key × Entry) (behind : List (Key × Entry)) → is_of_key (slice_get behind 0) (key_meant row.0) ≡ false
     → last_rows behind ≡ behind → last_rows (row ∷ behind) ≡ row ∷ behind
-one_apart_more row [] apart rest = refl
-one_apart_more row (next ∷ rows) apart rest =
-    (λ i. cond (apart i) (last_rows (next ∷ rows)) (row ∷ last_rows (next ∷ rows))) ∙ ap (λ (xs : List (Key × Entry)). row ∷ xs) rest
+one_apart_more = search rules
 
 all_at : (P : Key × Entry → Type 0) (xs : List (Key × Entry)) → ((j : ℕ) (d : Key × Entry) → j < length xs → P (get_or xs j d)) → AllByRecursion P xs
 all_at P [] each = tt
@@ -45,7 +42,7 @@ from_far : (xs : List (Key × Entry)) → ((i j : ℕ) (d : Key × Entry) → i 
     → AreSorted xs
 from_far [] far = tt
 from_far (x ∷ xs) far = (
-  all_at (IsAtMost by_entry x) xs (λ j d within. not_under x (get_or xs j d) (far 0 (suc j) d (omega arith) (omega arith))),
+  all_at (IsAtMost by_entry x) _ (λ j d within. not_under x _ (far 0 (suc j) d (omega arith) (omega arith))),
   from_far xs (λ i j d before within. far (suc i) (suc j) d (omega arith) (omega arith)),
 )
 
@@ -69,11 +66,10 @@ module _ (old new out : List (Key × Entry)) (sorted : IsSorted by_entry new) (m
   pub lasts_are_greatest : All (λ (row : Key × Entry). HasRecords (op_meant row.1.op)) old → (key : model.Key) (entry : ops.Entry)
       → Contains (map row_meant out) (key, entry) ↔ IsGreatestAmong (map row_meant old) key entry
   lasts_are_greatest have key entry = (
-    λ among. along (map row_meant new) (map row_meant old) from to key entry
-        (last_is_greatest new (rows_sorted new sorted) records key entry
+    λ among. along _ _ from to _ _ (last_is_greatest _ (rows_sorted _ sorted) records _ _
         (subst (λ (rows : List (Key × Entry)). Contains (map row_meant rows) (key, entry)) last among)),
     λ best. subst (λ (rows : List (Key × Entry)). Contains (map row_meant rows) (key, entry)) (sym last)
-        (greatest_is_last new (rows_sorted new sorted) records key entry (along (map row_meant old) (map row_meant new) to from key entry best)),
+        (greatest_is_last _ (rows_sorted _ sorted) records _ _ (along _ _ to from _ _ best)),
   )
     where
       meant : IsPermutation (map row_meant old) (map row_meant new)
@@ -87,6 +83,5 @@ module _ (old new out : List (Key × Entry)) (sorted : IsSorted by_entry new) (m
           Contains-permutation (map row_meant new) (map row_meant old) pair (IsPermutation-sym (map row_meant old) (map row_meant new) meant) among
 
       records : (row : Key × Entry) → Contains new row → HasRecords (op_meant row.1.op)
-      records row among =
-          All-contains (λ (r : Key × Entry). HasRecords (op_meant r.1.op)) old row have
+      records row among = All-contains (λ (r : Key × Entry). HasRecords (op_meant r.1.op)) old row have
           (Contains-permutation new old row (IsPermutation-sym old new moved) among)

@@ -1,16 +1,15 @@
 -- The join of two states, made from the union of their ledgers and the join of their rows.
-use Rattle.std.proofs.Common.{◌≡◌, ℕ, List, ◌++◌, map, ap, sym, ◌∙◌, subst, inl, inr, ◌⊎◌, Contains}
+use Rattle.std.proofs.Common.{◌≡◌, ℕ, List, ◌++◌, map, ap, sym, ◌∙◌, subst, Contains, arith, rules}
+use Rattle.std.proofs.lemmas.Grind.{common_steps}
 use Rattle.std.specs.Prelude.{Option, ◌↔◌, max}
 use Rattle.std.proofs.Math.Nat.{max_comm}
-use Rattle.std.proofs.lemmas.List.Elements.{All-contains, Contains-append_cases}
 use Rattle.docker_model.specs.file.Change as model
-use Rattle.docker_model.specs.file.Change.{tiploc_key, association_key, schedule_key, tiploc_body, association_body, schedule_body}
 use Rattle.docker_model.specs.state.Stamp as stamps
 use Rattle.docker_model.specs.state.Stamp.{ledger_item_cmp, IsFloor, IsKept}
 use Rattle.docker_model.specs.state.Op as ops
-use Rattle.docker_model.specs.state.Op.{key_cmp, deleted, lapsed, put_with}
+use Rattle.docker_model.specs.state.Op.{key_cmp}
 use Rattle.docker_model.specs.state.Order.{IsStrictlyAscending}
-use Rattle.docker_model.specs.state.State.{IsValid, IsGoodEntry, IsOpOf, IsJoin}
+use Rattle.docker_model.specs.state.State.{IsValid, IsOpOf, IsJoin}
 use Rattle.docker_model.specs.state.Lapse.{lapse_entry, lapse_entries}
 use Rattle.docker_join.specs.declared.entry.Entry.{Entry}
 use Rattle.docker_join.specs.Records.{HasRecords}
@@ -36,26 +35,12 @@ HasKeptRows rows joined floor =
 
 -- if a put's body belongs under its key, the lines of the body are records
 pub op_records : (key : model.Key) (op : ops.Op) → IsOpOf key op → HasRecords op
-op_records key deleted good = tt
-op_records key lapsed good = tt
-op_records (tiploc_key code) (put_with (tiploc_body bytes)) good = tt
-op_records (tiploc_key code) (put_with (association_body line)) good = absurd good
-op_records (tiploc_key code) (put_with (schedule_body lines)) good = absurd good
-op_records (association_key key) (put_with (tiploc_body bytes)) good = absurd good
-op_records (association_key key) (put_with (association_body line)) good = good.is_record
-op_records (association_key key) (put_with (schedule_body lines)) good = absurd good
-op_records (schedule_key key) (put_with (tiploc_body bytes)) good = absurd good
-op_records (schedule_key key) (put_with (association_body line)) good = absurd good
-op_records (schedule_key key) (put_with (schedule_body lines)) good = good.schedule.records
+op_records = search rules
 
 module _ (g h : ℕ) (items others : List LedgerItem) (first second : List (Key × Entry)) (one : IsValid (state_meant g items first))
     (two : IsValid (state_meant h others second)) where
   entry_records : (pair : model.Key × ops.Entry) → Contains (map row_meant first ++ map row_meant second) pair → HasRecords pair.1.op
-  entry_records pair among = by (Contains-append_cases (map row_meant first) (map row_meant second) pair among)
-    where
-      by : Contains (map row_meant first) pair ⊎ Contains (map row_meant second) pair → HasRecords pair.1.op
-      by (inl inside) = op_records pair.0 pair.1.op (All-contains (IsGoodEntry (map item_meant items)) (map row_meant first) pair one.entries.0 inside).op
-      by (inr inside) = op_records pair.0 pair.1.op (All-contains (IsGoodEntry (map item_meant others)) (map row_meant second) pair two.entries.0 inside).op
+  entry_records = grind (common_steps, arith, op_records)
 
   up_first : AreAscending first
   up_first = meant_ascending row_meant (λ (a b : model.Key × ops.Entry). key_cmp a.0 b.0) first one.entries.1
@@ -85,19 +70,19 @@ module _ (g h : ℕ) (items others : List LedgerItem) (first second : List (Key 
       λ among. let told = (in_ledger item).0 among in ((in_union item).0 told.0, told.1),
       λ told. (in_ledger item).1 ((in_union item).1 told.0, told.1),
     );
-    entries_ascend = ascending_meant row_meant (λ (a b : model.Key × ops.Entry). key_cmp a.0 b.0) rows up_rows;
+    entries_ascend = ascending_meant _ _ _ up_rows;
     entries = λ key entry. (
       λ among.
           let kept = (row_in (key, entry)).0 among in
           let from = (lapses key entry).0 kept.0 in (
             from.0,
-            joined_greatest first second whole up_first up_second whole_is key from.0 from.1,
+            joined_greatest _ _ _ up_first up_second whole_is _ _ from.1,
             subst (λ (e : ops.Entry). IsKept floor e.stamp.file) (sym from.2) kept.1,
             under from.0 ∙ from.2,
           ),
       λ told.
           let same = sym (under told.0) ∙ told.3 in
-          let best = greatest_joined first second whole up_first up_second whole_is entry_records key told.0 told.1 in
+          let best = greatest_joined _ _ _ up_first up_second whole_is entry_records _ _ told.1 in
           (row_in (key, entry)).1 ((lapses key entry).1 (told.0, best, same), subst (λ (e : ops.Entry). IsKept floor e.stamp.file) same told.2),
     );
   }
@@ -106,13 +91,12 @@ module _ (g h : ℕ) (items others : List LedgerItem) (first second : List (Key 
       whole = walk higher first second
 
       whole_is : IsJoinOfRows higher first second whole
-      whole_is = walk_joins higher first second up_first up_second
+      whole_is = walk_joins _ _ _ up_first up_second
 
       under : (entry : ops.Entry) → lapse_entry horizon entry ≡ lapse_entry (max g h) entry
       under entry = ap (λ n. lapse_entry n entry) horizon_is
 
       lapses : (key : model.Key) (entry : ops.Entry) → Contains (map row_meant joined) (key, entry)
           ↔ ((before : ops.Entry) × Contains (map row_meant whole) (key, before) × (lapse_entry (max g h) before ≡ entry))
-      lapses =
-          joined_lapses (max g h) first second left right up_first up_second left_is
-          (right_is ∙ ap (λ n. lapse_entries n (map row_meant second)) (max_comm h g)) entry_records whole joined whole_is is
+      lapses = joined_lapses _ _ _ _ _ up_first up_second left_is
+          (right_is ∙ ap (λ n. lapse_entries n (map row_meant second)) (max_comm h g)) entry_records _ _ whole_is is

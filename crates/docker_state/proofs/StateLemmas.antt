@@ -1,19 +1,15 @@
 -- Lemmas on converting the fields of a state from the code's types to the definitions' types.
-use Rattle.std.proofs.Common.{◌≡◌, ℕ, List, [], ◌∷◌, map, refl, ap, sym, ◌∙◌, subst, Bool, true, false, cond, Some, None, arith}
-use Rattle.std.specs.Prelude.{Option, find, option_and_then, ◌==◌}
+use Rattle.std.proofs.Common.{◌≡◌, ℕ, List, [], ◌∷◌, map, refl, ap, sym, ◌∙◌, subst, Some, None, arith}
+use Rattle.std.specs.Prelude.{Option, find, ◌==◌}
 use Rattle.std.specs.Option.{option_map}
-use Rattle.std.specs.Ordering.{is_eq}
 use Rattle.docker_model.specs.file.Change as model
 use Rattle.docker_model.specs.state.Stamp.{FileStamp, LedgerItem, IsFloor}
-use Rattle.docker_model.specs.state.Op as ops
-use Rattle.docker_model.specs.state.Op.{key_cmp}
 use Rattle.docker_model.specs.state.State.{IsLedger, entry_at}
 use Rattle.state_laws.proofs.joins.JoinValid.{floor_is_first_full}
 use Rattle.state_laws.proofs.texts.StateGrown.{valid_without}
-use Rattle.cif_change.specs.Meaning.{key_meant}
 use Rattle.cif_change.specs.declared.key.Key.{Key}
 use Rattle.docker_join.specs.declared.entry.Entry.{Entry}
-use Rattle.docker_join.specs.Meaning.{entry_meant, row_meant}
+use Rattle.docker_join.specs.Meaning.{entry_meant}
 use Rattle.docker_join.specs.Rows.{value_at}
 use Rattle.docker_state.specs.declared.item.LedgerItem as item
 use Rattle.docker_state.specs.Meaning.{item_meant, state_meant}
@@ -22,40 +18,22 @@ use Rattle.docker_state.specs.Meaning.{item_meant, state_meant}
 pub entry_of_rows : (horizon : ℕ) (ledger : List item.LedgerItem) (rows : List (Key × Entry)) (key : model.Key)
     → option_map entry_meant (value_at rows key) ≡ entry_at (state_meant horizon ledger rows) key
 entry_of_rows horizon ledger [] key = refl
-entry_of_rows horizon ledger (row ∷ rows) key = by (is_eq (key_cmp (key_meant row.0) key)) (entry_of_rows horizon ledger rows key)
-  where
-    by : (b : Bool) → option_map entry_meant (value_at rows key) ≡ entry_at (state_meant horizon ledger rows) key
-        → option_map entry_meant
-        (option_map (λ (r : Key × Entry). r.1) (cond b (Some row) (find (λ (r : Key × Entry). is_eq (key_cmp (key_meant r.0) key)) rows)))
-        ≡ option_and_then (λ (entry : model.Key × ops.Entry). Some entry.1)
-        (cond b (Some (row_meant row)) (find (λ (entry : model.Key × ops.Entry). is_eq (key_cmp entry.0 key)) (map row_meant rows)))
-    by true same = refl
-    by false same = same
+entry_of_rows horizon ledger (row ∷ rows) key = grind (arith, (entry_of_rows horizon ledger rows key))
 
 -- searching for the first full extract commutes with converting the items to the definitions' type
 pub find_meant : (items : List item.LedgerItem)
     → find (λ (i : LedgerItem). i.indicator == 70) (map item_meant items) ≡ option_map item_meant
     (find (λ (i : item.LedgerItem). (item_meant i).indicator == 70) items)
 find_meant [] = refl
-find_meant (head ∷ items) = by ((item_meant head).indicator == 70) (find_meant items)
-  where
-    by : (b : Bool) → find (λ (i : LedgerItem). i.indicator == 70) (map item_meant items) ≡ option_map item_meant
-        (find (λ (i : item.LedgerItem). (item_meant i).indicator == 70) items)
-        → cond b (Some (item_meant head)) (find (λ (i : LedgerItem). i.indicator == 70) (map item_meant items))
-        ≡ option_map item_meant (cond b (Some head) (find (λ (i : item.LedgerItem). (item_meant i).indicator == 70) items))
-    by true same = refl
-    by false same = same
+find_meant (head ∷ items) = grind (arith, (find_meant items))
 
 -- the floor of a ledger is the stamp of its first full extract
 pub floor_found : (items : List item.LedgerItem) → IsLedger (map item_meant items)
     → (found : Option item.LedgerItem) → found ≡ find (λ (i : item.LedgerItem). (item_meant i).indicator == 70) items
     → (floor : Option FileStamp) → floor ≡ option_map (λ (i : item.LedgerItem). (item_meant i).stamp) found → IsFloor (map item_meant items) floor
-floor_found items good found is floor floor_is =
-    subst (IsFloor (map item_meant items))
-    (ap (option_map (λ (i : LedgerItem). i.stamp)) (find_meant items)
+floor_found items good found is floor floor_is = subst (IsFloor (map item_meant items)) (ap (option_map (λ (i : LedgerItem). i.stamp)) (find_meant items)
     ∙ composed (find (λ (i : item.LedgerItem). (item_meant i).indicator == 70) items)
-    ∙ ap (option_map (λ (i : item.LedgerItem). (item_meant i).stamp)) (sym is) ∙ sym floor_is)
-    (floor_is_first_full (state_meant 0 items []) (valid_without 0 (map item_meant items) (omega arith) good))
+    ∙ ap (option_map (λ (i : item.LedgerItem). (item_meant i).stamp)) (sym is) ∙ sym floor_is) (floor_is_first_full _ (valid_without 0 _ (omega arith) good))
   where
     composed : (o : Option item.LedgerItem)
         → option_map (λ (i : LedgerItem). i.stamp) (option_map item_meant o) ≡ option_map (λ (i : item.LedgerItem). (item_meant i).stamp) o

@@ -162,20 +162,19 @@ module _ (first second joined : List (Key × Entry)) (up_first : AreAscending fi
     where
       at : (e : Entry) → entry_meant e ≡ entry → (m : Entry) → value_at joined key ≡ Some m → Contains (map row_meant joined) (key, entry)
       at e e_is m m_is =
-          let inside : Contains (map row_meant joined) (key, entry_meant m) = in_rows joined key m m_is in
-          let top : IsGreatestAmong Both key (entry_meant m) = joined_greatest key (entry_meant m) inside in
-          let tied = level entry_total (entry_meant m) entry (best.greatest (entry_meant m) top.among) (top.greatest entry best.among) in
-          let same : m ≡ e = exact_entry m e (records (key, entry_meant m) top.among)
-          (subst (λ (v : ops.Entry). HasRecords v.op) (sym e_is) (records (key, entry) best.among))
-          (ap (entry_cmp (entry_meant m)) e_is ∙ tied) in
+          let inside : Contains (map row_meant joined) (key, entry_meant m) = in_rows _ key _ m_is in
+          let top : IsGreatestAmong Both key (entry_meant m) = joined_greatest key _ inside in
+          let tied = level entry_total (entry_meant m) _ (best.greatest (entry_meant m) top.among) (top.greatest entry best.among) in
+          let same : m ≡ e = exact_entry m _ (records (key, entry_meant m) top.among)
+          (subst (λ (v : ops.Entry). HasRecords v.op) (sym e_is) (records (key, entry) best.among)) (ap (entry_cmp (entry_meant m)) e_is ∙ tied) in
           subst (λ v. Contains (map row_meant joined) (key, v)) (ap entry_meant same ∙ e_is) inside
 
       by : Contains (map row_meant first) (key, entry) ⊎ Contains (map row_meant second) (key, entry) → Contains (map row_meant joined) (key, entry)
       by (inl inside) =
-          let e = value_in first up_first key entry inside in
-          let m = some_left e.0 (value_at second key) in
+          let e = value_in first up_first _ entry inside in
+          let m = some_left _ (value_at second key) in
           at e.0 e.2 m.0 (is.values key ∙ (λ i. picked_value higher (e.1 i) (value_at second key)) ∙ m.1)
       by (inr inside) =
-          let e = value_in second up_second key entry inside in
-          let m = some_right (value_at first key) e.0 in
+          let e = value_in _ up_second key _ inside in
+          let m = some_right (value_at first key) _ in
           at e.0 e.2 m.0 (is.values key ∙ (λ i. picked_value higher (value_at first key) (e.1 i)) ∙ m.1)

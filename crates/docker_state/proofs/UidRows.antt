@@ -1,7 +1,7 @@
 -- The rows of a UID's schedules are next to each other. The live rows among them are the UID's live
 -- schedules.
-use Rattle.std.proofs.Common.{◌≡◌, ℕ, zero, suc, ◌-◌, ◌<◌, ◌≤◌, List, [], ◌∷◌, ◌++◌, map, take, drop, length, get_or}
-use Rattle.std.proofs.Common.{refl, ap, sym, ◌∙◌, subst, inl, inr, ◌⊎◌, Bool, true, false, not, cond, nat_lt, Contains, Some, None, arith}
+use Rattle.std.proofs.Common.{◌≡◌, ℕ, zero, suc, ◌-◌, ◌<◌, ◌≤◌, List, [], ◌∷◌, ◌++◌, map, take, drop, length, get_or, rules}
+use Rattle.std.proofs.Common.{refl, ap, sym, ◌∙◌, subst, inl, inr, ◌⊎◌, Bool, true, false, not, nat_lt, Contains, Some, None, arith}
 use Rattle.std.specs.List.{AllByRecursion, AllPairs, position, position_or_len}
 use Rattle.std.specs.List.Sorted.{IsPartitionedBy, IsPartitionPoint}
 use Rattle.std.specs.declared.cmp.Ordering.{Ordering}
@@ -15,7 +15,7 @@ use Rattle.std.proofs.lemmas.List.Sums.{fails_before_first, passes_at_first, pre
 use Rattle.std.proofs.lemmas.List.Elements.{All-contains, Contains-append_left, Contains-append_right, Contains-append_cases}
 use Rattle.std.proofs.lemmas.Map.Lookups.{exact_bytes}
 use Rattle.docker_model.specs.file.Change as model
-use Rattle.docker_model.specs.file.Change.{tiploc_key, association_key, schedule_key, ScheduleKey, Body, tiploc_body, association_body, schedule_body}
+use Rattle.docker_model.specs.file.Change.{schedule_key, ScheduleKey, Body, tiploc_body, association_body, schedule_body}
 use Rattle.state_laws.specs.Index.{AreOfUid}
 use Rattle.docker_model.specs.state.Op as ops
 use Rattle.docker_model.specs.state.Op.{key_cmp, schedule_key_cmp, put_with}
@@ -58,22 +58,17 @@ module _ (test : Ordering → Bool) (down : GoesDown test) (least : test Less �
           ap test less ∙ least
 
   passes_below : (a b : model.Key) → key_cmp a b ≡ Less → test (to_uid b uid) ≡ true → test (to_uid a uid) ≡ true
-  passes_below (tiploc_key a) b below passes = least
-  passes_below (association_key a) b below passes = least
-  passes_below (schedule_key a) (tiploc_key b) below passes = absurd (let bad : Greater ≡ Less = below in cc)
-  passes_below (schedule_key a) (association_key b) below passes = absurd (let bad : Greater ≡ Less = below in cc)
-  passes_below (schedule_key a) (schedule_key b) below passes = schedules a b below passes
+  passes_below = search (rules, schedules)
 
   parted : (rows : List (Key × Entry)) → AreAscending rows → IsPartitionedBy (λ row. test (to_uid (key_meant row.0) uid)) rows
   parted rows up = λ i j d before within passes. by i j d passes within (cases_lt i j) before
     where
       below_at : AllPairs (IsBelow row_cmp) rows
-      below_at = pairs_from_later (IsBelow row_cmp) rows (later_of row_cmp rows up)
+      below_at = pairs_from_later _ _ (later_of _ _ up)
 
       by : (i j : ℕ) (d : Key × Entry) → test (to_uid (key_meant (get_or rows j d).0) uid) ≡ true → j < length rows → (i < j) ⊎ (j ≤ i) → i ≤ j
           → test (to_uid (key_meant (get_or rows i d).0) uid) ≡ true
-      by i j d passes within (inl strictly) before =
-          passes_below (key_meant (get_or rows i d).0) (key_meant (get_or rows j d).0) (below_at i j d strictly within) passes
+      by i j d passes within (inl strictly) before = passes_below _ _ (below_at i j d strictly within) passes
       by i j d passes within (inr after) before =
           let same : j ≡ i = omega arith in
           subst (λ k. test (to_uid (key_meant (get_or rows k d).0) uid) ≡ true) same passes
@@ -96,11 +91,7 @@ parted_up_to uid rows up = parted is_le (refl, λ same. refl) refl uid rows up
 module _ (uid : List ℕ) (rows : List (Key × Entry)) (up : AreAscending rows) (first : ℕ) (within : first < length rows)
     (here : (d : Key × Entry) → is_before uid (get_or rows first d) ≡ false) where
   rest_behind : (k : ℕ) (d : Key × Entry) → first ≤ k → k < length rows → is_before uid (get_or rows k d) ≡ false
-  rest_behind k d low high = by (is_before uid (get_or rows k d)) refl
-    where
-      by : (b : Bool) → is_before uid (get_or rows k d) ≡ b → is_before uid (get_or rows k d) ≡ false
-      by false is = is
-      by true is = absurd (let bad : true ≡ false = sym (parted_before uid rows up first k d low high is) ∙ here d in cc)
+  rest_behind = search (rules, parted_before)
 
   -- if the backward walk ends at index 0, the UID's schedules begin at index 0
   pub begins_at_front : first ≡ 0 → IsBeginning uid rows first
@@ -113,17 +104,7 @@ module _ (uid : List ℕ) (rows : List (Key × Entry)) (up : AreAscending rows) 
 -- if no row is after the UID's schedules, the index just after these schedules is the number of rows
 pub walk_of_all : (uid : List ℕ) (rows : List (Key × Entry)) → position (λ row. not (is_up_to uid row)) rows ≡ None
     → length rows ≡ position_or_len (λ row. not (is_up_to uid row)) rows
-walk_of_all uid rows none =
-    let place : ℕ = position_or_len (λ row. not (is_up_to uid row)) rows in
-    let past : length rows ≤ place = by (nat_lt place (length rows)) refl none in
-    let bound : place ≤ length rows = prefix_len-le-length (λ row. not (not (is_up_to uid row))) rows in
-    omega arith
-  where
-    by : (b : Bool) → nat_lt (position_or_len (λ row. not (is_up_to uid row)) rows) (length rows) ≡ b
-        → cond b (Some (position_or_len (λ row. not (is_up_to uid row)) rows)) None ≡ None
-        → length rows ≤ position_or_len (λ row. not (is_up_to uid row)) rows
-    by true h some = absurd cc
-    by false h some = ltb-false (position_or_len (λ row. not (is_up_to uid row)) rows) (length rows) h
+walk_of_all = search (rules, not, nat_lt, prefix_len-le-length, ltb-false)
 
 -- the index just after the UID's schedules is at most the number of rows
 pub walk_within : (uid : List ℕ) (rows : List (Key × Entry)) (end : ℕ) → end ≡ position_or_len (λ row. not (is_up_to uid row)) rows → end ≤ length rows
@@ -146,15 +127,14 @@ walk_parts uid rows end up end_is = (front, back)
     front k d low high = holds (is_up_to uid (get_or rows k d)) (fails_before_first (λ row. not (is_up_to uid row)) rows k d (subst (λ n. k < n) end_is high))
 
     first_fails : (d : Key × Entry) → end < length rows → is_up_to uid (get_or rows end d) ≡ false
-    first_fails d within =
-        subst (λ n. is_up_to uid (get_or rows n d) ≡ false) (sym end_is)
+    first_fails d within = subst (λ n. is_up_to uid (get_or rows n d) ≡ false) (sym end_is)
         (fails (is_up_to uid (get_or rows (position_or_len (λ row. not (is_up_to uid row)) rows) d))
         (passes_at_first (λ row. not (is_up_to uid row)) rows d (subst (λ n. n < length rows) end_is within)))
 
     by : (k : ℕ) (d : Key × Entry) (b : Bool) → is_up_to uid (get_or rows k d) ≡ b → end ≤ k → k < length rows → b ≡ false
     by k d false is low high = refl
     by k d true is low high =
-        absurd (let passes : is_up_to uid (get_or rows end d) ≡ true = parted_up_to uid rows up end k d low high is in
+        absurd (let passes : is_up_to uid (get_or rows end d) ≡ true = parted_up_to _ _ up end k d low high is in
         let never : is_up_to uid (get_or rows end d) ≡ false = first_fails d (omega arith) in
         let bad : true ≡ false = sym passes ∙ never in cc)
 
@@ -186,28 +166,17 @@ module _ {A : Type 0} (P : A → Type 0) where
   back_all : (xs : List A) (n : ℕ) → n ≤ length xs → ((k : ℕ) (d : A) → n ≤ k → k < length xs → P (get_or xs k d)) → (z : A) → Contains (drop n xs) z → P z
   back_all [] zero bound all z among = absurd (nil-Contains z among)
   back_all [] (suc n) bound all z among = absurd (let none : suc n ≤ 0 = bound in omega arith)
-  back_all (x ∷ xs) zero bound all z among =
-      by (back_all xs zero (omega arith) (λ k d low high. all (suc k) d (omega arith) (omega arith)) z) (Contains-cons x xs z among)
-    where
-      by : (Contains xs z → P z) → (x ≡ z) ⊎ Contains xs z → P z
-      by rest (inl same) = subst P same (all 0 x (omega arith) (omega arith))
-      by rest (inr inside) = rest inside
+  back_all (x ∷ xs) zero bound all z among = search rules
   back_all (x ∷ xs) (suc n) bound all z among = back_all xs n (omega arith) (λ k d low high. all (suc k) d (omega arith) (omega arith)) z among
 
 less_of : (o : Ordering) → is_lt o ≡ true → o ≡ Less
-less_of Less h = refl
-less_of Equal h = absurd (let bad : false ≡ true = h in cc)
-less_of Greater h = absurd (let bad : false ≡ true = h in cc)
+less_of = search rules
 
 equal_of : (o : Ordering) → is_lt o ≡ false → is_le o ≡ true → o ≡ Equal
-equal_of Less no_lt le = absurd (let bad : true ≡ false = no_lt in cc)
-equal_of Equal no_lt le = refl
-equal_of Greater no_lt le = absurd (let bad : false ≡ true = le in cc)
+equal_of = search rules
 
 greater_of : (o : Ordering) → is_le o ≡ false → o ≡ Greater
-greater_of Less h = absurd (let bad : true ≡ false = h in cc)
-greater_of Equal h = absurd (let bad : true ≡ false = h in cc)
-greater_of Greater h = refl
+greater_of = search rules
 
 -- the `m` rows from index `n` on are exactly the UID's schedules
 pub piece_is : (uid : List ℕ) (rows rest here : List (Key × Entry)) (n m : ℕ) → n ≤ length rows → rest ≡ drop n rows → m ≤ length rest → here ≡ take m rest
@@ -234,9 +203,7 @@ piece_is uid rows rest here n m bound rest_is bound_too here_is first second = r
 
 -- if `to_uid` returns `Equal` for a key and a UID, the key is the key of a schedule of this UID
 of_uid_is : (key : model.Key) (uid : List ℕ) → to_uid key uid ≡ Equal → (schedule : ScheduleKey) × (key ≡ schedule_key schedule) × (schedule.uid ≡ uid)
-of_uid_is (tiploc_key code) uid tied = absurd (let bad : Less ≡ Equal = tied in cc)
-of_uid_is (association_key key) uid tied = absurd (let bad : Less ≡ Equal = tied in cc)
-of_uid_is (schedule_key key) uid tied = (key, refl, exact_bytes key.uid uid tied)
+of_uid_is = search (rules, exact_bytes)
 
 -- a body that belongs under a schedule's key is a schedule's body
 schedule_of : (key : ScheduleKey) (body : Body) → IsOpOf (schedule_key key) (put_with body) → (lines : List (List ℕ)) × (body ≡ schedule_body lines)
@@ -259,14 +226,10 @@ part_ascends cmp (y ∷ before) piece behind up = part_ascends cmp before piece 
 module _ (state : State) (valid : IsValid state) (uid : List ℕ) (rows piece : List (Key × Entry)) (rows_are : map row_meant rows ≡ state.entries)
     (is : IsPieceOfUid uid rows piece) where
   entries_are : state.entries ≡ (map row_meant is.before ++ map row_meant piece) ++ map row_meant is.behind
-  entries_are =
-      sym rows_are ∙ ap (map row_meant) is.whole ∙ map-append row_meant (is.before ++ piece) is.behind
-      ∙ ap (λ (xs : List (model.Key × ops.Entry)). xs ++ map row_meant is.behind) (map-append row_meant is.before piece)
+  entries_are = search (rules, map-append)
 
   piece_up : AscendMeant (map row_meant piece)
-  piece_up =
-      part_ascends (λ (a b : model.Key × ops.Entry). key_cmp a.0 b.0) (map row_meant is.before) (map row_meant piece) (map row_meant is.behind)
-      (subst AscendMeant entries_are valid.entries.1)
+  piece_up = search (rules, part_ascends, entries_are)
 
   in_entries : (pair : model.Key × ops.Entry) → Contains (map row_meant piece) pair → Contains state.entries pair
   in_entries pair among =
@@ -320,9 +283,9 @@ module _ (state : State) (valid : IsValid state) (uid : List ℕ) (rows piece : 
   pub live_of_uid : (walked : List (model.Key × Body)) → walked ≡ live_rows (map row_meant piece) → AreOfUid (live_table state) uid walked
   unfolding IsLiveSchedule
   live_of_uid walked walked_is = subst (AreOfUid (live_table state) uid) (sym walked_is) (record {
-    ascending = ascends (map row_meant piece) piece_up;
+    ascending = ascends _ piece_up;
     members = λ key body. (
-      λ among. live_schedule_of key body (from_live (map row_meant piece) key body among),
-      λ made. back key body made,
+      λ among. live_schedule_of _ _ (from_live _ _ _ among),
+      λ made. back _ _ made,
     );
   })

@@ -1,5 +1,5 @@
 -- A walk over two ascending lists at once. Its output has the elements of both lists, in ascending order and without duplicates.
-use Rattle.std.proofs.Common.{◌≡◌, List, [], ◌∷◌, ◌++◌, refl, ap, sym, ◌∙◌, subst, inl, inr, ◌⊎◌, Contains, Some, None, MatchOption}
+use Rattle.std.proofs.Common.{◌≡◌, List, [], ◌∷◌, ◌++◌, refl, ap, sym, ◌∙◌, subst, inl, inr, ◌⊎◌, Contains, None, MatchOption, arith, rules}
 use Rattle.std.specs.Prelude.{◌↔◌, Option, ⊤}
 use Rattle.std.specs.Option.{option_to_list}
 use Rattle.std.specs.List.{AllByRecursion}
@@ -45,12 +45,7 @@ module _ {A : Type 0} {cmp : A → A → Ordering} (total : IsTotalOrder cmp) wh
   from_above : (low x : A) (rest : List A → List A) → cmp low x ≡ Less → ((ys : List A) → Above low ys → Above low (rest ys))
       → (ys : List A) → Above low ys → Above low (united_from cmp x rest ys)
   from_above low x rest below behind [] above = (below, behind [] tt)
-  from_above low x rest below behind (y ∷ ys) above = by (cmp x y) (from_above low x rest below behind ys above.1)
-    where
-      by : (o : Ordering) → Above low (united_from cmp x rest ys) → Above low (placed o x y (rest (y ∷ ys)) (rest ys) (united_from cmp x rest ys))
-      by Less later = (below, behind (y ∷ ys) above)
-      by Equal later = (below, behind ys above.1)
-      by Greater later = (above.0, later)
+  from_above low x rest below behind (y ∷ ys) above = grind (arith, (from_above low x rest below behind ys above.1))
 
   united_above : (low : A) (xs ys : List A) → Above low xs → Above low ys → Above low (united cmp xs ys)
   united_above low [] ys above_x above_y = above_y
@@ -79,12 +74,10 @@ module _ {A : Type 0} (cmp : A → A → Ordering) (exact : (x y : A) → cmp x 
   Either xs ys z = Contains xs z ⊎ Contains ys z
 
   first_more : (x : A) (xs ys : List A) (z : A) → Either xs ys z → Either (x ∷ xs) ys z
-  first_more x xs ys z (inl among) = inl (cons-Contains x xs z among)
-  first_more x xs ys z (inr among) = inr among
+  first_more = search (rules, cons-Contains)
 
   second_more : (y : A) (xs ys : List A) (z : A) → Either xs ys z → Either xs (y ∷ ys) z
-  second_more y xs ys z (inl among) = inl among
-  second_more y xs ys z (inr among) = inr (cons-Contains y ys z among)
+  second_more = search (rules, cons-Contains)
 
   in_first : (x : A) (xs ys tail : List A) (z : A) → (Contains tail z → Either xs ys z) → (x ≡ z) ⊎ Contains tail z → Either (x ∷ xs) ys z
   in_first x xs ys tail z rest (inl same) = inl (subst (Contains (x ∷ xs)) same (cons-Contains-first x xs))
@@ -111,28 +104,13 @@ module _ {A : Type 0} (cmp : A → A → Ordering) (exact : (x y : A) → cmp x 
 
   -- if an output has all elements of two lists, this stays true when one more element is prepended to the first list and to the output
   out_first : (x : A) (xs ys tail : List A) (z : A) → (Either xs ys z → Contains tail z) → Either (x ∷ xs) ys z → Contains (x ∷ tail) z
-  out_first x xs ys tail z rest (inr among) = cons-Contains x tail z (rest (inr among))
-  out_first x xs ys tail z rest (inl among) = by (Contains-cons x xs z among)
-    where
-      by : (x ≡ z) ⊎ Contains xs z → Contains (x ∷ tail) z
-      by (inl same) = subst (Contains (x ∷ tail)) same (cons-Contains-first x tail)
-      by (inr inside) = cons-Contains x tail z (rest (inl inside))
+  out_first = search (rules, cons-Contains, cons-Contains-first)
 
   out_second : (y : A) (xs ys tail : List A) (z : A) → (Either xs ys z → Contains tail z) → Either xs (y ∷ ys) z → Contains (y ∷ tail) z
-  out_second y xs ys tail z rest (inl among) = cons-Contains y tail z (rest (inl among))
-  out_second y xs ys tail z rest (inr among) = by (Contains-cons y ys z among)
-    where
-      by : (y ≡ z) ⊎ Contains ys z → Contains (y ∷ tail) z
-      by (inl same) = subst (Contains (y ∷ tail)) same (cons-Contains-first y tail)
-      by (inr inside) = cons-Contains y tail z (rest (inr inside))
+  out_second = search (rules, cons-Contains, cons-Contains-first)
 
   out_both : (x y : A) (xs ys tail : List A) (z : A) → x ≡ y → (Either xs ys z → Contains tail z) → Either (x ∷ xs) (y ∷ ys) z → Contains (x ∷ tail) z
-  out_both x y xs ys tail z level rest (inl among) = out_first x xs ys tail z rest (inl among)
-  out_both x y xs ys tail z level rest (inr among) = by (Contains-cons y ys z among)
-    where
-      by : (y ≡ z) ⊎ Contains ys z → Contains (x ∷ tail) z
-      by (inl same) = subst (Contains (x ∷ tail)) (level ∙ same) (cons-Contains-first x tail)
-      by (inr inside) = cons-Contains x tail z (rest (inr inside))
+  out_both = search (rules, out_first, cons-Contains-first, cons-Contains)
 
   from_forth : (x : A) (xs : List A) (rest : List A → List A) → ((ys : List A) (z : A) → Either xs ys z → Contains (rest ys) z)
       → (ys : List A) (z : A) → Either (x ∷ xs) ys z → Contains (united_from cmp x rest ys) z
@@ -152,8 +130,7 @@ module _ {A : Type 0} (cmp : A → A → Ordering) (exact : (x y : A) → cmp x 
 
 -- if the walk finds no next element in a list, no element of the list remains
 pub none_left : {A : Type 0} (hand : Option A) (rest : List A) → hand ≡ None → MatchOption hand (rest ≡ []) (λ _. ⊤) → option_to_list hand ++ rest ≡ []
-none_left None rest is done = done
-none_left (Some x) rest is done = cc
+none_left = search rules
 
 -- when no element remains in either list, the output is the walk over both lists
 pub all_out : {A : Type 0} (cmp : A → A → Ordering) (out left right first second : List A) → left ≡ [] → right ≡ []

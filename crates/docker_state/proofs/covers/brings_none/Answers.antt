@@ -8,8 +8,7 @@ use Rattle.docker_state.proofs.NothingToStage.{below_brings_none}
 use Rattle.docker_state.proofs.covers.brings_none.Goals as goal
 
 pub returns-then-are_below : goal.returns-then-are_below
-returns-then-are_below c = λ told.
-    below_brings_none c.args.own.now c.args.other.now c.ledger.ensures.valid (floor_meant c.args.floor.now)
+returns-then-are_below c = λ told. below_brings_none _ _ c.ledger.ensures.valid _
     (λ item among. c.are_below.ensures told item (subst (λ (items : List LedgerItem). Contains items item) (sym c.ledger.ensures.items) among))
 
 pub returns-else-are_below : goal.returns-else-are_below

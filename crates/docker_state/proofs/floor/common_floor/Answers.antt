@@ -10,21 +10,15 @@ use Rattle.docker_state.proofs.Floors.{neither_full, left_full, right_full, both
 use Rattle.docker_state.proofs.floor.common_floor.Goals as goal
 
 pub returns-in-None-None : goal.returns-in-None-None
-returns-in-None-None c = λ left right one other.
-    neither_full left right
-    (subst (λ f. IsFloor left (option_map file_stamp_meant f)) c.in-None-None.is-0 one)
+returns-in-None-None c = λ left right one other. neither_full _ _ (subst (λ f. IsFloor left (option_map file_stamp_meant f)) c.in-None-None.is-0 one)
     (subst (λ f. IsFloor right (option_map file_stamp_meant f)) c.in-None-None.is-1 other)
 
 pub returns-in-Some-None : goal.returns-in-Some-None
-returns-in-Some-None c = λ left right one other.
-    left_full left right (file_stamp_meant c.in-Some-None.one)
-    (subst (λ f. IsFloor left (option_map file_stamp_meant f)) c.in-Some-None.is-0 one)
+returns-in-Some-None c = λ left right one other. left_full _ _ _ (subst (λ f. IsFloor left (option_map file_stamp_meant f)) c.in-Some-None.is-0 one)
     (subst (λ f. IsFloor right (option_map file_stamp_meant f)) c.in-Some-None.is-1 other)
 
 pub returns-in-None-Some : goal.returns-in-None-Some
-returns-in-None-Some c = λ left right one other.
-    right_full left right (file_stamp_meant c.in-None-Some.other)
-    (subst (λ f. IsFloor left (option_map file_stamp_meant f)) c.in-None-Some.is-0 one)
+returns-in-None-Some c = λ left right one other. right_full _ _ _ (subst (λ f. IsFloor left (option_map file_stamp_meant f)) c.in-None-Some.is-0 one)
     (subst (λ f. IsFloor right (option_map file_stamp_meant f)) c.in-None-Some.is-1 other)
 
 pub returns-in-Some-Some : goal.returns-in-Some-Some

@@ -11,6 +11,5 @@ loop-item-preserved c =
 
 pub returns : goal.returns
 returns c =
-    let all = has_all item_meant (map item_meant c.args.ledger.now)
-    (floor_meant c.args.floor.now) c.args.items.now c.loop-item.item-index c.loop-item-test.false c.loop-item.invariant in
+    let all = has_all _ _ _ _ _ c.loop-item-test.false c.loop-item.invariant in
     (λ _. all, λ _. λ i. true)

@@ -19,10 +19,6 @@ returns-clause-ascending c =
     c.requires
 
 pub returns-clause-members : goal.returns-clause-members
-returns-clause-members c =
-    kept_members item_meant ledger_item_cmp (option_map file_stamp_meant c.args.floor.now)
-    (λ (item : model.LedgerItem). item.stamp) c.args.items.items c.retain.new.self.items
-    (kept_by _ (λ (item : LedgerItem). keeps (option_map file_stamp_meant c.args.floor.now) (item_meant item).stamp) _
+returns-clause-members c = kept_members _ ledger_item_cmp _ _ _ _ (kept_by _ _ _
     (λ x b q h. let k = h.called in let shows = h.shows in
-    (says_kept (option_map file_stamp_meant c.args.floor.now) (item_meant x).stamp b (rw (← shows) (search rules)), search rules))
-    c.args.items.items c.retain.new.self.items c.retain.ensures.filtered)
+    (says_kept _ _ _ (rw (← shows) (search rules)), search rules)) _ _ c.retain.ensures.filtered)

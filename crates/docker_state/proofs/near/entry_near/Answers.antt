@@ -12,23 +12,17 @@ pub returns-then-eq : goal.returns-then-eq
 returns-then-eq c =
     let found = c.in-Some.ensures.lookup.3 in
     let tied = (Equal-is (key_cmp (key_meant c.in-Some.row.now.0) (key_meant c.args.key.now))).0 (sym c.eq.ensures ∙ c.if-eq.true) in
-    row_found c.args.rows.now (key_meant c.args.key.now) c.args.near.now c.in-Some.row.now c.requires found.0 (found.1 c.in-Some.row.now)
-    (λ d. ap (by_key (key_meant c.args.key.now)) (sym (found.1 d)) ∙ tied)
+    row_found _ _ _ _ c.requires found.0 (found.1 c.in-Some.row.now) (λ d. ap (by_key (key_meant c.args.key.now)) (sym (found.1 d)) ∙ tied)
 
 pub returns-then-is_above_before : goal.returns-then-is_above_before
-returns-then-is_above_before c =
-    row_missing c.args.rows.now (key_meant c.args.key.now) c.args.near.now c.requires
-    (parts_at_gap c.args.rows.now (key_meant c.args.key.now) c.args.near.now c.requires (c.is_below_at.ensures c.if-is_below_at.true)
+returns-then-is_above_before c = row_missing _ _ _ c.requires (parts_at_gap _ _ _ c.requires (c.is_below_at.ensures c.if-is_below_at.true)
     (c.is_above_before.ensures c.if-is_above_before.true))
 
 pub returns-in-Ok : goal.returns-in-Ok
-returns-in-Ok c =
-    row_found c.args.rows.now (key_meant c.args.key.now) c.in-Ok.at _ c.requires c.in-Ok.ensures.bound
+returns-in-Ok c = row_found _ _ _ _ c.requires c.in-Ok.ensures.bound
     (get_or_default c.args.rows.now c.in-Ok.at c.index-rows-at.result _ c.in-Ok.ensures.bound)
     (λ d. c.in-Ok.ensures.position (by_key (key_meant c.args.key.now)) (always_returns_same _ _ _ (λ a r f h. search rules)) d)
 
 pub returns-in-Err : goal.returns-in-Err
-returns-in-Err c =
-    row_missing c.args.rows.now (key_meant c.args.key.now) c.in-Err.at c.requires
-    (c.in-Err.ensures.position (by_key (key_meant c.args.key.now)) (always_returns_same _ _ _ (λ a r f h. search rules))
-    (rows_rise c.args.rows.now (key_meant c.args.key.now) c.requires))
+returns-in-Err c = row_missing _ _ _ c.requires
+    (c.in-Err.ensures.position (by_key (key_meant c.args.key.now)) (always_returns_same _ _ _ (λ a r f h. search rules)) (rows_rise _ _ c.requires))

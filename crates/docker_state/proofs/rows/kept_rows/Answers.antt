@@ -19,9 +19,6 @@ returns-clause-ascending c =
     (ascending_meant row_meant by_key c.args.rows.items c.requires))
 
 pub returns-clause-members : goal.returns-clause-members
-returns-clause-members c =
-    kept_members row_meant by_key (option_map file_stamp_meant c.args.floor.now) file_of c.args.rows.items c.retain.new.self.items
-    (kept_by _ (λ (row : Key × Entry). keeps (option_map file_stamp_meant c.args.floor.now) (row_meant row).1.stamp.file) _
+returns-clause-members c = kept_members _ by_key _ _ _ _ (kept_by _ _ _
     (λ x b q h. let k = h.called in let shows = h.shows in
-    (says_kept (option_map file_stamp_meant c.args.floor.now) (row_meant x).1.stamp.file b (rw (← shows) (search rules)), search rules))
-    c.args.rows.items c.retain.new.self.items c.retain.ensures.filtered)
+    (says_kept _ _ _ (rw (← shows) (search rules)), search rules)) _ _ c.retain.ensures.filtered)

@@ -10,9 +10,8 @@ use Rattle.docker_state.proofs.rows.rows_made.Goals as goal
 pub loop-change-preserved : goal.loop-change-preserved
 loop-change-preserved c = record {
   made = subst (λ (all : List model.Change). map row_meant c.push_reserved.new.self.items ≡ map (made_by (file_stamp_meant c.args.file.now)) all)
-      (sym (map-append change_meant c.loop-change.yielded (c.in-Some.change ∷ [])))
-      (one_row_more (file_stamp_meant c.args.file.now) (map change_meant c.loop-change.yielded) (change_meant c.in-Some.change) c.loop-change.rows.items
-      c.push_reserved.new.self.items c.row_of-row.result c.push_reserved.ensures.items c.row_of-row.ensures c.loop-change.invariant.made);
+      (sym (map-append change_meant c.loop-change.yielded (c.in-Some.change ∷ []))) (one_row_more _ _ _ _
+      _ _ c.push_reserved.ensures.items c.row_of-row.ensures c.loop-change.invariant.made);
   len = (
       let more = length-append c.loop-change.yielded (c.in-Some.change ∷ []) in
       let before = c.loop-change.invariant.len in

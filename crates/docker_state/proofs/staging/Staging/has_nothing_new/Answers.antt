@@ -8,8 +8,7 @@ use Rattle.docker_state.proofs.StagingLemmas.{nothing_new_tells}
 use Rattle.docker_state.proofs.staging.Staging.has_nothing_new.Goals as goal
 
 pub returns-then-is_empty : goal.returns-then-is_empty
-returns-then-is_empty c =
-    nothing_new_tells (map item_meant c.args.ledger.now) c.args.self.now c.is_empty.result c.is_empty.ensures c.if-is_empty.true c.has_kept_items.result
+returns-then-is_empty c = nothing_new_tells _ _ _ c.is_empty.ensures c.if-is_empty.true _
     (subst (λ (s : Staging). IsTrue c.has_kept_items.result ↔ HasKeptItems (map item_meant c.args.ledger.now) s.items s.floor) c.self.view_is
     (subst (λ (items : List LedgerItem).
     IsTrue c.has_kept_items.result ↔ HasKeptItems (map item_meant c.args.ledger.now) (map item_meant items) (floor_meant c.self.inside.floor))

@@ -24,8 +24,6 @@ returns-in-Some c =
     (subst (IsIndexIfAny (map row_meant c.self.inside.entries)) c.in-Some.is c.self.invariant.indexed))
 
 pub returns-in-None : goal.returns-in-None
-returns-in-None c =
-    calls_counted c.args.self.now (subst IsValid c.self.view_is c.self.invariant.valid) c.args.tiploc.now c.count_calls.result
-    (c.count_calls.ensures
+returns-in-None c = calls_counted _ (subst IsValid c.self.view_is c.self.invariant.valid) _ _ (c.count_calls.ensures
     ∙ ap (λ rows. length (rows_here false c.args.tiploc.now rows))
     (ap (map row_meant) c.as_slice.ensures.rows ∙ ap (λ (s : State). s.entries) c.self.view_is))

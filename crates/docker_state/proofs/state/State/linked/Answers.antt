@@ -13,8 +13,6 @@ returns-in-Some c =
     (ap (λ (s : State). s.entries) (sym c.self.view_is) ∙ ap (map row_meant) (sym c.as_slice-rows.ensures.rows)))
 
 pub returns-in-None : goal.returns-in-None
-returns-in-None c =
-    subst (AreLinked (live_table c.args.self.now) c.args.tiploc.now)
-    (sym (c.of-in-None-2.ensures ∙ c.of-in-None.ensures
+returns-in-None c = subst (AreLinked (live_table c.args.self.now) c.args.tiploc.now) (sym (c.of-in-None-2.ensures ∙ c.of-in-None.ensures
     ∙ ap (rows_here true c.args.tiploc.now) (ap (map row_meant) c.as_slice-rows.ensures.rows ∙ ap (λ (s : State). s.entries) c.self.view_is)))
-    (linked_sifted c.args.self.now (subst IsValid c.self.view_is c.self.invariant.valid) c.args.tiploc.now)
+    (linked_sifted _ (subst IsValid c.self.view_is c.self.invariant.valid) _)

@@ -7,13 +7,11 @@ use Rattle.docker_state.proofs.LiveTable.{live_walks, live_ascends}
 use Rattle.docker_state.proofs.state.State.live.Goals as goal
 
 pub returns-clause-table : goal.returns-clause-table
-returns-clause-table c =
-    live_walks c.args.self.now (subst IsValid c.self.view_is c.self.invariant.valid) c.of.result
+returns-clause-table c = live_walks _ (subst IsValid c.self.view_is c.self.invariant.valid) _
     (c.of.ensures ∙ (λ i. live_rows (map row_meant (c.as_slice.ensures.rows i))) ∙ ap (λ (s : State). live_rows s.entries) c.self.view_is)
 
 pub returns-clause-ascending : goal.returns-clause-ascending
-returns-clause-ascending c =
-    live_ascends c.args.self.now (subst IsValid c.self.view_is c.self.invariant.valid) c.of.result
+returns-clause-ascending c = live_ascends _ (subst IsValid c.self.view_is c.self.invariant.valid) _
     (c.of.ensures ∙ (λ i. live_rows (map row_meant (c.as_slice.ensures.rows i))) ∙ ap (λ (s : State). live_rows s.entries) c.self.view_is)
 
 pub returns-clause-plain : goal.returns-clause-plain

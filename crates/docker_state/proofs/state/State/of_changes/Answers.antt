@@ -1,7 +1,4 @@
 use Rattle.std.proofs.Common.{List, map, sym, subst}
-use Rattle.docker_model.specs.file.Change as model
-use Rattle.docker_model.specs.state.Op as ops
-use Rattle.docker_model.specs.state.Op.{key_cmp}
 use Rattle.cif_change.specs.declared.key.Key.{Key}
 use Rattle.docker_join.specs.declared.entry.Entry.{Entry}
 use Rattle.docker_join.proofs.MeantOrder.{ascending_meant}
@@ -9,16 +6,14 @@ use Rattle.state_index.specs.Rooms.{items_of}
 use Rattle.docker_state.specs.Indexed.{HasRoomIfAny, IsIndexIfAny}
 use Rattle.docker_state.proofs.IndexRooms.{room_of_changes}
 use Rattle.cif_change.specs.Meaning.{change_meant}
-use Rattle.docker_join.specs.Meaning.{file_stamp_meant, row_meant}
+use Rattle.docker_join.specs.Meaning.{row_meant}
 use Rattle.docker_state.specs.Meaning.{item_meant}
 use Rattle.docker_state.specs.MadeState.{IsMadeState}
 use Rattle.docker_state.proofs.FileState.{made_records, made_stamped, one_item, made_state, rows_made_by}
 use Rattle.docker_state.proofs.state.State.of_changes.Goals as goal
 
 pub last_greatest-rows-requires-clause-records : goal.last_greatest-rows-requires-clause-records
-last_greatest-rows-requires-clause-records c =
-    made_records (map change_meant c.args.parts.changes.items) c.requires.«records» (file_stamp_meant c.stamp.result) c.rows_made-made.result.items
-    c.rows_made-made.ensures.made
+last_greatest-rows-requires-clause-records c = made_records _ c.requires.«records» _ _ c.rows_made-made.ensures.made
 
 pub of_rows-requires-clause-valid : goal.of_rows-requires-clause-valid
 of_rows-requires-clause-valid c =
@@ -41,13 +36,9 @@ returns-clause-ok c =
     c.last_greatest-rows.ensures.ascending c.last_greatest-rows.ensures.greatest)
 
 pub refill-requires : goal.refill-requires
-refill-requires c =
-    subst (λ (rows : List (Key × Entry)). HasRoomIfAny (items_of (map row_meant rows)) c.args.room) (sym c.as_slice.ensures.value)
-    (room_of_changes (map change_meant c.args.parts.changes.items) (map row_meant c.last_greatest-rows.result.items)
-    (ascending_meant row_meant (λ (a b : model.Key × ops.Entry). key_cmp a.0 b.0) c.last_greatest-rows.result.items c.last_greatest-rows.ensures.ascending)
-    (rows_made_by (file_stamp_meant c.stamp.result) (map change_meant c.args.parts.changes.items) c.rows_made-made.result.items
-    c.last_greatest-rows.result.items c.rows_made-made.ensures.made c.last_greatest-rows.ensures.greatest)
-    c.args.room c.requires.room)
+refill-requires c = subst (λ (rows : List (Key × Entry)). HasRoomIfAny (items_of (map row_meant rows)) c.args.room) (sym c.as_slice.ensures.value)
+    (room_of_changes _ _ (ascending_meant _ _ _ c.last_greatest-rows.ensures.ascending) (rows_made_by _ _ _
+    _ c.rows_made-made.ensures.made c.last_greatest-rows.ensures.greatest) _ c.requires.room)
 
 pub of_rows-requires-clause-index : goal.of_rows-requires-clause-index
 of_rows-requires-clause-index c =

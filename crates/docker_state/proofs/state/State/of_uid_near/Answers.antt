@@ -5,6 +5,5 @@ use Rattle.docker_state.proofs.UidRows.{live_of_uid}
 use Rattle.docker_state.proofs.state.State.of_uid_near.Goals as goal
 
 pub returns : goal.returns
-returns c =
-    live_of_uid c.args.self.now (subst IsValid c.self.view_is c.self.invariant.valid) c.args.uid.now c.as_slice.result.now c.rows_of_uid.result.now
-    (ap (map row_meant) c.as_slice.ensures.rows ∙ ap (λ (s : State). s.entries) c.self.view_is) c.rows_of_uid.ensures c.of.result c.of.ensures
+returns c = live_of_uid _ (subst IsValid c.self.view_is c.self.invariant.valid) _ _ _
+    (ap (map row_meant) c.as_slice.ensures.rows ∙ ap (λ (s : State). s.entries) c.self.view_is) c.rows_of_uid.ensures _ c.of.ensures

@@ -11,21 +11,16 @@ returns-in-Ok-clause-ok c =
     (sym (c.raised.ensures ∙ (λ i. raise_horizon (c.horizon-theirs.ensures.horizon i) (c.in-Ok.ensures.ok i)))) (c.covers.ensures c.if-covers.true)
 
 pub returns-in-Ok-clause-summary : goal.returns-in-Ok-clause-summary
-returns-in-Ok-clause-summary c = λ files others g h one two.
-    join_is_summary files others g h c.args.self c.args.other c.raised.result one two (returns-in-Ok-clause-ok c)
+returns-in-Ok-clause-summary c = λ files others g h one two. join_is_summary _ _ _ _ _ _ _ one two (returns-in-Ok-clause-ok c)
 
 pub returns-in-Ok-indexed_like-clause-ok : goal.returns-in-Ok-indexed_like-clause-ok
-returns-in-Ok-indexed_like-clause-ok c =
-    subst (IsJoin c.args.self c.args.other)
+returns-in-Ok-indexed_like-clause-ok c = subst (IsJoin c.args.self c.args.other)
     (sym (c.raised-in-Ok-indexed_like.ensures ∙ (λ i. raise_horizon (c.horizon-own.ensures.horizon i) (c.in-Ok-indexed_like.ensures.ok i))))
-    (join_commutes c.args.other c.args.self (raise_horizon c.args.self.horizon c.args.other) (c.covers-2.ensures c.if-covers-2.true))
+    (join_commutes _ _ _ (c.covers-2.ensures c.if-covers-2.true))
 
 pub returns-in-Ok-indexed_like-clause-summary : goal.returns-in-Ok-indexed_like-clause-summary
-returns-in-Ok-indexed_like-clause-summary c = λ files others g h one two.
-    join_is_summary files others g h c.args.self c.args.other c.raised-in-Ok-indexed_like.result one two (returns-in-Ok-indexed_like-clause-ok c)
+returns-in-Ok-indexed_like-clause-summary c = λ files others g h one two. join_is_summary _ _ _ _ _ _ _ one two (returns-in-Ok-indexed_like-clause-ok c)
 
 pub returns-clause-summary : goal.returns-clause-summary
-returns-clause-summary c = λ files others g h one two.
-    IfOk-weaker c.join_into_longer.result _ _
-    (λ joined is. join_is_summary files others g h c.args.self c.args.other joined one two is)
+returns-clause-summary c = λ files others g h one two. IfOk-weaker c.join_into_longer.result _ _ (λ joined is. join_is_summary _ _ _ _ _ _ _ one two is)
     c.join_into_longer.ensures.ok

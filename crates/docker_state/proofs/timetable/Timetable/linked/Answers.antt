@@ -13,10 +13,8 @@ returns-clause-rows c =
     let live = live_table c.self.inside.state.now in
     let place = c.args.tiploc.now in
     subst (λ (t : Timetable). AreLinked (live_in t) place c.of.result) c.self.view_is
-    (subst (λ (rows : List Row). AreLinked (counted_table (counts c.self.inside.permanent) live) place rows)
-    (sym c.of.ensures)
-    (counted_linked (counts c.self.inside.permanent) live place c.linked.result c.linked.ensures))
+    (subst (λ (rows : List Row). AreLinked (counted_table (counts c.self.inside.permanent) live) place rows) (sym c.of.ensures)
+    (counted_linked _ _ _ _ c.linked.ensures))
 
 pub returns-clause-good : goal.returns-clause-good
-returns-clause-good c =
-    timetable_good c.args.self.now (subst (λ (t : Timetable). IsValid t.state) c.self.view_is c.self.invariant)
+returns-clause-good c = timetable_good _ (subst (λ (t : Timetable). IsValid t.state) c.self.view_is c.self.invariant)

@@ -17,5 +17,4 @@ returns-clause-rows c =
     (sym (c.of.ensures)) (counted_of_uid (counts c.self.inside.permanent) live place c.of_uid_near.result c.of_uid_near.ensures))
 
 pub returns-clause-good : goal.returns-clause-good
-returns-clause-good c =
-    timetable_good c.args.self.now (subst (λ (t : Timetable). IsValid t.state) c.self.view_is c.self.invariant)
+returns-clause-good c = timetable_good _ (subst (λ (t : Timetable). IsValid t.state) c.self.view_is c.self.invariant)
