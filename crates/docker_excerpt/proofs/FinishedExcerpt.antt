@@ -1,5 +1,5 @@
 -- The finished excerpt, and the docker that is made from it.
-use Rattle.std.proofs.Common.{◌≡◌, ℕ, List, refl, ap, sym, ◌∙◌, subst}
+use Rattle.std.proofs.Common.{◌≡◌, ℕ, List, refl, ap, sym, ◌∙◌, subst, rules}
 use Rattle.std.specs.Prelude.{Option, Some}
 use Rattle.docker_model.specs.file.Change.{Key, tiploc_key}
 use Rattle.docker_model.specs.state.Op.{Entry}
@@ -25,35 +25,31 @@ plain_state state none = λ i. record { horizon = none i; ledger = state.ledger;
 -- this horizon
 pub horizon_set : (state raised : State) (horizon : Option ℕ) (day : ℕ) → state.horizon ≡ 0 → horizon ≡ Some day
     → IsValid (under (horizon_meant horizon) state) → raised ≡ raise_horizon day state → raised ≡ under (horizon_meant horizon) state
-horizon_set state raised horizon day plain read valid set =
-    set ∙ ap (raise_horizon day) (plain_state state plain)
-    ∙ set_last (under day state) (subst (λ (h : Option ℕ). IsValid (under (horizon_meant h) state)) read valid)
+horizon_set state raised horizon day plain read valid set = set ∙ ap (raise_horizon day) (plain_state _ plain)
+    ∙ set_last _ (subst (λ (h : Option ℕ). IsValid (under (horizon_meant h) state)) read valid)
     ∙ ap (λ (h : Option ℕ). under (horizon_meant h) state) (sym read)
 
 -- a docker made from an excerpt's part, for the excerpt's place and day, is correct for the whole
 -- state
 pub docker_of_whole : (place : List ℕ) (day : ℕ) (state part : State) → IsExcerptOf place day state part → StandsAt place day state part
 docker_of_whole place day state part is = record {
-  described = ap description_in (same_where_needed place (live_table (shortened place day state)) (live_table part) is.excerpt.live (tiploc_key place) refl)
-      ∙ ap description_in (same_tiploc place day state is.valid)
-      ∙ near_description day (live_table state) (live_table (near_state day state)) (near_part day state is.valid.entries.1) place;
-  list = λ lines listed. (shortened_list place day state is.valid lines).1
-      ((excerpt_list_iff place (live_table (shortened place day state)) (live_table part) is.excerpt.live day lines).1 listed);
+  described = ap description_in (same_where_needed _ (live_table (shortened place day state)) _ is.excerpt.live (tiploc_key place) refl)
+      ∙ ap description_in (same_tiploc _ day state is.valid)
+      ∙ near_description day _ (live_table (near_state day state)) (near_part _ state is.valid.entries.1) _;
+  list = λ lines listed. (shortened_list place day _ is.valid lines).1 ((excerpt_list_iff place _ (live_table part) is.excerpt.live _ lines).1 listed);
 }
 
 module _ (place : List ℕ) (day horizon : ℕ) (told : State) (valid : IsValid (under horizon told)) where
   -- the entries that the excerpt keeps fit the ledger
   pub kept_entries : (rows : List (Key × Entry)) → rows ≡ (excerpt_on place day told).entries → AreEntries told.ledger rows
-  kept_entries rows is =
-      subst (λ (all : List (Key × Entry)). AreEntries told.ledger all) (sym is) (excerpt_on_valid place day (under horizon told) valid).entries
+  kept_entries rows is = subst (λ (all : List (Key × Entry)). AreEntries told.ledger all) (sym is) (excerpt_on_valid _ _ _ valid).entries
 
   -- if a state has this ledger and the entries that the excerpt keeps, it is valid with `horizon`
   -- in place of its own horizon
   pub kept_valid : (state : State) (rows : List (Key × Entry)) → rows ≡ (excerpt_on place day told).entries → state.ledger ≡ told.ledger → state.entries ≡ rows
       → IsValid (under horizon state)
   kept_valid state rows is same entries =
-      subst IsValid (λ i. record { horizon = horizon; ledger = sym same i; entries = sym (entries ∙ is) i })
-      (excerpt_on_valid place day (under horizon told) valid)
+      subst IsValid (λ i. record { horizon = horizon; ledger = sym same i; entries = sym (entries ∙ is) i }) (excerpt_on_valid _ _ _ valid)
 
   part_is : (part : State) (rows : List (Key × Entry)) → rows ≡ (excerpt_on place day told).entries → part.horizon ≡ horizon → part.ledger ≡ told.ledger
       → part.entries ≡ rows → part ≡ excerpt_on place day (under horizon told)
@@ -63,22 +59,16 @@ module _ (place : List ℕ) (day horizon : ℕ) (told : State) (valid : IsValid 
   -- state from which the excerpt was made
   pub is_excerpt_of : (part : State) (rows entries : List (Key × Entry)) → rows ≡ (excerpt_on place day told).entries → part.horizon ≡ horizon
       → part.ledger ≡ told.ledger → part.entries ≡ rows → entries ≡ told.entries → StandsAt place day (with_entries part entries) part
-  is_excerpt_of part rows entries is same_horizon same kept given =
-      docker_of_whole place day (with_entries part entries) part
-      (subst (λ (p : State). IsExcerptOf place day (with_entries p entries) p) (sym (part_is part rows is same_horizon same kept))
+  is_excerpt_of part rows entries is same_horizon same kept given = docker_of_whole _ _ _ _
+      (subst (λ (p : State). IsExcerptOf place day (with_entries p entries) p) (sym (part_is _ _ is same_horizon same kept))
       (subst (λ (all : List (Key × Entry)).
-      IsExcerptOf place day (with_entries (excerpt_on place day (under horizon told)) all) (excerpt_on place day (under horizon told)))
-      (sym given) (record {
+      IsExcerptOf place day (with_entries (excerpt_on place day (under horizon told)) all) (excerpt_on place day (under horizon told))) (sym given) (record {
         valid = valid;
-        excerpt = walk_is_excerpt place (shortened place day (under horizon told)) (shortened_valid place day (under horizon told) valid).entries.1;
+        excerpt = walk_is_excerpt _ _ (shortened_valid _ _ _ valid).entries.1;
       })))
 
   -- the state in the excerpt's value is the state whose parts were taken, under the given horizon
   pub stands_for : (part : State) (entries : List (Key × Entry)) → part.horizon ≡ horizon → part.ledger ≡ told.ledger → entries ≡ told.entries
       → ◌≡◌ {A = Excerpt} (record { place = place; day = day; state = with_entries part entries })
       (record { place = place; day = day; state = under horizon told })
-  stands_for part entries same_horizon same given = λ i. record {
-    place = place;
-    day = day;
-    state = record { horizon = same_horizon i; ledger = same i; entries = given i };
-  }
+  stands_for = search rules

@@ -1,8 +1,6 @@
 -- Lemmas on taking the entries of a state one by one, after its ledger items.
-use Rattle.std.proofs.Common.{◌≡◌, ℕ, ◌-◌, List, [], ◌∷◌, ◌++◌, length, map, refl, ap, sym, ◌∙◌, subst, arith, length-append, Some}
-use Rattle.std.proofs.lemmas.List.{append_assoc}
+use Rattle.std.proofs.Common.{◌≡◌, ℕ, ◌-◌, List, [], ◌∷◌, ◌++◌, length, map, refl, ap, sym, ◌∙◌, subst, arith, length-append, Some, rules}
 use Rattle.std.specs.Prelude.{Option, slice_get}
-use Rattle.std.specs.Option.{option_map}
 use Rattle.docker_model.specs.file.Change as model
 use Rattle.docker_model.specs.state.Op.{Entry}
 use Rattle.docker_model.specs.state.Lapse.{HasNotToLapse}
@@ -27,10 +25,8 @@ pub valid_with : (parts : State) (last : Option Key) (count : ℕ) (entries : Li
     → (after : List (model.Key × Entry)) → after ≡ told.entries ++ (key, entry) ∷ [] → IsValid (with_entries told after)
 valid_with parts last count entries told view is key entry here of after pushed =
     subst (λ (state : State). IsStampHere state key entry.stamp → after ≡ state.entries ++ (key, entry) ∷ [] → IsValid (with_entries state after)) view
-    (λ stamp_here more. subst (λ (all : List (model.Key × Entry)). IsValid (with_entries parts all)) (sym more)
-    (valid_more (with_entries parts entries) key entry.stamp entry.op is.valid stamp_here of
-    (subst (λ (horizon : ℕ). HasNotToLapse horizon entry.op) (sym is.plain) (none_has_to entry.op))))
-    here pushed
+    (λ stamp_here more. subst (λ (all : List (model.Key × Entry)). IsValid (with_entries parts all)) (sym more) (valid_more _ _ _ _ is.valid stamp_here of
+    (subst (λ (horizon : ℕ). HasNotToLapse horizon entry.op) (sym is.plain) (none_has_to _)))) here pushed
 
 last_of : {A : Type 0} (xs : List A) (x : A) → slice_get (xs ++ x ∷ []) (length (xs ++ x ∷ []) - 1) ≡ Some x
 last_of xs x =
@@ -44,27 +40,14 @@ last_of xs x =
 
 -- after one more entry is appended, the last key is the key of this entry
 pub last_with : (entries after : List (model.Key × Entry)) (key : model.Key) (entry : Entry) → after ≡ entries ++ (key, entry) ∷ [] → last_key after ≡ Some key
-last_with entries after key entry pushed =
-    ap last_key pushed ∙ ap (option_map (λ (one : model.Key × Entry). one.0)) (last_of entries (key, entry))
+last_with = search (rules, last_of)
 
 -- if rows are added to parts one by one, the next row fits after the entries that have been added
 pub row_behind : (parts : State) (ledger : List LedgerItem) (rows rest after : List (Key × Row)) (key : Key) (row : Row)
     → AreEntries ledger (map row_meant rows)
     → parts.ledger ≡ ledger → parts.entries ++ map row_meant rest ≡ map row_meant rows → rest ≡ (key, row) ∷ after
     → IsStampHere parts (key_meant key) (entry_meant row).stamp × IsOpOf (key_meant key) (entry_meant row).op
-row_behind parts ledger rows rest after key row are same whole step =
-    entry_behind parts (key_meant key) (entry_meant row) (map row_meant after)
+row_behind parts ledger rows rest after key row are same whole step = entry_behind parts _ (entry_meant row) _
     (subst (λ (all : List (model.Key × Entry)). AreEntries parts.ledger all)
     (sym whole ∙ ap (λ (more : List (Key × Row)). parts.entries ++ map row_meant more) step)
     (subst (λ (items : List LedgerItem). AreEntries items (map row_meant rows)) (sym same) are))
-
--- after one more row has been added, the added entries, followed by the remaining rows, are still
--- all rows
-pub row_given : (parts after : State) (rows rest later : List (Key × Row)) (key : Key) (row : Row)
-    → parts.entries ++ map row_meant rest ≡ map row_meant rows → rest ≡ (key, row) ∷ later
-    → after.entries ≡ parts.entries ++ (key_meant key, entry_meant row) ∷ [] → after.entries ++ map row_meant later ≡ map row_meant rows
-row_given parts after rows rest later key row whole step pushed =
-    ap (λ (front : List (model.Key × Entry)). front ++ map row_meant later) pushed
-    ∙ append_assoc parts.entries ((key_meant key, entry_meant row) ∷ []) (map row_meant later)
-    ∙ ap (λ (more : List (Key × Row)). parts.entries ++ map row_meant more) (sym step)
-    ∙ whole

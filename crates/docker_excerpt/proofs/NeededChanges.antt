@@ -1,7 +1,8 @@
 -- Lemmas on the changes that remain of a thin file: those that the docker of its place needs.
-use Rattle.std.proofs.Common.{◌≡◌, ℕ, zero, suc, ◌+◌, ◌<◌, ◌≤◌, arith, length, get_or, List, [], ◌∷◌, ◌++◌, map, refl, ap, sym, ◌∙◌, subst}
-use Rattle.std.proofs.Common.{inl, inr, ◌⊎◌, Bool, true, false, Some, None, Contains}
-use Rattle.std.specs.Prelude.{Option, ◌↔◌, ◌||◌, ◌&&◌, filter, take}
+use Rattle.std.proofs.Common.{◌≡◌, ℕ, ◌+◌, ◌<◌, ◌≤◌, arith, length, get_or, List, [], ◌∷◌, ◌++◌, map, refl, ap, sym, ◌∙◌, subst, rules}
+use Rattle.std.proofs.lemmas.Grind.{common_steps}
+use Rattle.std.proofs.Common.{inl, inr, ◌⊎◌, Bool, true, false, Some, Contains}
+use Rattle.std.specs.Prelude.{◌↔◌, ◌||◌, ◌&&◌, filter, take}
 use Rattle.std.specs.Option.{option_to_list}
 use Rattle.std.specs.Global.{Vec}
 use Rattle.std.specs.Str.{bytes_eq}
@@ -37,14 +38,7 @@ AreGood changes = (change : model.Change) → Contains changes change → IsOpOf
 
 -- a test that says whether a UID is among the UIDs says whether the schedules of this UID are wanted
 pub says_wanted : (uids : List (List ℕ)) (key : ScheduleKey) (b : Bool) → (b ≡ true) ↔ Contains uids key.uid → b ≡ is_wanted uids (schedule_key key)
-says_wanted uids key b says = by b (is_wanted uids (schedule_key key)) refl refl
-  where
-    by : (c d : Bool) → b ≡ c → is_wanted uids (schedule_key key) ≡ d → c ≡ d
-    by true d is other = sym (wanted_uid uids key (says.0 is)) ∙ other
-    by false false is other = refl
-    by false true is other =
-        let found = any_back (λ uid. bytes_eq uid key.uid) uids other in
-        sym is ∙ says.1 (subst (Contains uids) ((bytes_eq-Decides found.0 key.uid).0 found.2) found.1)
+says_wanted = search (rules, wanted_uid, any_back, bytes_eq-Decides)
 
 -- the UIDs that the keys of changes name, found from the code's changes
 uids_of_changes : (changes : List Change)
@@ -57,29 +51,12 @@ pub uids_more : (changes : List Change) (at : ℕ) (one : Change) → at < lengt
     → before ≡ filter_map (λ (change : Change). uid_named (key_meant change.key)) (take at changes)
     → after ≡ before ++ option_to_list (uid_named (key_meant one.key))
     → after ≡ filter_map (λ (change : Change). uid_named (key_meant change.key)) (take (at + 1) changes)
-uids_more changes at one within is before after so_far pushed =
-    pushed ∙ (λ i. so_far i ++ sym (by (uid_named (key_meant one.key))) i)
-    ∙ sym (filter_map-append f (take at changes) (one ∷ []))
-    ∙ sym (ap (filter_map f) (take_more changes at one within ∙ ap (λ (c : Change). take at changes ++ c ∷ []) is))
-  where
-    f : Change → Option (List ℕ)
-    f change = uid_named (key_meant change.key)
-
-    by : (o : Option (List ℕ)) → cons_option o [] ≡ option_to_list o
-    by None = refl
-    by (Some uid) = refl
+uids_more = grind (common_steps, arith, filter_map-append, take_more)
 
 -- after the last change, the UIDs are those that the keys of all changes name
 pub uids_whole : (changes : List Change) (at : ℕ) (uids : List (List ℕ)) → length changes ≤ at
     → uids ≡ filter_map (λ (change : Change). uid_named (key_meant change.key)) (take at changes) → uids ≡ uids_named (map change_meant changes)
-uids_whole changes at uids past so_far =
-    so_far ∙ ap (filter_map (λ (change : Change). uid_named (key_meant change.key))) (take_whole changes at past) ∙ uids_of_changes changes
-  where
-    take_whole : (xs : List Change) (n : ℕ) → length xs ≤ n → take n xs ≡ xs
-    take_whole [] zero few = refl
-    take_whole [] (suc n) few = refl
-    take_whole (x ∷ xs) zero few = absurd (omega arith)
-    take_whole (x ∷ xs) (suc n) few = ap (λ (rest : List Change). x ∷ rest) (take_whole xs n (omega arith))
+uids_whole = grind (common_steps, arith, uids_of_changes)
 
 -- a list and the same list sorted have the same members
 pub same_sorted : (named before after : List (List ℕ)) → before ≡ named → IsPermutation before after → (uid : List ℕ) → Contains after uid ↔ Contains named uid
@@ -162,7 +139,7 @@ module _ (place : List ℕ) (made : Vec Change) (elsewhere : Vec Elsewhere) (goo
     needed_are change = (
       λ among. forth (Contains-append_cases first left change (subst (λ (list : List model.Change). Contains list change) are among)),
       λ among. subst (λ (list : List model.Change). Contains list change) (sym are)
-          (let passed = filter_back (λ (one : model.Change). is_wanted uids one.key) (all_kept place made elsewhere) change among in
+          (let passed = filter_back _ _ _ among in
           back (Contains-append_cases first last change passed.0) passed.1),
     )
       where
@@ -171,24 +148,20 @@ module _ (place : List ℕ) (made : Vec Change) (elsewhere : Vec Elsewhere) (goo
 
         among_all : Contains (all_kept place made elsewhere) change → is_wanted uids change.key ≡ true
             → Contains (wanted_changes uids (all_kept place made elsewhere)) change
-        among_all = filter_forth (λ (one : model.Change). is_wanted uids one.key) (all_kept place made elsewhere) change
+        among_all = filter_forth _ _ _
 
         forth : Contains first change ⊎ Contains left change → Contains (wanted_changes uids (all_kept place made elsewhere)) change
-        forth (inl inside) = among_all (Contains-append_left first last change inside) (first_wanted change inside)
+        forth (inl inside) = among_all (Contains-append_left first last change inside) (first_wanted _ inside)
         forth (inr behind) =
-            let found = Contains-map (elsewhere_meant place) some.items change behind in
-            let was = filter_back test elsewhere.items found.0 (subst (λ (list : List Elsewhere). Contains list found.0) of found.1) in
-            among_all
-            (Contains-append_right first last change
-            (subst (Contains last) found.2 (map-Contains (elsewhere_meant place) elsewhere.items found.0 was.0)))
+            let found = Contains-map _ _ _ behind in
+            let was = filter_back _ _ _ (subst (λ (list : List Elsewhere). Contains list found.0) of found.1) in
+            among_all (Contains-append_right first last change (subst (Contains last) found.2 (map-Contains _ _ _ was.0)))
             (subst (λ (c : model.Change). is_wanted uids c.key ≡ true) found.2 was.1)
 
         back : Contains first change ⊎ Contains last change → is_wanted uids change.key ≡ true → Contains (all_kept place made some) change
         back (inl inside) wanted = Contains-append_left first left change inside
         back (inr behind) wanted =
-            let found = Contains-map (elsewhere_meant place) elsewhere.items change behind in
+            let found = Contains-map _ _ _ behind in
             let passes = subst (λ (c : model.Change). is_wanted uids c.key ≡ true) (sym found.2) wanted in
-            Contains-append_right first left change
-            (subst (Contains left) found.2
-            (map-Contains (elsewhere_meant place) some.items found.0
-            (subst (λ (list : List Elsewhere). Contains list found.0) (sym of) (filter_forth test elsewhere.items found.0 found.1 passes))))
+            Contains-append_right first left change (subst (Contains left) found.2 (map-Contains _ _ _
+            (subst (λ (list : List Elsewhere). Contains list found.0) (sym of) (filter_forth _ _ _ found.1 passes))))

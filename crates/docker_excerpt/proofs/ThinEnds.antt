@@ -1,9 +1,8 @@
 -- Lemmas on what the reader returns at the end of a file if it kept only what the docker of a place
 -- on a day needs.
-use Rattle.std.proofs.Common.{◌≡◌, ℕ, ◌∙◌, ◌≤◌, List, subst, sym, arith}
+use Rattle.std.proofs.Common.{◌≡◌, ℕ, ◌≤◌, List, subst, sym, arith, rules}
 use Rattle.std.specs.Prelude.{Option}
 use Rattle.docker_model.specs.file.File.{most_records}
-use Rattle.docker_model.specs.file.Change.{Change}
 use Rattle.docker_laws.specs.Thinning.{IsThinning}
 use Rattle.cif_file.specs.declared.file.ended.Ended.{Ended}
 use Rattle.docker_excerpt.specs.declared.thin_kept.ThinSoFar.{ThinSoFar}
@@ -25,11 +24,7 @@ module _ {P : Type 0} (place : List ℕ) (day : ℕ) where
   -- the changes that were kept are a thinning of the file's changes for the place and the day
   enough_of : (records : List (List ℕ)) (ended : Ended (ThinSoFar P)) (is : IsEnded (KeepsThin place day) records ended)
       → IsThinning ended.keeper.thinned.place ended.keeper.thinned.day ended.keeper.so_far.changes is.kept.thinned.kept
-  enough_of records ended is =
-      let has = is.kept.thinned in
-      subst (λ p. IsThinning p ended.keeper.thinned.day ended.keeper.so_far.changes has.kept) (sym has.place_is)
-      (subst (λ d. IsThinning place d ended.keeper.so_far.changes has.kept) (sym has.day_is)
-      (subst (λ (all : List Change). IsThinning place day all has.kept) (sym is.kept.so_far) has.thinning))
+  enough_of = search rules
 
   -- the changes that were kept for the place are kept for the place that the keeper has
   same_of : (records : List (List ℕ)) (ended : Ended (ThinSoFar P)) (is : IsEnded (KeepsThin place day) records ended)
@@ -41,17 +36,7 @@ module _ {P : Type 0} (place : List ℕ) (day : ℕ) where
   -- if the reader returns a thin file for the text that a source held, it is a thin file of that text
   pub reads_thin : (there : List ℕ) (on : ℕ) (limit : ℕ) (left : Option (List ℕ)) (ended : Ended (ThinSoFar P)) → there ≡ place → on ≡ day
       → ReadsEnded (KeepsThin place day) limit left ended → ReadsThin there on limit left (thin_ended ended)
-  reads_thin there on limit left ended same_place same_day reads =
-      let is = reads.of_text in
-      record {
-        reads = record {
-          text = reads.text;
-          held = reads.held;
-          of_text = record { records = is.records; is_text = is.is_text; of_records = file_of is.records ended is.of_records };
-        };
-        place_is = is.of_records.kept.thinned.place_is ∙ sym same_place;
-        day_is = is.of_records.kept.thinned.day_is ∙ sym same_day;
-      }
+  reads_thin = search (rules, file_of)
 
   -- the parts that the reader returns belong to the thin file
   pub reads_thin_parts : (limit : ℕ) (left : Option (List ℕ)) (ended : Ended (ThinSoFar P)) → limit ≤ most_records

@@ -1,21 +1,19 @@
 -- Lemmas on why the changes that are kept are enough for the docker of one place on one day. The thin form of a change (`thin_change`) has only what this
 -- docker needs.
-use Rattle.std.proofs.Common.{◌≡◌, ℕ, ◌∙◌, inl, inr, Bool, true, false, cond, List, [], ◌∷◌, ◌++◌}
-use Rattle.std.proofs.Common.{length, map, subst, refl, ap, sym, Some, None, arith, append_assoc}
+use Rattle.std.proofs.Common.{◌≡◌, ℕ, ◌∙◌, inl, inr, Bool, true, false, cond, List, [], ◌∷◌, ◌++◌, rules}
+use Rattle.std.proofs.lemmas.Grind.{common_steps}
+use Rattle.std.proofs.Common.{map, subst, ap, sym, Some, None, arith, append_assoc}
 use Rattle.std.specs.Global.{Vec}
 use Rattle.std.proofs.lemmas.List.{map-append}
 use Rattle.std.specs.Prelude.{Option, Contains, ◌⊎◌, ◌||◌, ◌&&◌, not, slice_get}
-use Rattle.std.specs.Ordering.{is_eq}
 use Rattle.std.specs.BTreeSet as set
 use Rattle.std.specs.BTreeSet.{BTreeSet}
-use Rattle.std.specs.BTreeMap.{is_at}
-use Rattle.std.specs.Cmp.{tied_itself}
 use Rattle.std.proofs.lemmas.List.Elements.{Contains-append_left, Contains-append_right, Contains-append_cases}
 use Rattle.cif_laws.proofs.lists.Membership.{nil-Contains, Contains-single}
 use Rattle.docker_model.specs.records.Field.{is_deletion, as_new}
 use Rattle.docker_model.specs.file.File.{IsSchedule, first_record}
 use Rattle.docker_model.specs.file.Journey.{calls_at}
-use Rattle.docker_model.specs.file.Change.{Change, Act, tiploc_body, association_body, schedule_body, delete, put}
+use Rattle.docker_model.specs.file.Change.{Change, Act, schedule_body, delete, put}
 use Rattle.docker_laws.specs.NearDay.{runs_near, may_reach}
 use Rattle.docker_laws.specs.Thinning.{may_matter, thin_act, thin_change, thin_lines, lines_for, HasNoChangeOf, IsThinning}
 use Rattle.docker_laws.proofs.dockers.ThinChanges.{thinning_at_first, thinning_kept, thinning_dropped, thinning_elsewhere, act_far, near_of_new}
@@ -23,7 +21,6 @@ use Rattle.cif_change.specs.declared.change.Change as code
 use Rattle.cif_change.specs.declared.key.ScheduleKey.{ScheduleKey}
 use Rattle.cif_change.specs.declared.key.Key.TheVariants as key
 use Rattle.cif_change.specs.JourneyRead.{progress_meant, HasLines}
-use Rattle.cif_change.specs.contracts.key.ScheduleKeyOrd.TheImpl.Laws.{total-law}
 use Rattle.cif_change.specs.Meaning.{change_meant, key_meant}
 use Rattle.cif_change.proofs.SameKeys.{same_key}
 use Rattle.cif_file.specs.declared.keeper.opened.Opened.{Opened}
@@ -44,21 +41,7 @@ Lines = List (List ℕ)
 -- after a key is added to a set, the set has all earlier keys and this key
 pub set_knows : (old new : BTreeSet ScheduleKey) (added : ScheduleKey) → set.Updates schedule_cmp old new added true
     → KnowsMore old (key_meant (key.Schedule added)) new
-set_knows old new added more = record { still = still; also = also }
-  where
-    still : (one : ScheduleKey) → has_key old one ≡ true → has_key new one ≡ true
-    still one has = more.0 one ∙ by (is_at (schedule_cmp added) one) has
-      where
-        by : (b : Bool) → has_key old one ≡ true → cond b true (has_key old one) ≡ true
-        by true had = refl
-        by false had = had
-
-    also : (one : ScheduleKey) → key_meant (key.Schedule one) ≡ key_meant (key.Schedule added) → has_key new one ≡ true
-    also one same =
-        let equal : key.Schedule one ≡ key.Schedule added = same_key (key.Schedule one) (key.Schedule added) same in
-        let keys : one ≡ added = cc in
-        more.0 one ∙ (λ i. cond (is_eq (schedule_cmp added (keys i))) true (has_key old one))
-        ∙ (λ i. cond (is_eq (tied_itself total-law added i)) true (has_key old one))
+set_knows = grind (common_steps, arith, same_key)
 
 -- after keeping a change and adding its key to the set, the set has the keys of all kept changes
 keys_of_more : (old new : BTreeSet ScheduleKey) (added : Change) (kept : List Change) → KnowsMore old added.key new → HasKeysOf old kept
@@ -145,14 +128,7 @@ elsewhere_pushed place made elsewhere one new pushed kept same =
 -- before the first change, no change has to be kept: the empty list is a thinning of the empty list
 pub none_thinned : (place : List ℕ) (day : ℕ) (thinned : Thinned) → thinned.place ≡ place → thinned.day ≡ day → thinned.made.items ≡ []
     → thinned.elsewhere.items ≡ [] → HasThinned place day thinned []
-none_thinned place day thinned there dated none nothing = record {
-  place_is = there;
-  day_is = dated;
-  kept = [];
-  made = subst (HaveSame []) (sym (λ i. map change_meant (none i) ++ map (elsewhere_meant place) (nothing i))) (λ change. (λ among. among, λ among. among));
-  thinning = thinning_at_first place day;
-  known = λ change among. absurd (nil-Contains change among);
-}
+none_thinned = search (rules, thinning_at_first, nil-Contains)
 
 module _ (place : List ℕ) (day : ℕ) (old new : Thinned) (whole : Change) where
   -- a change whose key may matter can be kept in its thin form
@@ -164,10 +140,9 @@ module _ (place : List ℕ) (day : ℕ) (old new : Thinned) (whole : Change) whe
     day_is = dated ∙ has.day_is;
     kept = has.kept ++ change ∷ [];
     made = keeps has.kept has.made;
-    thinning =
-        subst (λ (c : Change). IsThinning place day (all ++ whole ∷ []) (has.kept ++ c ∷ [])) same
-        (thinning_kept place day all has.kept whole has.thinning matters);
-    known = keys_of_more old.keys new.keys change has.kept more has.known;
+    thinning = subst (λ (c : Change). IsThinning place day (all ++ whole ∷ []) (has.kept ++ c ∷ [])) same
+        (thinning_kept _ _ _ has.kept whole has.thinning matters);
+    known = keys_of_more _ _ _ _ more has.known;
   }
 
   -- a change whose key can't matter at the place can be dropped
@@ -198,10 +173,7 @@ module _ (place : List ℕ) (day : ℕ) (old new : Thinned) (whole : Change) whe
 
 -- an act that puts no schedule is its own thin form
 never_thin : (place : List ℕ) (day : ℕ) (act : Act) → puts_schedule act ≡ false → thin_act place day act ≡ act
-never_thin place day delete none = refl
-never_thin place day (put (tiploc_body details)) none = refl
-never_thin place day (put (association_body line)) none = refl
-never_thin place day (put (schedule_body lines)) none = absurd (let bad : true ≡ false = none in cc)
+never_thin = search rules
 
 -- if a change puts no schedule, the thin form of the change is the change itself
 pub never_thin_change : (place : List ℕ) (day : ℕ) (change : Change) → PutsNoSchedule change → thin_change place day change ≡ change
@@ -223,33 +195,19 @@ module _ (place : List ℕ) (day : ℕ) (opened : Opened) (near : Bool) where
     near_renewed stays = near_of_new day basic ∙ sym (is stays)
 
     act_put : (progress_meant opened.progress).deletion ≡ false → (change_opened opened (basic ∷ others)).act ≡ put (schedule_body renewed)
-    act_put stays = λ i. cond (stays i) delete (put (schedule_body renewed))
+    act_put = search rules
 
-  -- the thin form of a schedule's change is a deletion if the schedule is a deletion or doesn't run near the day
   pub opened_deletes : (lines : Lines) → HasLines (progress_meant opened.progress) lines → IsSchedule lines → SaysRunsNear day lines near
       → ((progress_meant opened.progress).deletion ≡ true) ⊎ (near ≡ false) → thin_act place day (change_opened opened lines).act ≡ delete
-  opened_deletes lines read whole is (inl deletion) = deletes_itself lines deletion
-  opened_deletes [] read whole is (inr far) = absurd (let size = ap (λ (l : Lines). length l) whole.whole in omega arith)
-  opened_deletes (basic ∷ others) read whole is (inr far) = by (progress_meant opened.progress).deletion refl
-    where
-      by : (b : Bool) → (progress_meant opened.progress).deletion ≡ b → thin_act place day (change_opened opened (basic ∷ others)).act ≡ delete
-      by true h = deletes_itself (basic ∷ others) h
-      by false h =
-          ap (thin_act place day) (act_put basic others is h)
-          ∙ act_far place day (renewed basic others is) (near_renewed basic others is (sym read.deletion_is ∙ h) ∙ far)
+  opened_deletes = search (rules, deletes_itself, act_put, act_far, near_renewed)
 
   -- if a schedule isn't a deletion and runs near the day, the thin form of its change puts only the
   -- lines that the docker of the place needs
   pub opened_puts : (lines : Lines) → HasLines (progress_meant opened.progress) lines → IsSchedule lines → SaysRunsNear day lines near
       → (progress_meant opened.progress).deletion ≡ false → near ≡ true
       → thin_act place day (change_opened opened lines).act ≡ put (schedule_body (lines_for place day (with_new_first lines)))
-  opened_puts [] read whole is stays runs = absurd (let size = ap (λ (l : Lines). length l) whole.whole in omega arith)
-  opened_puts (basic ∷ others) read whole is stays runs =
-      ap (thin_act place day) (act_put basic others is stays)
-      ∙ (λ i. cond ((near_renewed basic others is (sym read.deletion_is ∙ stays) ∙ runs) i)
-      (put (schedule_body (lines_for place day (as_new basic ∷ others)))) delete)
+  opened_puts = search (rules, act_put, near_renewed)
 
--- a key that may matter at the place of a `Thinned` may matter at the docker's place, since the two places are equal
 pub matters_here : (place : List ℕ) {day : ℕ} (change : Change) {thinned : Thinned} {all : List Change} (has : HasThinned place day thinned all)
     → may_matter thinned.place change.key ≡ true → may_matter place change.key ≡ true
 matters_here place change has matters = ap (λ p. may_matter p change.key) (sym has.place_is) ∙ matters
@@ -270,24 +228,15 @@ module _ (place : List ℕ) (day : ℕ) (old new : Thinned) (first : Option code
   -- if a record makes two changes, a `Thinned` that has received one after the other has received all changes of the record
   pub two_taken : (change : code.Change) (between : Thinned) → first ≡ Some change → Thins place day old (change_meant change) between
       → Thins place day between last new → ThinsAll place day old (listed_after first last) new
-  two_taken change between some takes thins =
-      subst (λ f. ThinsAll place day old (listed_after f last) new) (sym some)
-      (λ all has. subst (HasThinned place day new) (append_assoc all (change_meant change ∷ []) (last ∷ []))
-      (thins (all ++ change_meant change ∷ []) (takes all has)))
-
--- ---- the test `a || not b`
+  two_taken = search (rules, append_assoc)
 
 -- if `a || not b` is true, `a` is true or `b` is false
 pub either : (a b : Bool) → (a || not b) ≡ true → (a ≡ true) ⊎ (b ≡ false)
-either true b h = inl refl
-either false false h = inr refl
-either false true h = absurd cc
+either = search rules
 
 -- if `a || not b` is false, `a` is false and `b` is true
 pub neither : (a b : Bool) → (a || not b) ≡ false → (a ≡ false) × (b ≡ true)
-neither true b h = absurd cc
-neither false false h = absurd cc
-neither false true h = (refl, refl)
+neither = search rules
 
 module _ (place : List ℕ) (day : ℕ) (opened : Opened) (near : Bool) (lines : Lines) (read : HasLines (progress_meant opened.progress) lines)
     (whole : IsSchedule lines) (is : SaysRunsNear day lines near) (stays : (progress_meant opened.progress).deletion ≡ false) (runs : near ≡ true)
@@ -299,18 +248,7 @@ module _ (place : List ℕ) (day : ℕ) (opened : Opened) (near : Bool) (lines :
 
   by_test : (b : Bool) → test ≡ b
       → thin_change place day (change_opened opened lines) ≡ putting (cond b renewed (thin_lines place (first_record renewed)))
-  by_test b h = λ i. record {
-    number = opened.number;
-    key = key_meant (key.Schedule opened.key);
-    act = (opened_puts place day opened near lines read whole is stays runs ∙ ap (λ ls. put (schedule_body (lines_for place day ls))) (sym same)
-        ∙ (λ j. put (schedule_body (cond (tested j) renewed (thin_lines place (first_record renewed)))))) i;
-  }
-    where
-      put_is : IsPutSchedule renewed
-      put_is = subst IsPutSchedule (sym same) (put_of_new lines whole (sym read.deletion_is ∙ stays))
-
-      tested : (calls_at place renewed && may_reach day renewed) ≡ b
-      tested = (λ i. calls_at (sym there i) renewed && may_reach (sym dated i) renewed) ∙ sym (tells put_is) ∙ h
+  by_test = grind (arith, opened_puts, put_of_new)
 
   -- suppose that a schedule runs near the day and calls at the place. If an event of it may be on the day, the thin form of its change has all its lines
   pub opened_whole : (body : Lines) → body ≡ renewed → test ≡ true
@@ -324,5 +262,4 @@ module _ (place : List ℕ) (day : ℕ) (opened : Opened) (near : Bool) (lines :
 
 -- the line at index 0 is the first line
 pub first_line : (lines : Lines) (line : List ℕ) → Some line ≡ slice_get lines 0 → line ≡ first_record lines
-first_line [] line found = absurd (let bad : Some line ≡ None = found in cc)
-first_line (first ∷ others) line found = let same : Some line ≡ Some first = found in cc
+first_line = search rules

@@ -4,7 +4,7 @@ use Rattle.std.specs.Prelude.{◌↔◌, filter, slice_index_or}
 use Rattle.std.specs.Global.{Vec}
 use Rattle.docker_model.specs.file.Change.{Key, Change, changes}
 use Rattle.docker_model.specs.state.Stamp.{LedgerItem, ledger_item_of}
-use Rattle.docker_model.specs.state.Op.{Entry, op_of}
+use Rattle.docker_model.specs.state.Op.{Entry}
 use Rattle.docker_model.specs.state.State.{State, IsGreatestAmong}
 use Rattle.docker_laws.specs.Thinning.{IsThinning, IsStateOfChanges, HasUidsOf, is_wanted, wanted_changes}
 use Rattle.docker_laws.proofs.dockers.NeededChanges.{wanted_valid}
@@ -53,8 +53,8 @@ state_of_same item needed wanted same lines state item_is is =
       ledger = of.ledger;
       ascending = of.ascending;
       entries = λ key entry. (
-        λ among. same_greatest made needed wanted same key entry ((of.entries key entry).0 among),
-        λ told. (of.entries key entry).1 (same_greatest made wanted needed (λ change. ((same change).1, (same change).0)) key entry told),
+        λ among. same_greatest _ _ _ same _ _ ((of.entries key entry).0 among),
+        λ told. (of.entries key entry).1 (same_greatest _ _ _ (λ change. ((same change).1, (same change).0)) _ _ told),
       );
     }
 
@@ -67,8 +67,7 @@ module _ (thin : ThinRead) (is : IsThinRead thin) where
 
   -- the kept changes of a thin file put well-formed bodies
   pub kept_are_good : AreGood thin.kept
-  kept_are_good change among =
-      (kept_good thin.place thin.day records is.read.is_file is.read.few is.thinned thinning_of_records change ((is.same change).1 among)).0.1
+  kept_are_good change among = (kept_good _ _ _ is.read.is_file is.read.few _ thinning_of_records _ ((is.same change).1 among)).0.1
 
 -- the parts of a thin file, with a body for each of the wanted schedules that don't call at the place, are the needed parts
 pub are_needed : (place : List ℕ) (day : ℕ) (all : List Change) (parts : FileParts) (elsewhere : Vec Elsewhere)
@@ -96,11 +95,11 @@ module _ (thin : ThinRead) (is : IsThinRead thin) where
     needed_are_wanted : HaveSame needed (wanted_changes are.uids is.thinned)
     needed_are_wanted change = (
       λ among.
-          let passed = filter_back (λ (one : Change). is_wanted are.uids one.key) thin.kept change ((are.same change).0 among) in
-          filter_forth (λ (one : Change). is_wanted are.uids one.key) is.thinned change ((is.same change).1 passed.0) passed.1,
+          let passed = filter_back _ _ _ ((are.same change).0 among) in
+          filter_forth _ _ _ ((is.same change).1 passed.0) passed.1,
       λ among.
-          let passed = filter_back (λ (one : Change). is_wanted are.uids one.key) is.thinned change among in
-          (are.same change).1 (filter_forth (λ (one : Change). is_wanted are.uids one.key) thin.kept change ((is.same change).0 passed.0) passed.1),
+          let passed = filter_back _ _ _ among in
+          (are.same change).1 (filter_forth _ _ _ ((is.same change).0 passed.0) passed.1),
     )
 
     -- the UIDs are enough for the changes of the thinning
@@ -112,19 +111,14 @@ module _ (thin : ThinRead) (is : IsThinRead thin) where
 
     -- the bodies that the needed changes put consist of records
     pub parts_records : HaveRecords needed
-    parts_records change among =
-        op_records change.key (op_of change.act)
-        (kept_are_good thin is change (filter_back (λ (one : Change). is_wanted are.uids one.key) thin.kept change ((are.same change).0 among)).0)
+    parts_records change among = op_records _ _ (kept_are_good thin is change (filter_back _ _ _ ((are.same change).0 among)).0)
 
     -- the state that the needed changes make is the state of the wanted changes of the thinning
     pub parts_state : (lines : List (List ℕ)) → IsOfRecords thin.file lines → (state : State) → IsMadeState (ledger_item_of (parts.header ∷ [])) needed state
         → IsStateOfChanges lines (wanted_changes are.uids is.thinned) state
-    parts_state lines of state made =
-        state_of_same (ledger_item_of (parts.header ∷ [])) needed (wanted_changes are.uids is.thinned) needed_are_wanted lines state
-        (item_of_header parts.header lines (are.header ∙ of.header_is)) made
+    parts_state lines of state made = state_of_same (ledger_item_of (parts.header ∷ [])) _ (wanted_changes are.uids is.thinned) needed_are_wanted _ state
+        (item_of_header _ lines (are.header ∙ of.header_is)) made
 
     -- the state that the needed changes make is valid
     pub parts_valid : MakeValid (ledger_item_of (parts.header ∷ [])) needed
-    parts_valid state made =
-        wanted_valid thin.place thin.day is.read.records is.read.is_file is.read.few is.thinned (thinning_of_records thin is) are.uids state
-        (parts_state is.read.records is.read.of_records state made)
+    parts_valid state made = wanted_valid _ _ _ is.read.is_file is.read.few _ (thinning_of_records thin is) _ _ (parts_state _ is.read.of_records _ made)

@@ -1,9 +1,10 @@
 -- Each step of a walk that makes an excerpt preserves the properties of the walk that are proved
 -- here. `run` has the schedules of one UID, and `names` has the UIDs of associated trains.
-use Rattle.std.proofs.Common.{◌≡◌, ℕ, List, [], ◌∷◌, ◌++◌, refl, ap, sym, ◌∙◌, subst, inl, inr, ◌⊎◌, Bool, true, false, cond, Contains}
-use Rattle.std.specs.Prelude.{◌||◌, ◌↔◌, Option, Some, None}
+use Rattle.std.proofs.Common.{◌≡◌, ℕ, List, [], ◌∷◌, ◌++◌, ap, sym, ◌∙◌, subst, inl, inr, ◌⊎◌, Bool, true, false, cond, Contains, arith}
+use Rattle.std.proofs.lemmas.Grind.{common_steps}
+use Rattle.std.proofs.Common.{rules}
+use Rattle.std.specs.Prelude.{◌||◌, ◌↔◌}
 use Rattle.std.specs.Option.{option_to_list}
-use Rattle.std.specs.List.{cons_option}
 use Rattle.std.specs.List.Sorted.{IsSorted, IsPermutation}
 use Rattle.std.proofs.lemmas.List.Elements.{Contains-append_left, Contains-append_right, Contains-append_cases}
 use Rattle.std.proofs.lemmas.List.Sorted.{Contains-permutation, IsPermutation-sym}
@@ -12,35 +13,22 @@ use Rattle.docker_model.specs.state.Op.{Entry}
 use Rattle.docker_model.specs.state.Order.{bytes_cmp}
 use Rattle.docker_model.specs.state.State.{State}
 use Rattle.docker_model.specs.state.StatePart.{IsAboveEntries}
-use Rattle.docker_laws.specs.ExcerptWalk.{ExcerptSoFar, is_here, has_uid, name_in, names_in, is_call, is_run_needed, goes_on, excerpt_for, HasKept}
-use Rattle.docker_laws.proofs.dockers.ExcerptTurns.{kept_first, kept_alone, kept_here, kept_elsewhere, kept_joins, kept_begins, kept_last}
+use Rattle.docker_laws.specs.ExcerptWalk.{ExcerptSoFar, is_here, has_uid, name_in, names_in, is_call, goes_on, HasKept}
+use Rattle.docker_laws.proofs.dockers.ExcerptTurns.{kept_alone, kept_here, kept_elsewhere, kept_joins, kept_begins}
 use Rattle.docker_laws.proofs.dockers.ExcerptSteps.{names_stay, names_with}
 use Rattle.docker_excerpt.specs.Walked.{AreNames, IsWalk}
 
 abbrev Keyed : Type 0
 Keyed = Key × Entry
 
--- if there are no entries, the list of the associated trains' UIDs is empty
-pub no_names : AreNames [] []
-no_names uid = (λ among. among, λ among. among)
-
--- a walk that hasn't passed any entries has kept no entries
-pub walk_first : (place : List ℕ) → IsWalk place [] [] [] false []
-walk_first place = record { has_kept = kept_first place; told = no_names; sorted = inl refl }
-
 -- if `run` has no schedules, `needed` is false
 unneeded : (place : List ℕ) (entries kept run : List Keyed) (needed : Bool) → HasKept place entries kept run needed → run ≡ [] → needed ≡ false
-unneeded place entries kept run needed has none =
-    sym has.is_needed ∙ ap (λ (r : List Keyed). is_run_needed place (record { kept = kept; run = r })) none
+unneeded = search rules
 
 -- a list with a single entry names only the UID of the entry's associated train, or no UID if the
 -- entry has no associated train
 names_of_one : (key : Key) (entry : Entry) → names_in ((key, entry) ∷ []) ≡ option_to_list (name_in key entry.op)
-names_of_one key entry = by (name_in key entry.op)
-  where
-    by : (found : Option (List ℕ)) → cons_option found [] ≡ option_to_list found
-    by None = refl
-    by (Some name) = refl
+names_of_one = search rules
 
 -- if one more entry is kept, the UID of the entry's associated train, if any, is appended to the list `names`
 names_more : (names : List (List ℕ)) (kept : List Keyed) (key : Key) (entry : Entry) → AreNames names kept
@@ -65,9 +53,7 @@ module _ (place : List ℕ) (state : State) (kept run : List Keyed) (needed : Bo
   alone = kept_alone place state kept run needed is.has_kept
 
   as_it_was : (entries after : List Keyed) → run ≡ [] → HasKept place entries after [] false → HasKept place entries after run needed
-  as_it_was entries after none has =
-      subst (λ (r : List Keyed). HasKept place entries after r needed) (sym none)
-      (subst (λ (b : Bool). HasKept place entries after [] b) (sym (unneeded place state.entries kept run needed is.has_kept none)) has)
+  as_it_was = search (rules, unneeded)
 
   -- a TIPLOC or an association at the place is kept, and the UID of the association's associated train is appended to the list `names`
   pub walk_here : (key : Key) (entry : Entry) → IsAboveEntries state key → ((uid : List ℕ) → has_uid uid key ≡ false) → is_here place key ≡ true
@@ -82,25 +68,12 @@ module _ (place : List ℕ) (state : State) (kept run : List Keyed) (needed : Bo
   -- a TIPLOC or an association at another place isn't kept
   pub walk_elsewhere : (key : Key) (entry : Entry) → IsAboveEntries state key → ((uid : List ℕ) → has_uid uid key ≡ false) → is_here place key ≡ false
       → IsWalk place (state.entries ++ (key, entry) ∷ []) kept run needed names
-  walk_elsewhere key entry above never elsewhere = record {
-    has_kept = as_it_was (state.entries ++ (key, entry) ∷ []) kept (alone key above never)
-        (kept_elsewhere place state kept run needed is.has_kept key entry above never elsewhere);
-    told = is.told;
-    sorted = inl (alone key above never);
-  }
+  walk_elsewhere = search (rules, as_it_was, alone, kept_elsewhere)
 
   -- a schedule with the same UID as the schedules in `run` is added to `run`
   pub walk_joins : (key : ScheduleKey) (entry : Entry) → goes_on run key.uid ≡ true
       → IsWalk place (state.entries ++ (schedule_key key, entry) ∷ []) kept (run ++ (schedule_key key, entry) ∷ []) (needed || is_call place entry.op) names
-  walk_joins key entry goes = record {
-    has_kept = kept_joins place state.entries kept run needed is.has_kept key entry goes;
-    told = is.told;
-    sorted = by is.sorted;
-  }
-    where
-      by : (run ≡ []) ⊎ IsSorted bytes_cmp names → ((run ++ (schedule_key key, entry) ∷ []) ≡ []) ⊎ IsSorted bytes_cmp names
-      by (inl none) = absurd (let bad : false ≡ true = ap (λ (r : List Keyed). goes_on r key.uid) (sym none) ∙ goes in cc)
-      by (inr sorted) = inr sorted
+  walk_joins = grind (common_steps, arith, kept_joins)
 
   -- when the walk comes to a schedule with another UID, the schedules in `run` are kept or dropped,
   -- and then `run` has only the new schedule
@@ -116,14 +89,12 @@ module _ (place : List ℕ) (state : State) (kept run : List Keyed) (needed : Bo
     where
       begun : HasKept place (state.entries ++ (schedule_key key, entry) ∷ []) (cond needed (kept ++ run) kept) ((schedule_key key, entry) ∷ [])
           (named || is_call place entry.op)
-      begun =
-          kept_begins place state.entries kept run needed is.has_kept key entry named stops
+      begun = kept_begins _ state.entries _ run _ is.has_kept key _ named stops
           (λ told. (is.told key.uid).0 (tells.0 told), λ among. tells.1 ((is.told key.uid).1 among))
 
       still : names_in (cond needed (kept ++ run) kept) ≡ names_in kept
-      still =
-          sym (ap (λ (so_far : ExcerptSoFar). names_in so_far.kept) begun.so_far)
-          ∙ names_stay place state.entries key entry
+      still = sym (ap (λ (so_far : ExcerptSoFar). names_in so_far.kept) begun.so_far)
+          ∙ names_stay _ state.entries _ entry
           ∙ ap (λ (so_far : ExcerptSoFar). names_in so_far.kept) is.has_kept.so_far
 
   -- sorting the list `names` preserves `IsWalk`: it changes neither the passed entries nor the kept
@@ -137,7 +108,3 @@ module _ (place : List ℕ) (state : State) (kept run : List Keyed) (needed : Bo
     );
     sorted = inr sorted;
   }
-
-  -- at the end, the excerpt has the kept entries, followed by the schedules in `run` if they are needed
-  pub walk_last : (excerpt_for place state).entries ≡ cond needed (kept ++ run) kept
-  walk_last = kept_last place state kept run needed is.has_kept

@@ -1,16 +1,12 @@
 -- Each line's times follow the times of the lines before it.
-use Rattle.std.proofs.Common.{◌∙◌, Some}
-use Rattle.docker_model.specs.file.Journey.{times_along}
-use Rattle.docker_excerpt.specs.Midnights.{past_all}
+use Rattle.std.proofs.Common.{◌∙◌}
 use Rattle.docker_excerpt.proofs.MidnightLemmas.{rest_good, past_first, past_last, none_by, midnights_told}
 use Rattle.docker_excerpt.proofs.midnights.passes_midnight.Goals as goal
 
 pub loop-line-preserved : goal.loop-line-preserved
 loop-line-preserved c = record {
-  same = λ all.
-      past_first c.loop-line.last c.past_line-last.result (past_all (Some 0) (times_along c.args.lines.now)) c.loop-line.behind.now c.in-Some.rest.now
-      c.in-Some.line.now c.in-Some.ensures.cases.0 (c.loop-line.invariant.good all) c.past_line-last.ensures (c.loop-line.invariant.same all);
-  good = λ all. rest_good c.loop-line.behind.now c.in-Some.rest.now c.in-Some.line.now c.in-Some.ensures.cases.0 (c.loop-line.invariant.good all);
+  same = λ all. past_first _ _ _ _ _ _ c.in-Some.ensures.cases.0 (c.loop-line.invariant.good all) c.past_line-last.ensures (c.loop-line.invariant.same all);
+  good = λ all. rest_good _ _ _ c.in-Some.ensures.cases.0 (c.loop-line.invariant.good all);
 }
 
 pub returns : goal.returns

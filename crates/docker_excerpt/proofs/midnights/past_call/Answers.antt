@@ -5,8 +5,5 @@ use Rattle.docker_excerpt.proofs.MidnightLemmas.{past_three}
 use Rattle.docker_excerpt.proofs.midnights.past_call.Goals as goal
 
 pub returns-in-Ok : goal.returns-in-Ok
-returns-in-Ok c = λ good.
-    past_three c.args.last c.past.result c.arrival.result c.pass.result c.departure.result c.args.line.now c.in-Ok.view c.requires.kind
-    c.in-Ok.ensures.value c.arrival.ensures c.pass.ensures c.departure.ensures
-    (c.past.ensures
+returns-in-Ok c = λ good. past_three _ _ _ _ _ _ _ c.requires.kind c.in-Ok.ensures.value c.arrival.ensures c.pass.ensures c.departure.ensures (c.past.ensures
     ∙ ap (λ last. past last c.departure.result) (c.past-passed.ensures ∙ ap (λ last. past last c.pass.result) c.past-arrived.ensures))

@@ -4,12 +4,9 @@ use Rattle.docker_excerpt.proofs.MidnightLemmas.{not_reached, reached_later}
 use Rattle.docker_excerpt.proofs.reach.may_reach.Goals as goal
 
 pub returns-then-not-runs_before : goal.returns-then-not-runs_before
-returns-then-not-runs_before c = λ is.
-    not_reached c.args.day c.number-day.result c.number-day.ensures.value c.args.lines.now c.in-Some.view is c.in-Some.ensures.some c.runs_on.result
-    c.runs_before.result c.runs_on.ensures c.if-runs_on.false c.runs_before.ensures c.if-not-runs_before.true
+returns-then-not-runs_before c = λ is. not_reached _ _ c.number-day.ensures.value _ _ is c.in-Some.ensures.some _
+    _ c.runs_on.ensures c.if-runs_on.false c.runs_before.ensures c.if-not-runs_before.true
 
 pub returns : goal.returns
-returns c = λ is.
-    reached_later c.args.day c.number-day.result c.number-day.ensures.value c.args.lines.now c.in-Some.view is c.in-Some.ensures.some c.runs_on.result
-    c.runs_before.result c.runs_on.ensures c.if-runs_on.false c.runs_before.ensures c.if-not-runs_before.false c.passes_midnight.result
-    c.passes_midnight.ensures
+returns c = λ is. reached_later _ _ c.number-day.ensures.value _ _ is c.in-Some.ensures.some _
+    _ c.runs_on.ensures c.if-runs_on.false c.runs_before.ensures c.if-not-runs_before.false _ c.passes_midnight.ensures

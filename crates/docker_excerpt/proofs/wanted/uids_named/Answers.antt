@@ -1,7 +1,7 @@
 -- Each change adds the UID that its key names, if there is one. Sorting changes only the order.
-use Rattle.std.proofs.Common.{◌∙◌, map, sym, ap}
-use Rattle.cif_change.specs.Meaning.{change_meant, key_meant}
-use Rattle.docker_excerpt.specs.Elsewhere.{uid_named, uids_named}
+use Rattle.std.proofs.Common.{◌∙◌, sym, ap}
+use Rattle.cif_change.specs.Meaning.{key_meant}
+use Rattle.docker_excerpt.specs.Elsewhere.{uid_named}
 use Rattle.docker_excerpt.proofs.WalkSteps.{names_with_some, names_with_none}
 use Rattle.docker_excerpt.proofs.NeededChanges.{uids_more, uids_whole, same_sorted}
 use Rattle.docker_excerpt.proofs.wanted.uids_named.Goals as goal
@@ -14,17 +14,11 @@ loop-change-preserved c =
     elim c.match-uid_named.branch [
       | in-Some+in_ok-push w ↦
           uids_more c.args.made.now c.loop-change.change-index c.change-item.result c.loop-change-test.true (sym c.change-item.is) before
-          c.match-uid_named.uids.items c.loop-change.invariant
-          (ap (λ uids. uids.items) w.uids-is
-          ∙ names_with_some before w.push.new.self.items w.in-Some.uid c.uid_named.result found w.in_ok-push.ensures.items w.in-Some.is c.uid_named.ensures)
-      | in_default w ↦
-          uids_more c.args.made.now c.loop-change.change-index c.change-item.result c.loop-change-test.true (sym c.change-item.is) before
-          c.match-uid_named.uids.items c.loop-change.invariant
-          (ap (λ uids. uids.items) w.uids-is ∙ names_with_none before c.uid_named.result found w.in_default.is c.uid_named.ensures)
+          c.match-uid_named.uids.items c.loop-change.invariant (ap (λ uids. uids.items) w.uids-is
+          ∙ names_with_some _ _ _ _ _ w.in_ok-push.ensures.items w.in-Some.is c.uid_named.ensures)
+      | in_default w ↦ uids_more c.args.made.now c.loop-change.change-index c.change-item.result c.loop-change-test.true (sym c.change-item.is) before
+          c.match-uid_named.uids.items c.loop-change.invariant (ap (λ uids. uids.items) w.uids-is ∙ names_with_none _ _ _ w.in_default.is c.uid_named.ensures)
     ]
 
 pub returns-clause-named : goal.returns-clause-named
-returns-clause-named c =
-    same_sorted (uids_named (map change_meant c.args.made.now)) c.loop-change.uids.items c.sort_unstable.new.self.items
-    (uids_whole c.args.made.now c.loop-change.change-index c.loop-change.uids.items c.loop-change-test.false c.loop-change.invariant)
-    c.sort_unstable.ensures.permutation
+returns-clause-named c = same_sorted _ _ _ (uids_whole _ _ _ c.loop-change-test.false c.loop-change.invariant) c.sort_unstable.ensures.permutation

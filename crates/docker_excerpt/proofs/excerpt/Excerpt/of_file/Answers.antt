@@ -8,12 +8,10 @@ use Rattle.docker_excerpt.proofs.ThinParts.{uids_of_thinning, parts_records, par
 use Rattle.docker_excerpt.proofs.excerpt.Excerpt.of_file.Goals as goal
 
 pub of_parts-requires-clause-records : goal.of_parts-requires-clause-records
-of_parts-requires-clause-records c =
-    parts_records c.args.file c.header-header.ensures.read c.in_ok-parts.parts c.in_ok-parts.ensures
+of_parts-requires-clause-records c = parts_records _ c.header-header.ensures.read c.in_ok-parts.parts c.in_ok-parts.ensures
 
 pub of_parts-requires-clause-valid : goal.of_parts-requires-clause-valid
-of_parts-requires-clause-valid c =
-    parts_valid c.args.file c.header-header.ensures.read c.in_ok-parts.parts c.in_ok-parts.ensures
+of_parts-requires-clause-valid c = parts_valid _ c.header-header.ensures.read c.in_ok-parts.parts c.in_ok-parts.ensures
 
 pub of-requires : goal.of-requires
 of-requires c =

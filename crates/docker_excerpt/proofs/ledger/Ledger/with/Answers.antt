@@ -8,10 +8,8 @@ use Rattle.docker_excerpt.proofs.ledger.Ledger.with.Goals as goal
 pub returns-clause-valid : goal.returns-clause-valid
 returns-clause-valid c =
     let it = c.self.inside in
-    valid_with it.parts it.last it.count it.given.entries c.args.self.now c.self.view_is c.self.invariant (key_meant c.args.key.now)
-    (entry_meant c.args.entry.now) c.requires.here c.requires.op c.with.result.entries
+    valid_with _ _ _ _ _ c.self.view_is c.self.invariant _ _ c.requires.here c.requires.op _
     (c.with.ensures ∙ ap (λ (told : State). told.entries ++ (key_meant c.args.key.now, entry_meant c.args.entry.now) ∷ []) c.self.view_is)
 
 pub returns-clause-last : goal.returns-clause-last
-returns-clause-last c =
-    last_with c.self.inside.given.entries c.with.result.entries (key_meant c.args.key.now) (entry_meant c.args.entry.now) c.with.ensures
+returns-clause-last c = last_with _ _ _ _ c.with.ensures

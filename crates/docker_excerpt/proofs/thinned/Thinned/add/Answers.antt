@@ -6,8 +6,7 @@ use Rattle.cif_change.specs.Meaning.{change_meant}
 use Rattle.docker_excerpt.proofs.thinned.Thinned.add.Goals as goal
 
 pub returns-then-not-may_matter : goal.returns-then-not-may_matter
-returns-then-not-may_matter c = λ never place day.
-    elsewhere_dropped place day c.args.self.now _ (change_meant c.args.change) refl (sym c.may_matter.ensures ∙ c.if-not-may_matter.true)
+returns-then-not-may_matter c = λ never place day. elsewhere_dropped _ _ _ _ _ refl (sym c.may_matter.ensures ∙ c.if-not-may_matter.true)
 
 pub returns : goal.returns
 returns c =

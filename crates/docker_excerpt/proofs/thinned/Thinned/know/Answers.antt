@@ -7,6 +7,5 @@ use Rattle.docker_excerpt.proofs.ThinLemmas.{set_knows}
 use Rattle.docker_excerpt.proofs.thinned.Thinned.know.Goals as goal
 
 pub returns-in-Ok-clause-known : goal.returns-in-Ok-clause-known
-returns-in-Ok-clause-known c =
-    subst (λ (k : Key). KnowsMore c.args.self.now.keys (key_meant k) c.insert.new.self) (sym c.in-Schedule.is)
-    (set_knows c.args.self.now.keys c.insert.new.self c.in-Schedule.schedule c.in-Ok.ensures.updates)
+returns-in-Ok-clause-known c = subst (λ (k : Key). KnowsMore c.args.self.now.keys (key_meant k) c.insert.new.self) (sym c.in-Schedule.is)
+    (set_knows _ _ _ c.in-Ok.ensures.updates)
