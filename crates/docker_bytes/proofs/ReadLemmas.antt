@@ -1,5 +1,5 @@
 -- Reading a source: the bytes that the parser was fed are exactly the bytes that the source held.
-use Rattle.std.proofs.Common.{◌≡◌, ◌≢◌, ℕ, ◌<◌, List, [], ◌∷◌, ◌++◌, length, take, drop, refl, ap, sym, ◌∙◌, subst, inl, inr}
+use Rattle.std.proofs.Common.{◌≡◌, ◌≢◌, ℕ, ◌<◌, List, [], ◌∷◌, ◌++◌, length, take, drop, refl, ap, sym, ◌∙◌, subst, inl, inr, rules}
 use Rattle.std.proofs.Common.{◌⊎◌, arith, append_assoc, append-nil, length-drop, Some, None, Err, Result}
 use Rattle.std.specs.Prelude.{Option, Ok, IfErr, IsOk, OnOk, ◌^◌}
 use Rattle.std.proofs.lemmas.List.{take-append-drop}
@@ -29,42 +29,16 @@ use Rattle.docker_bytes.proofs.TextEnd.{sound_text}
 -- ---- the parser's fault determines the read fault
 
 none_is_memory : (c : StateCause) → cause_meant c ≡ None → c ≡ cause.Memory
-none_is_memory cause.Mark is = cc
-none_is_memory cause.Item is = cc
-none_is_memory cause.Order is = cc
-none_is_memory cause.Floor is = cc
-none_is_memory cause.Tag is = cc
-none_is_memory cause.Stamp is = cc
-none_is_memory cause.Body is = cc
-none_is_memory cause.Short is = cc
-none_is_memory cause.Tail is = cc
-none_is_memory cause.Long is = cc
-none_is_memory cause.Memory is = refl
-none_is_memory cause.Horizon is = cc
+none_is_memory = search rules
 
 memory_or_not : (c : StateCause) → (c ≡ cause.Memory) ⊎ (c ≢ cause.Memory)
-memory_or_not cause.Mark = inr (λ same. cc)
-memory_or_not cause.Item = inr (λ same. cc)
-memory_or_not cause.Order = inr (λ same. cc)
-memory_or_not cause.Floor = inr (λ same. cc)
-memory_or_not cause.Tag = inr (λ same. cc)
-memory_or_not cause.Stamp = inr (λ same. cc)
-memory_or_not cause.Body = inr (λ same. cc)
-memory_or_not cause.Short = inr (λ same. cc)
-memory_or_not cause.Tail = inr (λ same. cc)
-memory_or_not cause.Long = inr (λ same. cc)
-memory_or_not cause.Memory = inl refl
-memory_or_not cause.Horizon = inr (λ same. cc)
+memory_or_not = search rules
 
 -- if the read fault is a fault of the text, it equals the parser's fault, whose cause isn't `Memory`
 not_memory : {A : Type 0} (found told : StateFault) (result : ReadFault) → (found.cause ≡ cause.Memory → result ≡ fault.Memory)
     → (found.cause ≢ cause.Memory → result ≡ fault.State found)
     → ◌≡◌ {A = Result A ReadFault} (Err result) (Err (fault.State told)) → (found ≡ told) × (found.cause ≢ cause.Memory)
-not_memory found told result memory state is = by (memory_or_not found.cause)
-  where
-    by : (found.cause ≡ cause.Memory) ⊎ (found.cause ≢ cause.Memory) → (found ≡ told) × (found.cause ≢ cause.Memory)
-    by (inl wanting) = absurd (let from = memory wanting in cc)
-    by (inr other) = (let from = state other in cc, other)
+not_memory = search (rules, memory_or_not)
 
 told_so_far : (format : Format) (limit : ℕ) (text piece rest : List ℕ) (at : ℕ) (c : StateCause) → c ≢ cause.Memory
     → IsCauseSoFar format limit text piece at (cause_meant c)
@@ -78,11 +52,7 @@ told_so_far format limit text piece rest at c other = by (cause_meant c) refl
 
 told_at_end : (format : Format) (limit : ℕ) (text : List ℕ) (at : ℕ) (c : StateCause) → c ≢ cause.Memory → IsCauseAtEnd format limit text at (cause_meant c)
     → IsCauseOf format limit text at (cause_meant c)
-told_at_end format limit text at c other = by (cause_meant c) refl
-  where
-    by : (o : Option model.StateCause) → cause_meant c ≡ o → IsCauseAtEnd format limit text at o → IsCauseOf format limit text at o
-    by None is told = other (none_is_memory c is)
-    by (Some k) is short = inr (inr (inl short))
+told_at_end = search (rules, none_is_memory)
 
 -- if a fault of the text is returned for a piece, this fault is the fault of each text that begins
 -- with the bytes up to the piece's end
@@ -99,33 +69,20 @@ pub ended_for : {A : Type 0} (format : Format) (limit : ℕ) (text : List ℕ) (
     → IsUnended format limit text found → (found.cause ≡ cause.Memory → result ≡ fault.Memory)
     → (found.cause ≢ cause.Memory → result ≡ fault.State found)
     → EndsText format limit text IsMade (Err result)
-ended_for format limit text IsMade found result at_end memory state = by (memory_or_not found.cause)
-  where
-    by : (found.cause ≡ cause.Memory) ⊎ (found.cause ≢ cause.Memory) → EndsText format limit text IsMade (Err result)
-    by (inl wanting) =
-        subst (λ (told : ReadFault). EndsText format limit text IsMade (Err told)) (sym (memory wanting))
-        (subst (λ c. IsCauseAtEnd format limit text found.at (cause_meant c)) wanting at_end).0
-    by (inr other) =
-        subst (λ (told : ReadFault). EndsText format limit text IsMade (Err told)) (sym (state other))
-        (told_at_end format limit text found.at found.cause other at_end)
+ended_for = search (rules, memory_or_not, told_at_end)
 
 -- if the read fault is `Memory`, the cause of the parser's fault is `Memory`
 is_memory : {A : Type 0} (found : StateFault) (result : ReadFault) → (found.cause ≢ cause.Memory → result ≡ fault.State found)
     → ◌≡◌ {A = Result A ReadFault} (Err result) (Err fault.Memory)
     → found.cause ≡ cause.Memory
-is_memory found result state is = by (memory_or_not found.cause)
-  where
-    by : (found.cause ≡ cause.Memory) ⊎ (found.cause ≢ cause.Memory) → found.cause ≡ cause.Memory
-    by (inl wanting) = wanting
-    by (inr other) = absurd (let from = state other in cc)
+is_memory = search (rules, memory_or_not)
 
 -- if `Memory` is returned for a piece, there was no memory for a part that ends in the piece
 pub told_as_memory : {A : Type 0} (format : Format) (limit : ℕ) (text piece : List ℕ) (found : StateFault) (result : ReadFault)
     → IsFaultReported format limit text piece found
     → (found.cause ≢ cause.Memory → result ≡ fault.State found) → ◌≡◌ {A = Result A ReadFault} (Err result) (Err fault.Memory)
     → (at : ℕ) × IsWanting format limit text piece at
-told_as_memory format limit text piece found result so_far state is =
-    (found.at, subst (λ c. IsCauseSoFar format limit text piece found.at (cause_meant c)) (is_memory found result state is) so_far)
+told_as_memory = search (rules, is_memory)
 
 -- ---- bytes after the state
 
@@ -205,15 +162,13 @@ held_all (Some told) (Some rest) text lost end =
 -- held
 pub reads_all : {K : Type 0} (settings : StateSettings) (count : ℕ) (initial now : Option (List ℕ)) (parser : ParserState K)
     → HasFed TakesState count settings [] initial now parser → IsEnd now → ReadsAll settings.format settings.limit initial parser
-reads_all settings count initial now parser at end =
-    record { text = at.bytes; held = held_all initial now at.bytes at.lost end; read = at.taken.read }
+reads_all = search (rules, held_all)
 
 -- if a parser has read a text, the format and the limit of this reading are the parser's format and
 -- limit
 pub unread : {K : Type 0} (parser : ParserState K) (format : Format) (limit : ℕ) (text : List ℕ) → HasRead parser format limit text
     → HasRead parser (format_of parser.reading) parser.reading.limit text
-unread parser format limit text has =
-    record { no_fault = has.no_fault; sound = has.sound; format_is = refl; limit_is = refl; text_is = has.text_is }
+unread = search rules
 
 -- a statement about the parser's format and limit also holds for the format and the limit with
 -- which the parser was made
@@ -252,20 +207,13 @@ loses_few settings initial next more = record {
 -- if a parser refuses a piece because memory ran out, there was no memory for a part that ends in the piece
 wants_part : {K : Type 0} (settings : StateSettings) (initial next : Option (List ℕ)) (parser : ParserState K)
     → HasRefused TakesState RefusesPart 65536 settings [] initial next parser fault.Memory → WantsSoFar settings.format 65536 settings.limit initial next
-wants_part settings initial next parser has =
-    let wanting = has.refused.memory refl in
-    let more = has.more in
-    inr (record { text = more.bytes; piece = more.piece; lost = more.lost; few = more.few; at = wanting.0; wanting = wanting.1 })
+wants_part = search rules
 
 -- ---- how reading ends
 
 -- if a source is unchanged, nothing was read from it
 pub nothing_lost : (initial next : Option (List ℕ)) → next ≡ initial → Reads initial [] next
-nothing_lost initial next same = subst (Reads initial []) (sym same) (at initial)
-  where
-    at : (left : Option (List ℕ)) → Reads left [] left
-    at None = refl
-    at (Some left) = refl
+nothing_lost = search rules
 
 -- if the parser refuses a piece, reading ends with the fault of this piece
 pub refused_ends : {K : Type 0} (settings : StateSettings) (initial next : Option (List ℕ)) (parser : ParserState K) (told : ReadFault) (failed failed_now : ℕ)
@@ -274,23 +222,14 @@ pub refused_ends : {K : Type 0} (settings : StateSettings) (initial next : Optio
     → StopsReading settings.format settings.limit initial next (IsWhyUnread WantsSoFar settings.format settings.limit initial next (Some told))
     (CountsWhy (Some told) failed failed_now)
 refused_ends settings initial next parser fault.Source failed failed_now few same has = absurd (has.refused.apart refl)
-refused_ends settings initial next parser (fault.State found) failed failed_now few same has =
-    record { few = few; outcome = refused_within settings initial next parser found has; failures = same }
-refused_ends settings initial next parser fault.Memory failed failed_now few same has =
-    record { few = few; outcome = wants_part settings initial next parser has; failures = same }
+refused_ends settings initial next parser (fault.State found) failed failed_now few same has = search (rules, refused_within)
+refused_ends settings initial next parser fault.Memory failed failed_now few same has = search (rules, wants_part)
 
 -- `WantsMemory` also covers the end of the text, so a reason to stop that satisfies `WantsSoFar` also satisfies `WantsMemory`
 pub ends_early : (format : Format) (limit : ℕ) (initial next : Option (List ℕ)) (told : ReadFault) (failed failed_now : ℕ)
     → StopsReading format limit initial next (IsWhyUnread WantsSoFar format limit initial next (Some told)) (CountsWhy (Some told) failed failed_now)
     → StopsReading format limit initial next (IsWhyUnread WantsMemory format limit initial next (Some told)) (CountsWhy (Some told) failed failed_now)
-ends_early format limit initial next fault.Source failed failed_now ends = ends
-ends_early format limit initial next (fault.State found) failed failed_now ends = ends
-ends_early format limit initial next fault.Memory failed failed_now ends =
-    record { few = ends.few; outcome = wants_more ends.outcome; failures = ends.failures }
-  where
-    wants_more : WantsSoFar format 65536 limit initial next → WantsMemory format 65536 limit initial next
-    wants_more (inl nothing) = inl nothing
-    wants_more (inr part) = inr (inl part)
+ends_early = search rules
 
 -- if all bytes of a source were read, reading ends with the result that the parser returns for
 -- these bytes
@@ -321,9 +260,7 @@ pub ends_with : {S A E : Type 0} (wants : Wanting) (why : E → Option ReadFault
     (IsMade IsRead : A → Type 0) (source source_now : S) (result : Result A E) → ((made : A) → IsMade made → IsRead made)
     → EndsReadingBy wants why left failures format limit IsMade source source_now result
     → EndsReadingBy wants why left failures format limit IsRead source source_now result
-ends_with wants why left failures format limit IsMade IsRead source source_now (Ok made) of ends =
-    record { few = ends.few; outcome = of made ends.outcome; failures = ends.failures }
-ends_with wants why left failures format limit IsMade IsRead source source_now (Err fault) of ends = ends
+ends_with = search rules
 
 -- a keeper makes a value from the parts of a state. If this value is the state itself, the text
 -- that was read is the text of this state
@@ -334,22 +271,16 @@ made_itself format limit text made of = subst (IsStateText format limit text) (s
 -- if the value that a keeper makes is the state itself, it is the state whose text the source held
 pub read_itself : (format : Format) (limit : ℕ) (initial : Option (List ℕ)) (made : State) → ReadsMade (λ made state. made ≡ state) format limit initial made
     → ReadsState format limit initial made
-read_itself format limit initial made read =
-    record { text = read.text; held = read.held; is = made_itself format limit read.text made read.of }
+read_itself = search (rules, made_itself)
 
 -- if the value that a keeper makes is a state with a raised horizon, it is the state whose text the
 -- source held, after its horizon was raised
 pub read_raised : (format : Format) (limit : ℕ) (initial : Option (List ℕ)) (day : ℕ) (made : State)
     → ReadsMade (λ made state. made ≡ raise_horizon day state) format limit initial made → RaisesState format limit initial day made
-read_raised format limit initial day made read = record {
-  own = read.of.state;
-  reads = record { text = read.text; held = read.held; is = read.of.is };
-  raised = read.of.made_of;
-}
+read_raised = search rules
 
 -- suppose that a source held a text, and that `after` is the join with the state that has this
 -- text. Then `after` is the join with the state whose text the source held
 pub joined : (format : Format) (limit : ℕ) (initial : Option (List ℕ)) (text : List ℕ) (own after : State) → Held initial text
     → JoinsText format limit text own after → JoinsState format limit initial own after
-joined format limit initial text own after held joins =
-    record { received = joins.received; read = record { text = text; held = held; is = joins.is }; join = joins.join }
+joined = search rules

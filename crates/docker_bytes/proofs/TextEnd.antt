@@ -1,14 +1,15 @@
 -- If a reading has no next part, the text that was read is the text of a whole state. Otherwise it
 -- isn't.
-use Rattle.std.proofs.Common.{◌≡◌, ℕ, ◌<◌, ◌≤◌, List, [], ◌++◌, length, refl, ap, sym, ◌∙◌, subst, inl, inr, ◌⊎◌, arith, append-nil, length-append, None}
+use Rattle.std.proofs.Common.{◌≡◌, ℕ, ◌<◌, ◌≤◌, List, length, refl, ap, sym, ◌∙◌, subst, inl, inr, ◌⊎◌, arith, append-nil, length-append, None}
+use Rattle.std.proofs.lemmas.Grind.{common_steps}
+use Rattle.std.proofs.Common.{rules}
 use Rattle.docker_model.specs.state.State.{State}
-use Rattle.docker_model.specs.state.StateText.{Format, state_text}
-use Rattle.docker_model.specs.state.StatePart.{at_end, items_before, text_before, width, AreGood}
+use Rattle.docker_model.specs.state.StateText.{Format}
+use Rattle.docker_model.specs.state.StatePart.{at_end, items_before, text_before, width}
 use Rattle.docker_model.specs.state.StateFault.{too_short, IsShort, IsStateText}
 use Rattle.state_laws.proofs.texts.TextOrFault.{end_or_part}
 use Rattle.state_laws.proofs.texts.OneStateFault.{no_fault_of_state}
 use Rattle.state_text.specs.declared.stage.Stage.{Stage}
-use Rattle.state_text.specs.declared.stage.Stage.TheVariants as stage
 use Rattle.docker_bytes.specs.declared.reading.StateReading.{StateReading}
 use Rattle.state_text.specs.Stage.{stage_meant}
 use Rattle.docker_bytes.specs.StateReading.{format_of, before_of, text_of, IsReading, IsWhole, IsOpen, IsCauseAtEnd}
@@ -17,67 +18,27 @@ use Rattle.std.proofs.lemmas.Bool.{cases_lt}
 use Rattle.std.proofs.lemmas.List.{nil_from_length}
 
 state_at_end : (p : Stage) (parts state : State) (lines : List (List ℕ)) → stage_meant p parts lines ≡ at_end state → state ≡ parts
-state_at_end stage.Mark parts state lines is = cc
-state_at_end stage.Horizon parts state lines is = cc
-state_at_end stage.LedgerCount parts state lines is = cc
-state_at_end (stage.Item count) parts state lines is = cc
-state_at_end stage.EntryCount parts state lines is = cc
-state_at_end (stage.Tag count) parts state lines is = cc
-state_at_end (stage.Key count kind) parts state lines is = cc
-state_at_end (stage.Stamp count key) parts state lines is = cc
-state_at_end (stage.Op count key stamp) parts state lines is = cc
-state_at_end (stage.Body count key stamp) parts state lines is = cc
-state_at_end (stage.Line count key stamp n) parts state lines is = cc
-state_at_end stage.End parts state lines is = cc
+state_at_end = search rules
 
 -- if there is no next part, all parts have been read
 at_its_end : {K : Type 0} (reading : StateReading K) → IsReading reading → width (before_of reading) ≡ 0 → before_of reading ≡ at_end reading.parts
-at_its_end reading is none = by (end_or_part (format_of reading) (before_of reading) is.ready.good)
-  where
-    by : ((state : State) × (before_of reading ≡ at_end state)) ⊎ (0 < width (before_of reading)) → before_of reading ≡ at_end reading.parts
-    by (inr some) = absurd (omega arith)
-    by (inl told) = told.1 ∙ ap at_end (state_at_end reading.stage reading.parts told.0 reading.lines told.1)
+at_its_end = search (rules, end_or_part, state_at_end)
 
 -- if there is no next part, the text that was read is the text of a whole state
 pub whole_text : {K : Type 0} (reading : StateReading K) → IsReading reading → width (before_of reading) ≡ 0
     → IsStateText (format_of reading) reading.limit (text_of reading) reading.parts
-whole_text reading is none = record {
-  valid = subst (AreGood (format_of reading)) end is.ready.good;
-  is = ap (λ b. text_before (format_of reading) b ++ reading.partial.items) end
-      ∙ ap (λ xs. (state_text (format_of reading) reading.parts ++ []) ++ xs) (nil_from_length reading.partial.items empty)
-      ∙ append-nil (state_text (format_of reading) reading.parts ++ []) ∙ append-nil (state_text (format_of reading) reading.parts);
-  within = (let size = length-append (text_before (format_of reading) (before_of reading)) reading.partial.items in let reached = is.reached_is in
-      let within = is.within in omega arith);
-}
-  where
-    end : before_of reading ≡ at_end reading.parts
-    end = at_its_end reading is none
-
-    empty : length reading.partial.items ≡ 0
-    empty = let short = is.short in omega arith
+whole_text = search (rules, nil_from_length, append-nil, length-append, at_its_end)
 
 -- if there is no next part and memory runs out, the offset of the fault is the end of the text
 pub wanting_at_end : {K : Type 0} (reading : StateReading K) → IsReading reading → width (before_of reading) ≡ 0
     → IsCauseAtEnd (format_of reading) reading.limit (text_of reading) reading.item_at None
-wanting_at_end reading is none =
-    let whole = whole_text reading is none in
-    ((reading.parts, whole), is.item_is ∙ ap length (ap (items_before (format_of reading)) (at_its_end reading is none) ∙ sym whole.is))
+wanting_at_end = grind (common_steps, arith, whole_text, at_its_end)
 
 -- if there is a next part, the text is too short, and the offset of the fault is the beginning of
 -- this part's item
 pub short_at_end : {K : Type 0} (reading : StateReading K) → IsReading reading → 0 < width (before_of reading)
     → IsShort (format_of reading) reading.limit (text_of reading) (record { at = reading.item_at; cause = too_short })
-short_at_end reading is some = record {
-  before = before_of reading;
-  good = is.ready.good;
-  rest = reading.partial.items;
-  whole = refl;
-  ends = (let short = is.short in omega arith);
-  within = (let size = length-append (text_before (format_of reading) (before_of reading)) reading.partial.items in let reached = is.reached_is in
-      let within = is.within in omega arith);
-  cause = refl;
-  item_at = is.item_is;
-}
+short_at_end = search (rules, length-append)
 
 -- if there is a next part, the state needs more bytes
 pub open_reading : {K : Type 0} (reading : StateReading K) → IsReading reading → 0 < width (before_of reading)
@@ -105,8 +66,7 @@ not_both format limit text open_one whole = no_fault_of_state format limit text 
 -- text of a whole state
 pub sound_text : {K : Type 0} (parser : ParserState K) (format : Format) (limit : ℕ) (text : List ℕ) → HasRead parser format limit text
     → IsOpen format limit text ⊎ IsWhole format limit text
-sound_text parser format limit text has =
-    subst (λ f. IsOpen f limit text ⊎ IsWhole f limit text) has.format_is
+sound_text parser format limit text has = subst (λ f. IsOpen f limit text ⊎ IsWhole f limit text) has.format_is
     (subst (λ n. IsOpen (format_of parser.reading) n text ⊎ IsWhole (format_of parser.reading) n text) has.limit_is
     (subst (λ xs. IsOpen (format_of parser.reading) parser.reading.limit xs ⊎ IsWhole (format_of parser.reading) parser.reading.limit xs) has.text_is
     (by (cases_lt 0 (width (before_of parser.reading))))))
@@ -114,16 +74,15 @@ sound_text parser format limit text has =
     by : (0 < width (before_of parser.reading)) ⊎ (width (before_of parser.reading) ≤ 0)
         → IsOpen (format_of parser.reading) parser.reading.limit (text_of parser.reading) ⊎ IsWhole (format_of parser.reading) parser.reading.limit
         (text_of parser.reading)
-    by (inl some) = inl (open_reading parser.reading has.sound some)
-    by (inr none) = inr (parser.reading.parts, whole_text parser.reading has.sound (omega arith))
+    by (inl some) = inl (open_reading _ has.sound some)
+    by (inr none) = inr (parser.reading.parts, whole_text _ has.sound (omega arith))
 
 -- if there is a next part, the text that a parser has read isn't whole
 pub not_whole_yet : {K : Type 0} (parser : ParserState K) (reading : StateReading K) (format : Format) (limit : ℕ) (text : List ℕ) → parser.reading ≡ reading
     → HasRead parser format limit text → ¬ (width (before_of reading) ≡ 0) → ¬ IsWhole format limit text
 not_whole_yet parser reading format limit text same has some whole =
-    let read = open_reading parser.reading has.sound
-    (above_none (width (before_of parser.reading)) (λ none. some (sym (ap (λ r. width (before_of r)) same) ∙ none))) in
-    not_both format limit text (subst (λ f. IsOpen f limit text) has.format_is
+    let read = open_reading _ has.sound (above_none (width (before_of parser.reading)) (λ none. some (sym (ap (λ r. width (before_of r)) same) ∙ none))) in
+    not_both _ _ _ (subst (λ f. IsOpen f limit text) has.format_is
     (subst (λ n. IsOpen (format_of parser.reading) n text) has.limit_is (subst (IsOpen (format_of parser.reading) parser.reading.limit) has.text_is read)))
     whole
   where

@@ -27,10 +27,9 @@ returns-in-Ok-clause-reads g c =
 pub returns-in-Err-Source-clause-reads : goal.returns-in-Err-Source-clause-reads
 returns-in-Err-Source-clause-reads g c =
     let settings = settings_of c.args.parser.now in
-    let start = at_start c.args.parser.now c.requires.unread c.requires.limit in
+    let start = at_start _ c.requires.unread c.requires.limit in
     record {
-      few = loses_few settings (g.S.Source.left c.args.source.now) (g.S.Source.left c.feed_all.new.source)
-          (c.in-Err-Source.ensures.no_further settings [] start);
+      few = loses_few _ _ _ (c.in-Err-Source.ensures.no_further settings [] start);
       outcome = tt;
       failures = c.in-Err-Source.ensures.failures.0.0 (ap Err c.in-Err-Source.field-0-is);
     }
@@ -53,12 +52,11 @@ returns-in-Err-Memory-clause-reads g c =
 pub returns-in-Err-Refused-clause-reads : goal.returns-in-Err-Refused-clause-reads
 returns-in-Err-Refused-clause-reads g c =
     let settings = settings_of c.args.parser.now in
-    let start = at_start c.args.parser.now c.requires.unread c.requires.limit in
+    let start = at_start _ c.requires.unread c.requires.limit in
     let left = g.S.Source.left c.args.source.now in
     let left_now = g.S.Source.left c.feed_all.new.source in
     let from = c.in-Err-Refused.field-0-is in
     let refused = subst (λ told. EndsFeeding TakesState RefusesPart c.args.parser.now c.feed_all.new.taker left left_now (Err told)) from
     c.in-Err-Refused.ensures.ends in
-    refused_ends settings left left_now c.feed_all.new.taker c.in-Err-Refused.fault (g.S.Source.failures c.args.source.now)
-    (g.S.Source.failures c.feed_all.new.source) (loses_few settings left left_now (c.in-Err-Refused.ensures.no_further settings [] start))
+    refused_ends _ _ _ _ _ _ _ (loses_few _ _ _ (c.in-Err-Refused.ensures.no_further settings [] start))
     (c.in-Err-Refused.ensures.failures.1 (λ is. cc)) (refused settings [] start)

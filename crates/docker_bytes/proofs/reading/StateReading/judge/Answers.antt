@@ -13,17 +13,13 @@ take_line-requires-clause-inner g c =
     }
 
 pub returns-then-begins_item-clause-ok : goal.returns-then-begins_item-clause-ok
-returns-then-begins_item-clause-ok g c = λ ok.
-    part_read c.args.self.now _ c.args.bytes.now c.requires.reading c.requires.fresh c.requires.wide c.requires.some
-    (λ i. let fits = c.type_inv.bytes i in omega arith) c.requires.fits
-    c.in-Ok.ensures c.requires.fresh refl refl refl
+returns-then-begins_item-clause-ok g c = λ ok. part_read _ _ _ c.requires.reading c.requires.fresh c.requires.wide c.requires.some
+    (λ i. let fits = c.type_inv.bytes i in omega arith) c.requires.fits c.in-Ok.ensures c.requires.fresh refl refl refl
     (inl (sym (c.begins_item.ensures c.step.new.parts c.step.new.lines) ∙ c.if-begins_item.true, refl))
 
 pub returns-else-begins_item-clause-ok : goal.returns-else-begins_item-clause-ok
-returns-else-begins_item-clause-ok g c = λ ok.
-    part_read c.args.self.now _ c.args.bytes.now c.requires.reading c.requires.fresh c.requires.wide c.requires.some
-    (λ i. let fits = c.type_inv.bytes i in omega arith) c.requires.fits
-    c.in-Ok.ensures c.requires.fresh refl refl refl
+returns-else-begins_item-clause-ok g c = λ ok. part_read _ _ _ c.requires.reading c.requires.fresh c.requires.wide c.requires.some
+    (λ i. let fits = c.type_inv.bytes i in omega arith) c.requires.fits c.in-Ok.ensures c.requires.fresh refl refl refl
     (inr (sym (c.begins_item.ensures c.step.new.parts c.step.new.lines) ∙ c.if-begins_item.false, refl))
 
 pub returns-in-Err-clause-err : goal.returns-in-Err-clause-err

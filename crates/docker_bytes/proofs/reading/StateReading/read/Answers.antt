@@ -1,9 +1,8 @@
-use Rattle.std.proofs.Common.{refl, sym, [], ◌<◌, ◌+◌, length, append-nil, arith}
+use Rattle.std.proofs.Common.{refl, sym, ◌<◌, ◌+◌, length, append-nil, arith}
 use Rattle.std.proofs.lemmas.Result.{err_from_is_err_and}
 use Rattle.docker_model.specs.state.StatePart.{width}
-use Rattle.state_text.specs.FaultMeaning.{cause_meant}
 use Rattle.docker_bytes.specs.StateReading.{before_of}
-use Rattle.docker_bytes.proofs.ReadingLemmas.{before_rest, open_text, told_of_piece, rest_more, reads_further}
+use Rattle.docker_bytes.proofs.ReadingLemmas.{open_text, told_of_piece, rest_more, reads_further}
 use Rattle.docker_bytes.proofs.reading.StateReading.read.Goals as goal
 
 pub returns-then-rest-missing-clause-step : goal.returns-then-rest-missing-clause-step
@@ -13,16 +12,14 @@ returns-then-rest-missing-clause-step g c =
     let below = c.if-rest-missing.true in
     let short : length c.parts.self.partial.items + length c.parts.rest.now < width (before_of c.parts.self) = omega arith in (
       refl,
-      open_text c.args.self.now c.parts.self c.args.piece.now c.parts.rest.now c.parts.invariant.whole c.parts.invariant.on c.keep.new.self short
-          (c.in_ok-keep.ensures.ok refl),
+      open_text _ _ _ _ c.parts.invariant.whole c.parts.invariant.on _ short (c.in_ok-keep.ensures.ok refl),
     )
 
 pub returns-in_err-take-clause-err : goal.returns-in_err-take-clause-err
 returns-in_err-take-clause-err g c =
     let same = err_from_is_err_and c.from_residual-in_err-take.result c.from_residual-in_err-take.ensures.1 in
     let fault = c.in_err-take.field-0.0 in
-    rw (same.1, same.2) (told_of_piece c.args.self.now c.parts.self c.args.piece.now c.parts.rest.now c.parts.invariant.whole c.parts.invariant.on
-    c.split_at.result.0.now c.split_at.result.1.now fault.at (cause_meant fault.cause) c.split_at.ensures.by_index.0 c.in_err-take.ensures.err)
+    rw (same.1, same.2) (told_of_piece _ _ _ _ c.parts.invariant.whole c.parts.invariant.on _ _ _ _ c.split_at.ensures.by_index.0 c.in_err-take.ensures.err)
 
 pub returns-in_err-rest-clause-err : goal.returns-in_err-rest-clause-err
 returns-in_err-rest-clause-err g c =
@@ -30,31 +27,25 @@ returns-in_err-rest-clause-err g c =
     let fault = c.in_err-rest.field-0.0 in
     let behind = c.split_at.result.1.now in
     let after = c.take_head-after.result.now in
-    let further = rest_more c.args.piece.now c.parts.rest.now c.split_at.result.0.now behind c.parts.invariant.whole c.split_at.ensures.by_index.0 in
-    let on = reads_further c.args.self.now c.parts.self c.args.piece.now c.parts.rest.now c.parts.invariant.whole c.parts.invariant.on c.take.new.self
-    c.split_at.result.0.now behind c.split_at.ensures.by_index.0 (c.in_ok-take.ensures.ok refl) in
+    let further = rest_more _ _ _ _ c.parts.invariant.whole c.split_at.ensures.by_index.0 in
+    let on = reads_further _ _ _ _ c.parts.invariant.whole c.parts.invariant.on _ _ _ c.split_at.ensures.by_index.0 (c.in_ok-take.ensures.ok refl) in
     let split = sym c.take_head-after.ensures.rest in
-    let past = rest_more c.args.piece.now behind (before_rest behind after) after further.1 split in
-    let head = reads_further c.args.self.now c.take.new.self c.args.piece.now behind further.1 on c.take_head-after.new.self
-    (before_rest behind after) after split c.take_head-after.ensures.on in
-    rw (same.1, same.2) (told_of_piece c.args.self.now c.take_head-after.new.self c.args.piece.now after past.1 head
-    after [] fault.at (cause_meant fault.cause) (sym (append-nil after)) c.in_err-rest.ensures.err)
+    let past = rest_more _ _ _ _ further.1 split in
+    let head = reads_further _ _ _ _ further.1 on _ _ _ split c.take_head-after.ensures.on in
+    rw (same.1, same.2) (told_of_piece _ _ _ _ past.1 head _ _ _ _ (sym (append-nil after)) c.in_err-rest.ensures.err)
 
 pub parts-preserved : goal.parts-preserved
 parts-preserved g c =
     let behind = c.split_at.result.1.now in
     let after = c.take_head-after.result.now in
-    let further = rest_more c.args.piece.now c.parts.rest.now c.split_at.result.0.now behind c.parts.invariant.whole c.split_at.ensures.by_index.0 in
-    let on = reads_further c.args.self.now c.parts.self c.args.piece.now c.parts.rest.now c.parts.invariant.whole c.parts.invariant.on c.take.new.self
-    c.split_at.result.0.now behind c.split_at.ensures.by_index.0 (c.in_ok-take.ensures.ok refl) in
+    let further = rest_more _ _ _ _ c.parts.invariant.whole c.split_at.ensures.by_index.0 in
+    let on = reads_further _ _ _ _ c.parts.invariant.whole c.parts.invariant.on _ _ _ c.split_at.ensures.by_index.0 (c.in_ok-take.ensures.ok refl) in
     let split = sym c.take_head-after.ensures.rest in
-    let past = rest_more c.args.piece.now behind (before_rest behind after) after further.1 split in
-    let head = reads_further c.args.self.now c.take.new.self c.args.piece.now behind further.1 on c.take_head-after.new.self
-    (before_rest behind after) after split c.take_head-after.ensures.on in
+    let past = rest_more _ _ _ _ further.1 split in
+    let head = reads_further _ _ _ _ further.1 on _ _ _ split c.take_head-after.ensures.on in
     let rest = c.in_ok-rest.rest.now in
     let parted = sym c.in_ok-rest.ensures.rest in
     record {
-      whole = (rest_more c.args.piece.now after (before_rest after rest) rest past.1 parted).1;
-      on = reads_further c.args.self.now c.take_head-after.new.self c.args.piece.now after past.1 head c.take_lines.new.self
-          (before_rest after rest) rest parted c.in_ok-rest.ensures.on;
+      whole = (rest_more _ _ _ _ past.1 parted).1;
+      on = reads_further _ _ _ _ past.1 head _ _ _ parted c.in_ok-rest.ensures.on;
     }

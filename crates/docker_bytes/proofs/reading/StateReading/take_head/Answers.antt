@@ -17,10 +17,8 @@ returns-clause-on g c =
     let within = c.requires.within in
     let room = c.if-len-self.false in
     let same : length piece - length behind ≡ len = omega arith in
-    let size : length (before_rest piece behind) ≡ len =
-    ap (λ n. length (take n piece)) same ∙ length-take-le len piece c.in-Some.ensures.within in
+    let size : length (before_rest piece behind) ≡ len = ap (λ n. length (take n piece)) same ∙ length-take-le len piece c.in-Some.ensures.within in
     let fits : c.args.self.now.reached + length (before_rest piece behind) ≤ c.args.self.now.limit = omega arith in
-    head_read c.args.self.now c.in-Tag.count c.requires c.in-Tag.is _ (before_rest piece behind) c.in-Some.ensures.part
+    head_read _ _ c.requires c.in-Tag.is _ _ _
     (subst (λ n. AreParts c.args.self.now.parts (take n piece) c.in-Some.ensures.part) (sym same) c.in-Some.ensures.parts) c.in-Some.ensures.is
-    c.in-Some.ensures.fresh fits refl c.clear.ensures refl
-    (ap (λ n. c.args.self.now.reached + n) (sym size)) refl refl refl
+    c.in-Some.ensures.fresh fits refl c.clear.ensures refl (ap (λ n. c.args.self.now.reached + n) (sym size)) refl refl refl

@@ -1,8 +1,7 @@
-use Rattle.std.proofs.Common.{rules, ◌≡◌, ◌+◌, ◌-◌, ◌<◌, ◌≤◌, ◌++◌, length, refl, ap, sym, subst, ◌∙◌, arith}
+use Rattle.std.proofs.Common.{rules, ◌≡◌, ◌+◌, ◌<◌, ◌≤◌, ◌++◌, length, refl, ap, sym, subst, ◌∙◌, arith}
 use Rattle.std.proofs.lemmas.List.{nil_from_length}
 use Rattle.std.proofs.lemmas.Result.{err_from_is_err_and}
 use Rattle.docker_model.specs.state.StatePart.{width}
-use Rattle.state_text.specs.FaultMeaning.{cause_meant}
 use Rattle.docker_bytes.specs.declared.reading.StateReading.{StateReading}
 use Rattle.docker_bytes.specs.StateReading.{before_of, ReadsOn, IsLineOf}
 use Rattle.docker_bytes.proofs.LineLemmas.{line_width, lines_within}
@@ -15,13 +14,11 @@ lines-init g c =
     let same = c.make_room.ensures in
     let now = c.make_room.new.self in
     let fits : now.reached ≤ now.limit = subst (λ (it : StateReading _). it.reached ≤ it.limit) (sym same) (let within = c.requires.within in omega arith) in
-    let bounds = lines_within c.inner_lines-more.result (length c.args.piece.now) (now.limit - now.reached) (c.in-Line.count - 1 - length now.lines)
-    c.inner_lines-more.ensures in
+    let bounds = lines_within _ _ _ _ c.inner_lines-more.ensures in
     let allowed = bounds.1 in
     record {
-      whole = (rest_first c.args.piece.now).1;
-      on = subst (λ it. ReadsOn c.args.self.now it (before_rest c.args.piece.now c.args.piece.now)) (sym same)
-          (reads_none c.args.self.now c.args.piece.now c.requires);
+      whole = (rest_first _).1;
+      on = subst (λ it. ReadsOn c.args.self.now it (before_rest c.args.piece.now c.args.piece.now)) (sym same) (reads_none _ _ c.requires);
       line = subst (λ (it : StateReading _). IsLineOf c.in-Line.key c.in-Line.count it.stage) (sym same)
           (record { entries = c.in-Line._entries; stamp = c.in-Line._stamp; is = c.in-Line.is });
       none = ap (λ (it : StateReading _). it.partial.items) same ∙ nil_from_length c.args.self.now.partial.items empty;
@@ -45,14 +42,11 @@ returns-in_err-take_line-clause-err g c =
     let size : length line ≡ 80 = search rules in
     let ahead = c.lines-test.true in
     let allowed = c.lines.invariant.within in
-    let wide : length line ≡ width (before_of c.lines.self) =
-    size ∙ sym (line_width c.in-Line.key c.in-Line.count c.lines.self.stage c.lines.invariant.line c.lines.self.parts c.lines.self.lines) in
+    let wide : length line ≡ width (before_of c.lines.self) = size ∙ sym (line_width _ _ _ c.lines.invariant.line _ _) in
     let some : 0 < length line = omega arith in
     let fits : c.lines.self.reached + length line ≤ c.lines.self.limit = omega arith in
-    rw (same.1, same.2) (told_of_piece c.args.self.now c.lines.self c.args.piece.now c.lines.rest.now c.lines.invariant.whole c.lines.invariant.on
-    line c.split_at.result.1.now fault.at (cause_meant fault.cause) c.split_at.ensures.by_index.0
-    (part_refused c.lines.self line line fault.at (cause_meant fault.cause) c.lines.invariant.on.reading
-    (ap (λ xs. xs ++ line) (sym c.lines.invariant.none)) wide some fits refused.0 refused.1))
+    rw (same.1, same.2) (told_of_piece _ _ _ _ c.lines.invariant.whole c.lines.invariant.on _ _ _ _ c.split_at.ensures.by_index.0
+    (part_refused _ _ _ _ _ c.lines.invariant.on.reading (ap (λ xs. xs ++ line) (sym c.lines.invariant.none)) wide some fits refused.0 refused.1))
 
 pub lines-preserved : goal.lines-preserved
 lines-preserved g c =
@@ -67,10 +61,8 @@ lines-preserved g c =
     let reached = next.reached in
     let lines = next.lines in
     record {
-      whole = (rest_more c.args.piece.now c.lines.rest.now c.split_at.result.0.now c.split_at.result.1.now c.lines.invariant.whole
-          c.split_at.ensures.by_index.0).1;
-      on = reads_further c.args.self.now c.lines.self c.args.piece.now c.lines.rest.now c.lines.invariant.whole c.lines.invariant.on c.take_line.new.self
-          c.split_at.result.0.now c.split_at.result.1.now c.split_at.ensures.by_index.0 ok;
+      whole = (rest_more _ _ _ _ c.lines.invariant.whole c.split_at.ensures.by_index.0).1;
+      on = reads_further _ _ _ _ c.lines.invariant.whole c.lines.invariant.on _ _ _ c.split_at.ensures.by_index.0 ok;
       line = subst (IsLineOf c.in-Line.key c.in-Line.count) (sym next.stage) c.lines.invariant.line;
       none = next.partial ∙ c.lines.invariant.none;
       held = omega arith;

@@ -5,6 +5,5 @@ use Rattle.docker_bytes.proofs.ReadLemmas.{made_itself}
 use Rattle.docker_bytes.proofs.state_parser.StateParser.finish.Goals as goal
 
 pub returns-clause-ok : goal.returns-clause-ok
-returns-clause-ok c = λ format limit text has.
-    IfOk-weaker c.finish.result _ _ (λ made of. made_itself format limit text made of)
+returns-clause-ok c = λ format limit text has. IfOk-weaker c.finish.result _ _ (λ made of. made_itself _ _ _ _ of)
     (c.finish.ensures.ok format limit text (subst (λ p. HasRead p format limit text) (sym c.self.view_is) has))
