@@ -1,5 +1,5 @@
 -- Lemmas on how the bodies of associations and the first lines of schedules are judged.
-use Rattle.std.proofs.Common.{◌≡◌, ℕ, List, sym, subst, Bool, true, false, ◌∙◌}
+use Rattle.std.proofs.Common.{◌≡◌, ℕ, List, sym, Bool, true, false, ◌∙◌, rules}
 use Rattle.std.specs.Prelude.{IsTrue, ◌↔◌}
 use Rattle.docker_model.specs.records.Record.{IsRecord, HasKind, association, basic_schedule, columns}
 use Rattle.docker_model.specs.records.Date.{is_date}
@@ -13,12 +13,7 @@ use Rattle.state_text.specs.Judged.{IsFirstOf}
 -- is N and its key equals the given key
 pub association_test : (key : AssociationKey) (line view : List ℕ) (test : Bool) → IsRecord line → HasKind association line → HasGoodFields line → view ≡ line
     → IsTrue test ↔ (HasNewTransaction view × (association_named view ≡ association_key key)) → IsTrue test ↔ IsAssociationOf key line
-association_test key line view test is kind fields same tested = (
-  (λ yes.
-      let told = subst (λ l. HasNewTransaction l × (association_named l ≡ association_key key)) same (tested.0 yes) in
-      record { is_record = is; kind = kind; fields = fields; new = told.0; key_is = told.1 }),
-  (λ of. tested.1 (subst (λ l. HasNewTransaction l × (association_named l ≡ association_key key)) (sym same) (of.new, of.key_is))),
-)
+association_test = search rules
 
 -- if the test is false, the line isn't the first line of a schedule with the given key. The test is
 -- true if and only if the transaction is N, columns 10 to 15 are a date, and the line names the key

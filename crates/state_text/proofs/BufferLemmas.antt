@@ -1,11 +1,11 @@
 -- Lemmas on pieces of a text that are written, one after the other, to a sink through a buffer. `Gathers` says that a piece was written through the buffer: its
 -- bytes are in the buffer or have gone from the buffer to the sink.
-use Rattle.std.proofs.Common.{◌≡◌, ℕ, suc, ◌+◌, ◌<◌, ◌≤◌, List, [], ◌∷◌, ◌++◌, length, take, drop, get_or, map, refl, ap, sym, ◌∙◌}
-use Rattle.std.proofs.Common.{subst, arith, append_assoc, append-nil, length-append, Some, None, Ok, Err, Result}
+use Rattle.std.proofs.Common.{◌≡◌, ℕ, suc, ◌+◌, ◌<◌, List, [], ◌∷◌, ◌++◌, length, take, drop, get_or, map, refl, ap, sym, ◌∙◌, rules}
+use Rattle.std.proofs.Common.{subst, arith, append_assoc, append-nil, length-append, Ok, Err, Result}
 use Rattle.std.specs.Prelude.{Option, IsErr, IsErrAnd, OnOk, OnErr}
 use Rattle.std.specs.List.{concat, flat_map}
 use Rattle.std.proofs.lemmas.List.{take-append-le, take-append-drop, take_more, map-append}
-use Rattle.std.proofs.lemmas.Grind.{flat_map-append}
+use Rattle.std.proofs.lemmas.Grind.{flat_map-append, common_steps}
 use Rattle.cif_device.proofs.DeviceLemmas.{counts_error}
 use Rattle.cif_device.specs.Device.{CountsFailure, Takes, TakesPart}
 use Rattle.state_text.specs.Written.{Gathers, Gives, Flushes}
@@ -17,21 +17,10 @@ Told = Option (List ℕ)
 -- ---- pieces that were written through the buffer
 
 takes_none : (start : Told) → Takes start [] start
-takes_none None = refl
-takes_none (Some taken) = ap (λ t. Some t) (sym (append-nil taken))
+takes_none = search (rules, append-nil)
 
 takes_then : (a : Told) (x y : List ℕ) (c e : Told) → Takes a x c → Takes c y e → Takes a (x ++ y) e
-takes_then None x y c e first second = second ∙ (λ i. longer (first i))
-  where
-    longer : Told → Told
-    longer None = None
-    longer (Some t) = Some (t ++ y)
-takes_then (Some taken) x y c e first second =
-    second ∙ (λ i. longer (first i)) ∙ ap (λ t. Some t) (append_assoc taken x y)
-  where
-    longer : Told → Told
-    longer None = None
-    longer (Some t) = Some (t ++ y)
+takes_then = search (rules, append_assoc)
 
 -- appending a piece to the buffer writes it through the buffer: its bytes are in the buffer or the sink
 pub gathers_add : (start : Told) (held piece more : List ℕ) → more ≡ held ++ piece → Gathers start held piece start more
@@ -44,7 +33,7 @@ gathers_then a b p c d q e f first second = (
   first.0 ++ second.0,
   append_assoc first.0 second.0 f ∙ ap (λ xs. first.0 ++ xs) second.1 ∙ sym (append_assoc first.0 d q)
       ∙ ap (λ xs. xs ++ q) first.1 ∙ append_assoc b p q,
-  takes_then a first.0 second.0 c e first.2 second.2,
+  takes_then _ _ _ _ _ first.2 second.2,
 )
 
 take_past : (xs ys : List ℕ) (n : ℕ) → take (length xs + n) (xs ++ ys) ≡ xs ++ take n ys
@@ -55,11 +44,7 @@ take_past (x ∷ xs) ys n =
 
 -- if a sink took a proper prefix of x, it took a proper prefix of x ++ y
 part_longer : (a : Told) (x y : List ℕ) (e : Told) → TakesPart a x e → TakesPart a (x ++ y) e
-part_longer a x y e part =
-    let size = length-append x y in
-    let below = part.1 in
-    let within : part.0 ≤ length x = omega arith in
-    (part.0, omega arith, subst (λ xs. Takes a xs e) (sym (take-append-le part.0 x y within)) part.2)
+part_longer = search (rules, length-append, take-append-le)
 
 -- suppose that the buffer holds b at first, and that p is written through the buffer. If the sink
 -- then takes a proper prefix of the buffer's bytes and q, it has taken a proper prefix of b ++ p ++
@@ -67,14 +52,13 @@ part_longer a x y e part =
 gathers_part : (a : Told) (b p : List ℕ) (c : Told) (d q : List ℕ) (e : Told)
     → Gathers a b p c d → TakesPart c (d ++ q) e → TakesPart a (b ++ (p ++ q)) e
 gathers_part a b p c d q e first part =
-    let whole : first.0 ++ (d ++ q) ≡ b ++ (p ++ q) =
-    sym (append_assoc first.0 d q) ∙ ap (λ xs. xs ++ q) first.1 ∙ append_assoc b p q in
+    let whole : first.0 ++ (d ++ q) ≡ b ++ (p ++ q) = sym (append_assoc first.0 d q) ∙ ap (λ xs. xs ++ q) first.1 ∙ append_assoc b p q in
     let size = sym (length-append first.0 (d ++ q)) ∙ ap length whole in
     let below = part.1 in
-    let same = sym (take_past first.0 (d ++ q) part.0) ∙ ap (λ xs. take (length first.0 + part.0) xs) whole in (
+    let same = sym (take_past _ _ _) ∙ ap (λ xs. take (length first.0 + part.0) xs) whole in (
       length first.0 + part.0,
       omega arith,
-      subst (λ xs. Takes a xs e) same (takes_then a first.0 (take part.0 (d ++ q)) c e first.2 part.2),
+      subst (λ xs. Takes a xs e) same (takes_then _ _ _ _ _ first.2 part.2),
     )
 
 -- ---- what a result says about the sink
@@ -83,47 +67,33 @@ module _ {S A E : Type 0} (taken : S → Told) (failures : S → ℕ) where
   -- flushing the buffer has the effect of writing an empty piece through the buffer
   pub flush_gives : (old new : S) (held holds : List ℕ) (result : Result A E) → Flushes taken failures old held result new
       → OnOk result (holds ≡ []) → Gives taken failures old held [] result new holds
-  flush_gives old new held holds (Ok done) whole empty = ((held, ap (λ xs. held ++ xs) empty, whole.0), whole.1)
-  flush_gives old new held holds (Err failed) part empty =
-      (subst (λ xs. TakesPart (taken old) xs (taken new)) (sym (append-nil held)) part.0, part.1)
+  flush_gives = search (rules, append-nil)
 
   -- suppose that a piece was written through the buffer, and that the next piece is to be written.
   -- If this succeeds, both pieces are written through the buffer. If it fails, writing their
   -- concatenation fails
   pub then_gives : (old mid new : S) (b p d q h : List ℕ) (result : Result A E) → Gathers (taken old) b p (taken mid) d
       → failures mid ≡ failures old → Gives taken failures mid d q result new h → Gives taken failures old b (p ++ q) result new h
-  then_gives old mid new b p d q h (Ok done) first same second =
-      (gathers_then (taken old) b p (taken mid) d q (taken new) h first second.0, second.1 ∙ same)
-  then_gives old mid new b p d q h (Err failed) first same second =
-      (gathers_part (taken old) b p (taken mid) d q (taken new) first second.0, second.1 ∙ ap (λ n. n + 1) same)
+  then_gives old mid new b p d q h (Ok done) first same second = search (rules, gathers_then)
+  then_gives old mid new b p d q h (Err failed) first same second = search (rules, gathers_part)
 
   -- a failure while writing the first of two pieces counts as a failure while writing their concatenation
   pub fails_first : (old new : S) (b p q holds : List ℕ) (result : Result A E) (Q : E → Type 0) → IsErrAnd result Q
       → TakesPart (taken old) (b ++ p) (taken new) × (failures new ≡ failures old + 1)
       → Gives taken failures old b (p ++ q) result new holds
-  fails_first old new b p q holds (Ok done) Q is part = absurd is
-  fails_first old new b p q holds (Err failed) Q is part = (
-    subst (λ xs. TakesPart (taken old) xs (taken new)) (append_assoc b p q)
-        (part_longer (taken old) (b ++ p) q (taken new) part.0),
-    part.1,
-  )
+  fails_first = grind (common_steps, arith, append_assoc, part_longer)
 
   -- if a write succeeds, the sink takes all bytes and counts no failure. If it fails, the sink
   -- takes a proper prefix of the bytes and counts one failure
   pub flushed : (old new : S) (bytes : List ℕ) (result : Result A E) → Flushes taken failures old bytes result new
       → OnOk result (Takes (taken old) bytes (taken new)) × OnErr result (TakesPart (taken old) bytes (taken new))
       × CountsFailure (IsErr result) (failures old) (failures new)
-  flushed old new bytes (Ok done) told = (told.0, tt, counts_error {A = A} {E = E} (Ok done) (failures old) (failures new) told.1 tt)
-  flushed old new bytes (Err failed) told = (tt, told.0, counts_error {A = A} {E = E} (Err failed) (failures old) (failures new) tt told.1)
+  flushed = search (rules, counts_error)
 
   -- if a text was written to the buffer, and the buffer is then flushed, the sink takes the text in full or in part
   pub flush_written : (old mid new : S) (b p d whole : List ℕ) (result : Result A E) → Gathers (taken old) b p (taken mid) d
       → failures mid ≡ failures old → b ++ p ≡ whole → Flushes taken failures mid d result new → Flushes taken failures old whole result new
-  flush_written old mid new b p d whole (Ok done) first same is second = (
-    subst (λ xs. Takes (taken old) xs (taken new)) (first.1 ∙ is) (takes_then (taken old) first.0 d (taken mid) (taken new) first.2 second.0),
-    second.1
-        ∙ same,
-  )
+  flush_written old mid new b p d whole (Ok done) first same is second = search (rules, takes_then)
   flush_written old mid new b p d whole (Err failed) first same is second = (
     subst (λ xs. TakesPart (taken old) xs (taken new)) (ap (λ xs. b ++ xs) (append-nil p) ∙ is)
         (gathers_part (taken old) b p (taken mid) d [] (taken new) first
@@ -134,26 +104,20 @@ module _ {S A E : Type 0} (taken : S → Told) (failures : S → ℕ) where
   -- if a write fails while a text is written through the buffer, the sink takes only a part of the text
   pub part_written : (old new : S) (b p whole : List ℕ) (result : Result A E) (Q : E → Type 0) → IsErrAnd result Q → b ++ p ≡ whole
       → TakesPart (taken old) (b ++ p) (taken new) × (failures new ≡ failures old + 1) → Flushes taken failures old whole result new
-  part_written old new b p whole (Ok done) Q fails is part = absurd fails
-  part_written old new b p whole (Err failed) Q fails is part = (subst (λ xs. TakesPart (taken old) xs (taken new)) is part.0, part.1)
-
--- ---- the bytes of a list, element by element
+  part_written = search rules
 
 module _ {X : Type 0} (bytes : List X → List ℕ) (joined : (xs ys : List X) → bytes (xs ++ ys) ≡ bytes xs ++ bytes ys) where
   -- the bytes of the first i + 1 elements are the bytes of the first i elements, followed by the
   -- bytes of the next element
   pub one_more : (xs : List X) (i : ℕ) (x : X) (piece : List ℕ) → i < length xs → x ≡ get_or xs i x → bytes (x ∷ []) ≡ piece
       → bytes (take (i + 1) xs) ≡ bytes (take i xs) ++ piece
-  one_more xs i x piece below at is =
-      ap bytes (take_more xs i x below ∙ ap (λ y. take i xs ++ y ∷ []) (sym at)) ∙ joined (take i xs) (x ∷ [])
-      ∙ ap (λ p. bytes (take i xs) ++ p) is
+  one_more = search (rules, take_more)
 
   module _ (xs : List X) (i : ℕ) (x : X) (piece : List ℕ) (below : i < length xs) (at : x ≡ get_or xs i x) (is : bytes (x ∷ []) ≡ piece) where
     -- if the first i elements and then the next element are written through the buffer, the first i + 1 elements are written through the buffer
     pub each_given : (a : Told) (b : List ℕ) (c : Told) (d : List ℕ) (e : Told) (f : List ℕ)
         → Gathers a b (bytes (take i xs)) c d → Gathers c d piece e f → Gathers a b (bytes (take (i + 1) xs)) e f
-    each_given a b c d e f first second =
-        subst (λ p. Gathers a b p e f) (sym (one_more xs i x piece below at is)) (gathers_then a b (bytes (take i xs)) c d piece e f first second)
+    each_given a b c d e f first second = subst (λ p. Gathers a b p e f) (sym (one_more _ _ _ _ below at is)) (gathers_then _ _ _ _ _ _ _ _ first second)
 
     -- suppose that the first i elements were written through the buffer. If the sink then takes a
     -- proper prefix of the next element's bytes, it has taken a proper prefix of the list's bytes
@@ -164,9 +128,8 @@ module _ {X : Type 0} (bytes : List X → List ℕ) (joined : (xs ys : List X) �
         let rest = bytes (drop (i + 1) xs) in
         let all : now ++ rest ≡ bytes xs = sym (joined (take (i + 1) xs) (drop (i + 1) xs)) ∙ ap bytes (take-append-drop (i + 1) xs) in
         let whole : (b ++ now) ++ rest ≡ b ++ bytes xs = append_assoc b now rest ∙ ap (λ ys. b ++ ys) all in
-        let so_far = gathers_part a b (bytes (take i xs)) c d piece e first part in
-        subst (λ ys. TakesPart a ys e) whole
-        (part_longer a (b ++ now) rest e (subst (λ p. TakesPart a (b ++ p) e) (sym (one_more xs i x piece below at is)) so_far))
+        let so_far = gathers_part _ _ _ _ _ _ _ first part in
+        subst (λ ys. TakesPart a ys e) whole (part_longer _ _ _ _ (subst (λ p. TakesPart a (b ++ p) e) (sym (one_more _ _ _ _ below at is)) so_far))
 
     -- a failure to make room for the next element counts as a failure to write the whole list
     pub each_room_fails : {S A E : Type 0} (taken : S → Told) (failures : S → ℕ) (old now new : S) (b d holds : List ℕ) (result : Result A E) (Q : E → Type 0)
@@ -174,8 +137,8 @@ module _ {X : Type 0} (bytes : List X → List ℕ) (joined : (xs ys : List X) �
         → TakesPart (taken now) (d ++ []) (taken new) × (failures new ≡ failures now + 1) → Gives taken failures old b (bytes xs) result new holds
     each_room_fails taken failures old now new b d holds (Ok done) Q first same is part = absurd is
     each_room_fails taken failures old now new b d holds (Err failed) Q first same is part = (
-      each_part (taken old) b (taken now) d (taken new) first
-          (part_longer (taken now) d piece (taken new) (subst (λ ys. TakesPart (taken now) ys (taken new)) (append-nil d) part.0)),
+      each_part _ _ _ _ _ first
+          (part_longer _ _ _ _ (subst (λ ys. TakesPart (taken now) ys (taken new)) (append-nil d) part.0)),
       part.1 ∙ ap (λ n. n + 1) same,
     )
 
@@ -184,10 +147,8 @@ module _ {X : Type 0} (bytes : List X → List ℕ) (joined : (xs ys : List X) �
         → Gathers (taken old) b (bytes (take i xs)) (taken now) d → failures now ≡ failures old → IsErrAnd result Q
         → TakesPart (taken now) (d ++ piece) (taken new) × (failures new ≡ failures now + 1) → Gives taken failures old b (bytes xs) result new holds
     each_fails taken failures old now new b d holds (Ok done) Q first same is part = absurd is
-    each_fails taken failures old now new b d holds (Err failed) Q first same is part =
-        (each_part (taken old) b (taken now) d (taken new) first part.0, part.1 ∙ ap (λ n. n + 1) same)
+    each_fails taken failures old now new b d holds (Err failed) Q first same is part = search (rules, each_part)
 
--- the bytes of the concatenation of two lists are the concatenation of their bytes
 pub mapped_join : {A B : Type 0} (f : B → List ℕ) (m : A → B) (xs ys : List A)
     → flat_map f (map m (xs ++ ys)) ≡ flat_map f (map m xs) ++ flat_map f (map m ys)
 mapped_join f m xs ys = ap (flat_map f) (map-append m xs ys) ∙ flat_map-append f (map m xs) (map m ys)

@@ -1,6 +1,6 @@
 -- Lemmas on the first parts of an entry: the bytes of its key, stamp and op, and the part that comes after them.
-use Rattle.std.proofs.Common.{◌≡◌, ℕ, suc, ◌+◌, ◌<◌, List, [], ◌∷◌, ◌++◌, length, take, get_or, refl, ap, sym}
-use Rattle.std.proofs.Common.{◌∙◌, subst, inl, inr, arith, append_assoc, append-nil, length-append}
+use Rattle.std.proofs.Common.{◌≡◌, ℕ, suc, ◌+◌, ◌<◌, List, [], ◌∷◌, ◌++◌, length, take, get_or, refl, ap, sym, rules}
+use Rattle.std.proofs.Common.{◌∙◌, subst, inl, arith, append_assoc, append-nil, length-append}
 use Rattle.std.specs.Prelude.{slice_index}
 use Rattle.std.specs.Int.{w32, to_be_bytes, from_be_bytes}
 use Rattle.std.proofs.Math.Seq.{take-append_seam}
@@ -16,7 +16,6 @@ use Rattle.docker_join.specs.Meaning.{stamp_meant}
 use Rattle.docker_join.specs.declared.stamp.Stamp.{Stamp}
 use Rattle.state_text.specs.Stage.{tag_meant}
 use Rattle.state_text.specs.declared.stage.Tag.{Tag}
-use Rattle.state_text.specs.declared.stage.Tag.TheVariants as tag
 use Rattle.state_text.specs.declared.stage.Stage.TheVariants as stage
 use Rattle.state_text.specs.Head.{AreParts, IsBeforeBody, IsPutHead, BeginsWithParts}
 
@@ -37,29 +36,13 @@ taken n all front behind split size = ap (λ m. take m all) size ∙ ap (take (l
 
 -- the number of a tag is 1, 2 or 3
 pub is_tag : (kind : Tag) → IsTag (tag_meant kind)
-is_tag tag.Tiploc = inl refl
-is_tag tag.Assoc = inr (inl refl)
-is_tag tag.Schedule = inr (inr refl)
+is_tag = search rules
 
 -- the bytes that are written for a put's key, stamp and op are the bytes from which they were read
 pub put_text : (number : ℕ) (bytes key rest stamp op : List ℕ) → IsTag number → bytes ≡ key ++ rest → rest ≡ stamp ++ op → length key ≡ key_width number
     → length stamp ≡ 15 → length op ≡ 1 → slice_index op 0 ≡ 1 → ((i : ℕ) → get_or bytes i 0 < 256)
     → key_text (key_in number key) ++ stamp_bytes (stamp_in stamp) ++ 1 ∷ [] ≡ number ∷ bytes
-put_text number bytes key rest stamp op is front back key_size stamp_size op_size put small =
-    (λ i. (tag_of_key number key is i ∷ key_written number key is key_size key_small i) ++ stamp_written stamp stamp_size stamp_small i ++ op_is i)
-    ∙ append_assoc (number ∷ key) stamp op ∙ ap (λ xs. (number ∷ key) ++ xs) (sym back) ∙ ap (λ xs. number ∷ xs) (sym front)
-  where
-    all_small : AreBytes (key ++ rest)
-    all_small = subst AreBytes front (bytes_are bytes small)
-
-    key_small : AreBytes key
-    key_small = front_are key rest all_small
-
-    stamp_small : AreBytes stamp
-    stamp_small = front_are stamp op (subst AreBytes back (behind_are key rest all_small))
-
-    op_is : 1 ∷ [] ≡ op
-    op_is = ap (λ b. b ∷ []) (sym put) ∙ single op op_size
+put_text = search (rules, tag_of_key, key_written, stamp_written, append_assoc, bytes_are, front_are, behind_are, single)
 
 -- after a put's key, stamp and op, the next part is the body
 pub body_after : (count : ℕ) (state : State) (key : Key) (stamp : Stamp) (number n : ℕ) (bytes put body : List ℕ) → bytes ≡ put ++ body → length put ≡ n

@@ -1,5 +1,5 @@
 -- Lemmas on how the bytes of a ledger item are read.
-use Rattle.std.proofs.Common.{◌≡◌, ℕ, ◌+◌, ◌-◌, ◌<◌, ◌≤◌, List, length, take, drop, refl, ap, ◌∙◌, subst, arith, true, length-drop}
+use Rattle.std.proofs.Common.{◌≡◌, ℕ, ◌+◌, ◌-◌, ◌<◌, ◌≤◌, List, length, ap, ◌∙◌, arith, true, length-drop, rules}
 use Rattle.std.specs.Prelude.{slice_range, slice_index, slice_get, option_map, Some, ◌==◌, ◌||◌, IsTrue, ◌↔◌, map, Bool}
 use Rattle.std.specs.List.{AllPass}
 use Rattle.std.specs.Int.{w16, from_be_bytes}
@@ -15,17 +15,12 @@ use Rattle.docker_model.specs.state.StatePart.{IsAboveItems}
 use Rattle.cif_laws.proofs.records.GoodFields.{update_letter}
 use Rattle.cif_laws.proofs.orders.Orders.{ledger_item_total}
 use Rattle.cif_line.specs.declared.letter.Extract.{Extract}
-use Rattle.cif_line.specs.declared.letter.Extract.TheVariants as letter
 use Rattle.cif_line.specs.Letter.{extract_letter}
 use Rattle.state_text.proofs.LastElement.{above_last}
 
 -- a range of n bytes has length n
 pub range_length : (bytes : List ℕ) (from n : ℕ) → from + n ≤ length bytes → length (slice_range bytes from (from + n)) ≡ n
-range_length bytes from n within =
-    let behind = length-drop from bytes in
-    let size : n ≤ length (drop from bytes) = omega arith in
-    let same : from + n - from ≡ n = omega arith in
-    ap (λ k. length (take k (drop from bytes))) same ∙ length-take-le n (drop from bytes) size
+range_length = search (rules, length-drop, length-take-le)
 
 -- if the fields read from 19 bytes are good, the ledger item in these bytes has these fields and is
 -- good
@@ -36,28 +31,7 @@ pub item_told : (bytes : List ℕ) (day minute : ℕ) (reference : List ℕ) (in
     → (◌≡◌ {A = LedgerItem} (record
     { stamp = record { moment = record { day = day; minute = minute }; reference = reference }; indicator = indicator; last_reference = last }) (item_in bytes))
     × IsGoodItem (item_in bytes)
-item_told bytes day minute reference indicator last size d m r i l is_day is_minute text letter last_text = (same, subst IsGoodItem same good)
-  where
-    item : LedgerItem
-    item = record { stamp = record { moment = record { day = day; minute = minute }; reference = reference }; indicator = indicator; last_reference = last }
-
-    same : ◌≡◌ {A = LedgerItem} (record
-        { stamp = record { moment = record { day = day; minute = minute }; reference = reference }; indicator = indicator; last_reference = last })
-        (item_in bytes)
-    same = λ k. record { stamp = record { moment = record { day = d k; minute = m k }; reference = r k }; indicator = i k; last_reference = l k }
-
-    good : IsGoodItem (record {
-      stamp = record { moment = record { day = day; minute = minute }; reference = reference };
-      indicator = indicator;
-      last_reference = last;
-    })
-    good = record {
-      day = is_day;
-      minute = is_minute;
-      reference = (ap length r ∙ range_length bytes 4 7 (omega arith), text);
-      indicator = update_letter indicator letter;
-      last_reference = (ap length l ∙ range_length bytes 12 7 (omega arith), last_text);
-    }
+item_told = grind (arith, range_length, update_letter)
 
 -- an item above the last item of a ledger is above all the ledger's items
 pub items_above : {A : Type 0} (item : A → LedgerItem) (items : List A) (last : A) (next : LedgerItem) (test : Bool) → IsLedger (map item items)
@@ -69,5 +43,4 @@ items_above item items last next test is at tested =
 
 -- the letter of an update indicator is F or U
 pub is_letter : (extract : Extract) → ((extract_letter extract == 70) || (extract_letter extract == 85)) ≡ true
-is_letter letter.Full = refl
-is_letter letter.Update = refl
+is_letter = search rules

@@ -1,10 +1,9 @@
 -- Lemmas on how keys are judged.
-use Rattle.std.proofs.Common.{◌≡◌, ◌-◌, length, refl, ap, sym, ◌∙◌, subst, Bool, true, Some, None}
+use Rattle.std.proofs.Common.{◌≡◌, ◌-◌, length, refl, ap, ◌∙◌, Bool, true, Some, None, rules}
 use Rattle.std.specs.Prelude.{Option, slice_get, option_map, IsTrue, ◌↔◌}
 use Rattle.std.specs.Ordering.{is_lt, is_eq}
-use Rattle.std.specs.Cmp.{tied_itself}
 use Rattle.std.specs.declared.cmp.Ordering.{Ordering}
-use Rattle.std.specs.declared.cmp.Ordering.TheVariants.{Less, Equal, Greater}
+use Rattle.std.specs.declared.cmp.Ordering.TheVariants.{Equal}
 use Rattle.docker_model.specs.file.Change.{Key}
 use Rattle.docker_model.specs.state.Op.{Entry, key_cmp}
 use Rattle.docker_model.specs.state.State.{State, AreAscending}
@@ -14,16 +13,11 @@ use Rattle.docker_state.specs.Parts.{last_key}
 use Rattle.state_text.proofs.LastElement.{above_last, above_none}
 
 equal_by_test : (o : Ordering) → is_eq o ≡ true → o ≡ Equal
-equal_by_test Less is = cc
-equal_by_test Equal is = refl
-equal_by_test Greater is = cc
+equal_by_test = search rules
 
 -- keys that compare as equal are equal
 pub same_key : (first second : Key) (test : Bool) → test ≡ is_eq (key_cmp first second) → IsTrue test ↔ (first ≡ second)
-same_key first second test tested = (
-  (λ yes. exact_key first second (equal_by_test (key_cmp first second) (sym tested ∙ yes))),
-  (λ same. tested ∙ ap is_eq (subst (λ k. key_cmp first k ≡ Equal) same (tied_itself key_total first))),
-)
+same_key = search (rules, exact_key, equal_by_test, key_total)
 
 -- a key above the key of the last entry is above the keys of all entries
 pub keys_above : (state : State) (last key : Key) (test : Bool) → AreAscending state.entries → Some last ≡ last_key state.entries

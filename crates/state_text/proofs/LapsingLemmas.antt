@@ -1,5 +1,5 @@
 -- Lemmas on entries that lapse one by one, as a keeper is given them.
-use Rattle.std.proofs.Common.{◌≡◌, ℕ, All, List, [], ◌∷◌, refl, ap, sym, ◌∙◌, subst}
+use Rattle.std.proofs.Common.{◌≡◌, ℕ, All, List, [], ◌∷◌, refl, sym, subst, rules}
 use Rattle.std.specs.Prelude.{max}
 use Rattle.std.specs.List.{AllByRecursion}
 use Rattle.std.proofs.Math.Nat.{max_comm}
@@ -32,7 +32,7 @@ kept_here day own parts given has key stamp here = (
     here.0.0,
     subst (λ entries. All (λ (entry : Key × Entry). IsBelow key_cmp entry.0 key) entries) (sym has.entries)
         (All-from_recursion (λ (entry : Key × Entry). IsBelow key_cmp entry.0 key) (lapse_entries day given)
-        (above day key given (recursion_from_All (λ (entry : Key × Entry). IsBelow key_cmp entry.0 key) given here.0.1))),
+        (above _ _ _ (recursion_from_All (λ (entry : Key × Entry). IsBelow key_cmp entry.0 key) given here.0.1))),
   ),
   here.1,
 )
@@ -40,8 +40,7 @@ kept_here day own parts given has key stamp here = (
 -- an entry that has lapsed with a horizon lapses with the later of this horizon and a day exactly
 -- if it lapses with the day
 entry_later : (horizon day : ℕ) (entry : Entry) → HasNotToLapse horizon entry.op → lapse_entry day entry ≡ lapse_entry (max horizon day) entry
-entry_later horizon day entry has =
-    ap (lapse_entry day) (sym (entry_stays horizon entry has)) ∙ entry_twice day horizon entry ∙ ap (λ n. lapse_entry n entry) (max_comm day horizon)
+entry_later = search (rules, entry_stays, entry_twice, max_comm)
 
 entries_later : (horizon day : ℕ) (entries : List (Key × Entry)) → AllByRecursion (λ (entry : Key × Entry). HasNotToLapse horizon entry.1.op) entries
     → lapse_entries day entries ≡ lapse_entries (max horizon day) entries
@@ -55,17 +54,11 @@ entries_later horizon day (first ∷ entries) all =
 pub raised_parts : (day own horizon later : ℕ) (parts : State) (given : List (Key × Entry)) → HasLapsed day own parts given → later ≡ max horizon own
     → IsValid (under horizon (given_state parts.ledger given))
     → under later parts ≡ raise_horizon day (under horizon (given_state parts.ledger given))
-raised_parts day own horizon later parts given has is valid = λ i. record {
-  horizon = (is ∙ ap (max horizon) has.day_is) i;
-  ledger = parts.ledger;
-  entries = (has.entries ∙ entries_later horizon day given
-      (recursion_from_All (λ (entry : Key × Entry). HasNotToLapse horizon entry.1.op) given valid.have_lapsed)) i;
-}
+raised_parts = search (rules, entries_later, recursion_from_All)
 
 -- the state that is made from the kept entries is valid
 pub raised_valid : (day own horizon later : ℕ) (parts : State) (given : List (Key × Entry)) → HasLapsed day own parts given → later ≡ max horizon own
     → IsDay own → IsValid (under horizon (given_state parts.ledger given))
     → IsValid (under later parts)
-raised_valid day own horizon later parts given has is within valid =
-    subst IsValid (sym (raised_parts day own horizon later parts given has is valid))
-    (raised_is_valid day (under horizon (given_state parts.ledger given)) (subst IsDay has.day_is within) valid)
+raised_valid day own horizon later parts given has is within valid = subst IsValid (sym (raised_parts _ _ _ _ _ _ has is valid))
+    (raised_is_valid _ _ (subst IsDay has.day_is within) valid)

@@ -1,19 +1,19 @@
 -- In an ascending list, whatever is above the last element is above all elements.
-use Rattle.std.proofs.Common.{◌≡◌, suc, ◌-◌, List, [], ◌∷◌, length, refl, ap, sym, ◌∙◌, subst, inl, inr, ◌⊎◌, arith, Bool, true, All, Some, None}
+use Rattle.std.proofs.Common.{◌≡◌, suc, ◌-◌, List, [], ◌∷◌, length, ap, sym, ◌∙◌, subst, inl, inr, ◌⊎◌, arith, Bool, true, All, Some, None}
+use Rattle.std.proofs.lemmas.Grind.{common_steps}
+use Rattle.std.proofs.Common.{rules}
 use Rattle.std.specs.Prelude.{slice_get, IsTrue, ◌↔◌}
 use Rattle.std.specs.List.{AllByRecursion}
 use Rattle.std.specs.Ordering.{is_lt, on}
 use Rattle.std.specs.declared.cmp.Ordering.{Ordering}
-use Rattle.std.specs.declared.cmp.Ordering.TheVariants.{Less, Equal, Greater}
+use Rattle.std.specs.declared.cmp.Ordering.TheVariants.{Less}
 use Rattle.std.specs.Cmp.{IsTotalOrder}
 use Rattle.std.proofs.lemmas.List.Elements.{All-from_recursion, recursion_from_All}
 use Rattle.docker_model.specs.state.Order.{IsBelow, IsStrictlyAscending}
 
 -- if `is_lt` is true of an ordering, the ordering is `Less`
 pub less_by_test : (o : Ordering) → is_lt o ≡ true → o ≡ Less
-less_by_test Less is = refl
-less_by_test Equal is = cc
-less_by_test Greater is = cc
+less_by_test = search rules
 
 module _ {A K : Type 0} (key : A → K) (cmp : K → K → Ordering) (total : IsTotalOrder cmp) where
   among_later : (P : A → Type 0) (xs : List A) (last : A) → AllByRecursion P xs → slice_get xs (length xs - 1) ≡ Some last → P last
@@ -46,8 +46,8 @@ module _ {A K : Type 0} (key : A → K) (cmp : K → K → Ordering) (total : Is
       → test ≡ is_lt (cmp (key last) k) → IsTrue test ↔ All (λ x. IsBelow cmp (key x) k) xs
   above_last xs last k test up is tested = (
     (λ yes. All-from_recursion (λ x. IsBelow cmp (key x) k) xs
-        (pass xs last k (less_by_test (cmp (key last) k) (sym tested ∙ yes)) (below_last xs last up is))),
-    (λ all. tested ∙ ap is_lt (among_later (λ x. IsBelow cmp (key x) k) xs last (recursion_from_All (λ x. IsBelow cmp (key x) k) xs all) is)),
+        (pass _ _ _ (less_by_test _ (sym tested ∙ yes)) (below_last _ _ up is))),
+    (λ all. tested ∙ ap is_lt (among_later _ _ _ (recursion_from_All (λ x. IsBelow cmp (key x) k) xs all) is)),
   )
 
   some_there : (z : A) (zs : List A) → slice_get (z ∷ zs) (length (z ∷ zs) - 1) ≡ None → ⊥
@@ -57,5 +57,4 @@ module _ {A K : Type 0} (key : A → K) (cmp : K → K → Ordering) (total : Is
 
   -- in an empty list, anything is above all elements
   pub above_none : (xs : List A) (k : K) → slice_get xs (length xs - 1) ≡ None → IsTrue true ↔ All (λ x. IsBelow cmp (key x) k) xs
-  above_none [] k is = ((λ yes. All-from_recursion (λ x. IsBelow cmp (key x) k) [] tt), (λ all. refl))
-  above_none (x ∷ xs) k is = absurd (some_there x xs is)
+  above_none = grind (common_steps, arith, some_there)

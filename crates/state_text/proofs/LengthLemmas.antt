@@ -1,14 +1,14 @@
 -- The length of a valid state's text.
-use Rattle.std.proofs.Common.{◌≡◌, ℕ, ◌+◌, ◌*◌, List, [], ◌∷◌, ◌++◌, length, map, refl, ap, sym, ◌∙◌, subst, arith, length-append, All}
+use Rattle.std.proofs.Common.{◌≡◌, ℕ, ◌+◌, ◌*◌, List, [], ◌∷◌, length, map, refl, sym, subst, arith, length-append, All, rules}
 use Rattle.std.specs.List.{concat, flat_map, AllByRecursion}
-use Rattle.std.specs.Int.{w32, w64, to_be_bytes}
+use Rattle.std.specs.Int.{w32, to_be_bytes}
 use Rattle.std.proofs.lemmas.List.Elements.{All-from_recursion, recursion_from_All}
 use Rattle.docker_model.specs.records.Record.{IsRecord}
 use Rattle.docker_model.specs.file.Change.{Key, Body, schedule_key, tiploc_key, association_key, schedule_body}
 use Rattle.docker_model.specs.state.Stamp.{LedgerItem}
 use Rattle.docker_model.specs.state.Op.{Entry}
 use Rattle.docker_model.specs.state.State.{State, IsBodyOf, IsGoodItem, IsGoodEntry, IsLedger, IsValid}
-use Rattle.docker_model.specs.state.StateText.{dks_2, head_text, item_bytes, stamp_bytes, put_bytes, op_bytes, entry_bytes, ledger_text, state_text}
+use Rattle.docker_model.specs.state.StateText.{dks_2, item_bytes, put_bytes, op_bytes, entry_bytes, state_text}
 use Rattle.docker_model.specs.state.StatePart.{key_text}
 use Rattle.state_laws.proofs.texts.StateReadBack.{item_width, stamp_width}
 use Rattle.state_text.specs.Entries.{IsOfWidth}
@@ -35,11 +35,7 @@ schedule_length key body lines n is of count = subst (λ o. 4 + 80 * n ≡ lengt
 -- the length of an entry's text is the length of its key with its tag, plus 15, plus the length of
 -- its op with its body
 pub entry_length : (entry : Key × Entry) → IsOfWidth entry → length (key_text entry.0) + 15 + length (op_bytes entry.1.op) ≡ length (entry_bytes entry)
-entry_length entry is =
-    let wide = is.2 in
-    let first = length-append (key_text entry.0 ++ stamp_bytes entry.1.stamp) (op_bytes entry.1.op) in
-    let second = length-append (key_text entry.0) (stamp_bytes entry.1.stamp) in
-    omega arith
+entry_length = search (rules, length-append)
 
 widths : (ledger : List LedgerItem) (entries : List (Key × Entry)) → IsLedger ledger → AllByRecursion (IsGoodEntry ledger) entries
     → AllByRecursion IsOfWidth entries
@@ -48,9 +44,8 @@ widths ledger (entry ∷ entries) is good = ((good.0.key, good.0.op, stamp_width
 
 -- in a valid state, each entry's key is good, its op fits the key, and its stamp has 15 bytes
 pub valid_widths : (state : State) → IsValid state → All IsOfWidth state.entries
-valid_widths state valid =
-    All-from_recursion IsOfWidth state.entries
-    (widths state.ledger state.entries valid.ledger (recursion_from_All (IsGoodEntry state.ledger) state.entries valid.entries.0))
+valid_widths state valid = All-from_recursion IsOfWidth state.entries
+    (widths _ _ valid.ledger (recursion_from_All (IsGoodEntry state.ledger) state.entries valid.entries.0))
 
 items_length : (items : List LedgerItem) → AllByRecursion IsGoodItem items → length (flat_map item_bytes items) ≡ 19 * length items
 items_length [] good = refl
@@ -64,12 +59,4 @@ items_length (item ∷ items) good =
 pub text_length : {A B : Type 0} (state : State) (item : A → LedgerItem) (row : B → Key × Entry) (items : List A) (rows : List B) (total : ℕ) → IsValid state
     → map item items ≡ state.ledger → map row rows ≡ state.entries → total ≡ length (flat_map entry_bytes (map row rows))
     → 22 + 19 * length items + total ≡ length (state_text dks_2 state)
-text_length state item row items rows total valid ledger entries is =
-    let wide = items_length state.ledger (recursion_from_All IsGoodItem state.ledger valid.ledger.each) in
-    let count : length items ≡ length state.ledger = sym (length-map items item) ∙ ap length ledger in
-    let same : total ≡ length (flat_map entry_bytes state.entries) = is ∙ ap (λ es. length (flat_map entry_bytes es)) entries in
-    let front = ledger_text dks_2 state.horizon (length state.ledger) state.ledger in
-    let whole = length-append (front ++ to_be_bytes w64 (length state.entries)) (flat_map entry_bytes state.entries) in
-    let before = length-append front (to_be_bytes w64 (length state.entries)) in
-    let items_part = length-append (head_text dks_2 state.horizon ++ to_be_bytes w64 (length state.ledger)) (flat_map item_bytes state.ledger) in
-    omega arith
+text_length = search (rules, items_length, recursion_from_All, length-map, length-append)

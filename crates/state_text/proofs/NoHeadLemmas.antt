@@ -1,5 +1,5 @@
 -- If a part of a put's head is missing or bad, the bytes don't begin with the head of a put.
-use Rattle.std.proofs.Common.{◌≡◌, ℕ, ◌+◌, ◌<◌, ◌≤◌, List, [], ◌∷◌, ◌++◌, length, take, drop, get_or, ap, sym, ◌∙◌, subst}
+use Rattle.std.proofs.Common.{◌≡◌, ℕ, ◌+◌, ◌<◌, ◌≤◌, List, [], ◌∷◌, ◌++◌, length, take, drop, get_or, ap, sym, ◌∙◌, subst, rules}
 use Rattle.std.proofs.Common.{arith, append_assoc, append-nil, length-append, take-append-drop}
 use Rattle.std.specs.Prelude.{slice_index, Option, Some, None, MatchOption}
 use Rattle.std.specs.Int.{w32, to_be_bytes, from_be_bytes}
@@ -10,7 +10,7 @@ use Rattle.docker_model.specs.state.Op.{key_tag}
 use Rattle.docker_model.specs.state.State.{State, IsLedger, IsStampIn}
 use Rattle.docker_model.specs.state.StateText.{key_bytes, stamp_bytes, key_in, stamp_in}
 use Rattle.docker_model.specs.state.StatePart.{EntryPart, before_body, before_line, key_text, key_width, part_text, IsLineCount, IsStampHere}
-use Rattle.docker_model.specs.state.StateFault.{StateCause, IsBadKey}
+use Rattle.docker_model.specs.state.StateFault.{StateCause}
 use Rattle.state_laws.proofs.texts.StateReadBack.{key_read, key_width_is, stamp_read, stamp_width}
 use Rattle.state_laws.proofs.texts.TextsBefore.{read_32}
 use Rattle.state_laws.proofs.texts.GoodPartLeads.{no_bad_key}
@@ -59,7 +59,7 @@ module _ (state : State) (number : ℕ) (bytes key rest stamp op : List ℕ) (le
       → (key_in number key ≡ k) × (stamp_in stamp ≡ s) × (slice_index op 0 ≡ 1)
   put_read k s parts = (
     ap (λ t. key_in t key) (sym tag) ∙ ap (key_in (key_tag k)) (sym same_key) ∙ key_read k parts.here.0.0,
-    ap stamp_in (sym same_stamp) ∙ stamp_read state.ledger s ledger parts.here.1,
+    ap stamp_in (sym same_stamp) ∙ stamp_read _ s ledger parts.here.1,
     sym (ap (λ xs. slice_index xs 0) same_op),
   )
     where
@@ -70,22 +70,22 @@ module _ (state : State) (number : ℕ) (bytes key rest stamp op : List ℕ) (le
       text = sym (append_assoc (key_bytes k) (stamp_bytes s) (1 ∷ [])) ∙ ap (drop 1) parts.text ∙ front ∙ ap (λ xs. key ++ xs) back
 
       size : length (key_bytes k) ≡ length key
-      size = key_width_is k parts.here.0.0 ∙ ap key_width tag ∙ sym key_size
+      size = key_width_is _ parts.here.0.0 ∙ ap key_width tag ∙ sym key_size
 
       same_key : key_bytes k ≡ key
-      same_key = front_same (key_bytes k) (stamp_bytes s ++ 1 ∷ []) key (stamp ++ op) text size
+      same_key = front_same (key_bytes k) _ key _ text size
 
       behind : stamp_bytes s ++ 1 ∷ [] ≡ stamp ++ op
-      behind = back_same (key_bytes k) (stamp_bytes s ++ 1 ∷ []) key (stamp ++ op) text size
+      behind = back_same (key_bytes k) _ key _ text size
 
       width : length (stamp_bytes s) ≡ length stamp
-      width = stamp_width state.ledger s ledger parts.here.1 ∙ sym stamp_size
+      width = stamp_width state.ledger _ ledger parts.here.1 ∙ sym stamp_size
 
       same_stamp : stamp_bytes s ≡ stamp
-      same_stamp = front_same (stamp_bytes s) (1 ∷ []) stamp op behind width
+      same_stamp = front_same (stamp_bytes s) _ stamp _ behind width
 
       same_op : 1 ∷ [] ≡ op
-      same_op = back_same (stamp_bytes s) (1 ∷ []) stamp op behind width
+      same_op = back_same (stamp_bytes s) _ stamp _ behind width
 
   -- if the op's byte isn't 1, which stands for a put, the bytes aren't a put's tag, key, stamp and
   -- op
@@ -95,15 +95,12 @@ module _ (state : State) (number : ℕ) (bytes key rest stamp op : List ℕ) (le
   -- if the key is bad, the bytes aren't a put's tag, key, stamp and op
   pub bad_key : (cause : Option StateCause) → IsKeyCause state (key_in number key) cause → (k : Key) (s : Stamp)
       → ¬ AreParts state (number ∷ bytes) (before_body k s)
-  bad_key None bad k s parts = bad
-  bad_key (Some cause) bad k s parts =
-      no_bad_key state k cause parts.here.0.0 parts.here.0.1 (subst (λ it. IsBadKey state it cause) (put_read k s parts).0 bad)
+  bad_key = search (rules, no_bad_key, put_read)
 
   -- if the stamp is bad, the bytes aren't a put's tag, key, stamp and op
   pub bad_stamp : ¬ IsStampIn state.ledger (stamp_in stamp) → (k : Key) (s : Stamp) → ¬ AreParts state (number ∷ bytes) (before_body k s)
-  bad_stamp bad k s parts = bad (subst (IsStampIn state.ledger) (sym (put_read k s parts).1) parts.here.1)
+  bad_stamp = search (rules, put_read)
 
--- bytes that are too short don't begin with a put's tag, key, stamp and op
 pub too_short : (state : State) (number n : ℕ) (bytes : List ℕ) → IsLedger state.ledger → n ≡ key_width number + 16 → length bytes < n
     → BeginsWithNoParts IsBeforeBody state (number ∷ bytes)
 too_short state number n bytes ledger size short (before_body key stamp) len ends parts =
@@ -133,8 +130,7 @@ head_of_body count state number bytes None other none = never
   where
     never : BeginsWithNoParts IsPutHead state (number ∷ bytes)
     never (before_body key stamp) len ends parts = none (before_body key stamp) len tt parts
-    never (before_line key stamp n lines) len ends parts =
-        other (sym (first_of len 3 number (drop 1 (part_text (before_line key stamp n lines))) bytes parts.text))
+    never (before_line key stamp n lines) len ends parts = other (sym (first_of _ _ _ _ _ parts.text))
     never _ len ends parts = ends
 head_of_body count state number bytes (Some head) other begins = record {
   part = begins.part;
@@ -148,39 +144,28 @@ head_of_body count state number bytes (Some head) other begins = record {
     whole : (part : EntryPart) → IsBeforeBody part → AreParts state (take head.1 (number ∷ bytes)) part → IsPutHead part
     whole (before_body (tiploc_key code) stamp) ends parts = tt
     whole (before_body (association_key key) stamp) ends parts = tt
-    whole (before_body (schedule_key key) stamp) ends parts = other (sym (tag_at head.1 number bytes state (schedule_key key) stamp parts))
+    whole (before_body (schedule_key key) stamp) ends parts = other (sym (tag_at _ _ _ _ _ _ parts))
     whole (before_line key stamp n lines) ends parts = absurd ends
     whole _ ends parts = ends
 
 -- bytes that don't begin with a tag don't begin with the head of a put
 pub other_tag : (state : State) (number : ℕ) (bytes : List ℕ) → ¬ (number ≡ 1) → ¬ (number ≡ 2) → ¬ (number ≡ 3)
     → BeginsWithNoParts IsPutHead state (number ∷ bytes)
-other_tag state number bytes one two three (before_body (tiploc_key code) stamp) len ends parts =
-    one (sym (tag_at len number bytes state (tiploc_key code) stamp parts))
-other_tag state number bytes one two three (before_body (association_key key) stamp) len ends parts =
-    two (sym (tag_at len number bytes state (association_key key) stamp parts))
-other_tag state number bytes one two three (before_line key stamp n lines) len ends parts =
-    three (sym (first_of len 3 number (drop 1 (part_text (before_line key stamp n lines))) bytes parts.text))
-other_tag state number bytes one two three _ len ends parts = ends
+other_tag = search (rules, tag_at, first_of)
 
 -- if bytes with the tag of a schedule begin with the head of a put, it is the head of a schedule's
 -- put
 of_schedules : (state : State) (bytes : List ℕ)
     → ((key : ScheduleKey) (stamp : Stamp) (n len : ℕ) → ¬ AreParts state (take len (3 ∷ bytes)) (before_line key stamp n []))
     → BeginsWithNoParts IsPutHead state (3 ∷ bytes)
-of_schedules state bytes none (before_body (tiploc_key code) stamp) len ends parts =
-    let tag : ◌≡◌ {A = ℕ} 1 3 = tag_at len 3 bytes state (tiploc_key code) stamp parts in omega arith
-of_schedules state bytes none (before_body (association_key key) stamp) len ends parts =
-    let tag : ◌≡◌ {A = ℕ} 2 3 = tag_at len 3 bytes state (association_key key) stamp parts in omega arith
-of_schedules state bytes none (before_line key stamp n lines) len ends parts =
-    none key stamp n len (subst (λ first. AreParts state (take len (3 ∷ bytes)) (before_line key stamp n first)) ends parts)
+of_schedules state bytes none (before_body (tiploc_key code) stamp) len ends parts = search (rules, tag_at)
+of_schedules state bytes none (before_body (association_key key) stamp) len ends parts = search (rules, tag_at)
+of_schedules state bytes none (before_line key stamp n lines) len ends parts = search rules
 of_schedules state bytes none _ len ends parts = ends
 
 head_split : (key : ScheduleKey) (stamp : Stamp) (n : ℕ)
     → part_text (before_line key stamp n []) ≡ part_text (before_body (schedule_key key) stamp) ++ to_be_bytes w32 n
-head_split key stamp n =
-    let front = key_text (schedule_key key) ++ stamp_bytes stamp in
-    append-nil (front ++ 1 ∷ to_be_bytes w32 n) ∙ sym (append_assoc front (1 ∷ []) (to_be_bytes w32 n))
+head_split = search (rules, append-nil, append_assoc)
 
 -- bytes that are too short don't begin with the head of a schedule's put
 pub no_lines : (state : State) (bytes : List ℕ) → IsLedger state.ledger → length bytes < 29 → BeginsWithNoParts IsPutHead state (3 ∷ bytes)

@@ -1,33 +1,21 @@
 -- Lemmas on setting the horizon that was read from a text, after the text's ledger items and
 -- entries were read.
-use Rattle.std.proofs.Common.{◌≡◌, ℕ, ap, sym, ◌∙◌, subst}
-use Rattle.std.specs.Prelude.{max}
-use Rattle.docker_model.specs.state.State.{State, IsValid, IsJoin, lapse_state, raise_horizon}
-use Rattle.state_laws.proofs.joins.RaisedHorizon.{set_last, join_then_set}
+use Rattle.std.proofs.Common.{◌≡◌, ℕ, sym, subst, rules}
+use Rattle.docker_model.specs.state.State.{State, IsJoin, raise_horizon}
+use Rattle.state_laws.proofs.joins.RaisedHorizon.{join_then_set}
 use Rattle.docker_state.specs.Parts.{under}
 
 -- if the parts have the horizon 0, setting their horizon to 0 changes nothing
 pub under_none : (parts : State) → parts.horizon ≡ 0 → parts ≡ under 0 parts
 under_none parts none = λ k. record { horizon = none k; ledger = parts.ledger; entries = parts.entries }
 
--- suppose that the parts have no horizon, and that with the given horizon they are a valid state.
--- Then raising their horizon to the given one only sets the horizon: no entry lapses
-pub set_behind : (horizon : ℕ) (told parts state raised : State) → told ≡ under horizon parts → parts.horizon ≡ 0 → IsValid told → state ≡ parts
-    → raised ≡ raise_horizon horizon state
-    → raised ≡ told
-set_behind horizon told parts state raised is none valid same set =
-    set ∙ ap (raise_horizon horizon) same ∙ ap (λ n. lapse_state (max n horizon) parts) none ∙ set_last (under horizon parts) (subst IsValid is valid) ∙ sym is
-
 -- suppose that the parts have no horizon. Joining a state with the parts under a horizon has the
 -- same result as joining it with the parts, and then raising the horizon to this day
 pub join_behind : (horizon : ℕ) (own told parts joined state : State) → told ≡ under horizon parts → parts.horizon ≡ 0 → IsJoin own parts joined
     → state ≡ raise_horizon horizon joined → IsJoin own told state
-join_behind horizon own told parts joined state is none join set =
-    subst (λ t. IsJoin own t state) (sym is)
-    (subst (λ s. IsJoin own (under horizon parts) s) (sym set)
-    (join_then_set own (under horizon parts) joined (subst (λ p. IsJoin own p joined) (under_none parts none) join)))
+join_behind horizon own told parts joined state is none join set = subst (λ t. IsJoin own t state) (sym is)
+    (subst (λ s. IsJoin own (under horizon parts) s) (sym set) (join_then_set _ _ _ (subst (λ p. IsJoin own p joined) (under_none _ none) join)))
 
 -- joining with parts that have no horizon has the same result as joining with these parts and the horizon 0
 pub join_plain : (own told parts joined : State) → told ≡ under 0 parts → parts.horizon ≡ 0 → IsJoin own parts joined → IsJoin own told joined
-join_plain own told parts joined is none join =
-    subst (λ t. IsJoin own t joined) (sym is) (subst (λ p. IsJoin own p joined) (under_none parts none) join)
+join_plain = search (rules, under_none)

@@ -1,6 +1,7 @@
 -- Lemmas on staging the entries that are given to a receiving state. Committing the staged entries
 -- joins this state with the given entries and ledger items.
 use Rattle.std.proofs.Common.{◌≡◌, ℕ, ◌-◌, List, [], ◌∷◌, ◌++◌, length, refl, ap, sym, ◌∙◌, subst, inl, inr, arith, length-append, All, Some, None}
+use Rattle.std.proofs.Common.{rules}
 use Rattle.std.specs.Prelude.{Option, slice_get}
 use Rattle.docker_model.specs.file.Change.{Key}
 use Rattle.docker_model.specs.state.Op.{Entry, key_cmp}
@@ -26,21 +27,15 @@ above_staged own floor entries staged key are above other among =
 -- it contains exactly those given entries that the receiving state has to take over
 pub offered_more : (own : State) (staging after : Staging) (entries : List (Key × Entry)) (key : Key) (entry : Entry) → IsStagedOf own staging entries
     → IsAboveStaged staging.staged key → IsOffered own staging key entry after → IsStagedOf own after (entries ++ (key, entry) ∷ [])
-offered_more own staging after entries key entry are above (inl to) =
-    subst (λ (s : Staging). IsStagedOf own s (entries ++ (key, entry) ∷ [])) (sym to.1)
-    (record { floor = are.floor; staged = one_staged_more own staging.floor entries staging.staged key entry are.staged above to.0 })
-offered_more own staging after entries key entry are above (inr out) =
-    subst (λ (s : Staging). IsStagedOf own s (entries ++ (key, entry) ∷ [])) (sym out.1)
-    (record { floor = are.floor; staged = one_left_out own staging.floor entries staging.staged key entry are.staged out.0 })
+offered_more own staging after entries key entry are above (inl to) = subst (λ (s : Staging). IsStagedOf own s (entries ++ (key, entry) ∷ [])) (sym to.1)
+    (record { floor = are.floor; staged = one_staged_more _ _ _ _ _ _ are.staged above to.0 })
+offered_more own staging after entries key entry are above (inr out) = subst (λ (s : Staging). IsStagedOf own s (entries ++ (key, entry) ∷ [])) (sym out.1)
+    (record { floor = are.floor; staged = one_left_out _ _ _ _ _ _ are.staged out.0 })
 
 -- a staging with the right floor is correct if no entry was given and no entry is staged
 pub none_staged : (own : State) (staging : Staging) (entries : List (Key × Entry)) → entries ≡ [] → staging.staged ≡ []
     → IsFloor (own.ledger ++ staging.items) staging.floor → IsStagedOf own staging entries
-none_staged own staging entries none empty floor = record {
-  floor = floor;
-  staged = subst (λ es. IsStaged own staging.floor es staging.staged) (sym none)
-      (subst (λ es. IsStaged own staging.floor [] es) (sym empty) (nothing_staged own staging.floor));
-}
+none_staged = search (rules, nothing_staged)
 
 -- committing the staged entries joins the receiving state with the received ledger items and all
 -- entries that were given
@@ -49,9 +44,8 @@ pub commit_joins : (own after : State) (items : List LedgerItem) (held : Option 
     → IsStagedOf own staging entries
     → ((offered : List (Key × Entry)) → IsStaged own staging.floor offered staging.staged → IsCommit own staging.items staging.staged after)
     → IsJoin own (given_state (items_of items held) entries) after
-commit_joins own after items held entries staging horizon valid told same are commit =
-    subst (λ its. IsJoin own (given_state its entries) after) (sym same)
-    (staging_joins_before own (under horizon (given_state staging.items entries)) staging.floor staging.staged after valid
+commit_joins own after items held entries staging horizon valid told same are commit = subst (λ its. IsJoin own (given_state its entries) after) (sym same)
+    (staging_joins_before _ _ _ _ _ valid
     (subst (λ its. IsValid (under horizon (given_state its entries))) same told) are.floor are.staged (commit entries are.staged))
 
 -- if there are no entries, there is no last key

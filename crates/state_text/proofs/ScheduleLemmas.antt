@@ -1,35 +1,19 @@
 -- Lemmas on how the lines of a schedule are judged.
-use Rattle.std.proofs.Common.{◌≡◌, ◌∙◌, ℕ, List, [], ◌∷◌, ◌++◌, length, refl, ap, sym, subst, inl, inr, ◌⊎◌, Some}
-use Rattle.std.proofs.Common.{None, ◌+◌, ◌<◌, ◌≤◌, Bool, true, false, arith, length-append}
+use Rattle.std.proofs.Common.{◌≡◌, ℕ, List, [], ◌∷◌, ◌++◌, length, refl, sym, subst, inl, inr, ◌⊎◌, Some, rules}
+use Rattle.std.proofs.Common.{None, ◌+◌, ◌<◌, Bool, true, false, arith, length-append}
 use Rattle.std.specs.Prelude.{Option, IsTrue, ◌↔◌, slice_index_or}
 use Rattle.std.proofs.Math.Seq.{get_or-append_seam}
 use Rattle.std.proofs.lemmas.Bool.{cases_lt}
-use Rattle.docker_model.specs.records.Record.{HasKind, basic_schedule}
-use Rattle.docker_model.specs.records.Field.{HasGoodFields}
 use Rattle.docker_model.specs.file.Change.{ScheduleKey}
 use Rattle.docker_model.specs.state.State.{State}
-use Rattle.docker_model.specs.file.File.{first_record, IsSchedule, BeginsSchedule}
-use Rattle.docker_model.specs.state.StateFault.{StateCause, bad_mark, bad_item, bad_order, bad_floor, bad_tag, bad_stamp}
-use Rattle.docker_model.specs.state.StateFault.{bad_body, too_short, has_tail, too_long, bad_horizon}
-use Rattle.state_text.specs.Judged.{IsOfKey, IsFirstOf}
+use Rattle.docker_model.specs.file.File.{IsSchedule, BeginsSchedule}
+use Rattle.docker_model.specs.state.StateFault.{StateCause}
+use Rattle.docker_model.specs.state.StateFault.{bad_body}
+use Rattle.state_text.specs.Judged.{IsOfKey}
 use Rattle.state_text.specs.Lines.{BeginUpTo, AreLinesIn, AreLinesUpToIn, IsLineRefusal, IsUpToRefusal}
 
 abbrev Lines : Type 0
 Lines = List (List ℕ)
-
-first_kind : (line : List ℕ) → BeginsSchedule (line ∷ []) → HasKind basic_schedule line × HasGoodFields line
-first_kind line begin =
-    let same : line ≡ begin.1.basic = ap first_record begin.1.whole in
-    (subst (HasKind basic_schedule) (sym same) begin.1.kind, subst HasGoodFields (sym same) begin.1.fields)
-
--- if a line can't be the first line of a schedule with this key, no schedule with this key begins
--- with the line
-pub not_first : (state : State) (key : ScheduleKey) (count : ℕ) (lines : Lines) (line : List ℕ) → lines ≡ [] → ¬ IsFirstOf state.horizon key line
-    → ¬ AreLinesUpToIn state key count (lines ++ line ∷ [])
-not_first state key count lines line none bad are =
-    let one = subst (λ (l : Lines). AreLinesUpToIn state key count (l ++ line ∷ [])) none are in
-    let first = first_kind line one.0.lines_of.begin in
-    bad (record { kind = first.0; fields = first.1; of_key = record { new = one.0.lines_of.new; key_is = one.0.lines_of.key_is; stays = one.1 } })
 
 -- after one more line is appended, the lines still belong to a schedule with the key, and this schedule still doesn't end before the horizon
 pub one_line_more : (state : State) (key : ScheduleKey) (lines : Lines) (line : List ℕ) → (lines ≡ []) ⊎ AreLinesIn state key lines
@@ -41,11 +25,7 @@ one_line_more state key (basic ∷ lines) line (inr are) first begin = (record {
 
 -- if no line follows the next line, the next line is the last of `count` lines
 pub no_more : (more : Bool) (n count : ℕ) → (IsTrue more ↔ (n + 1 < count)) → n < count → more ≡ false → n + 1 ≡ count
-no_more more n count tells few none = by (cases_lt (n + 1) count)
-  where
-    by : (n + 1 < count) ⊎ (count ≤ n + 1) → n + 1 ≡ count
-    by (inl below) = absurd (let told = tells.1 below in cc)
-    by (inr enough) = omega arith
+no_more = search (rules, cases_lt)
 
 -- the last of `count` lines is refused if it doesn't complete a schedule
 pub incomplete : (count : ℕ) (lines : Lines) (line : List ℕ) (more complete : Bool) → (IsTrue more ↔ (length lines + 1 < count)) → length lines < count
@@ -61,8 +41,7 @@ incomplete count lines line more complete tells few none is not_one up_to =
 -- come there if it isn't the last line, or if these lines are a whole schedule
 pub begin_up_to : (count : ℕ) (lines : Lines) (line : List ℕ) (more : Bool) → (IsTrue more ↔ (length lines + 1 < count)) → BeginsSchedule (lines ++ line ∷ [])
     → (more ≡ true) ⊎ IsSchedule (lines ++ line ∷ []) → BeginUpTo count (lines ++ line ∷ [])
-begin_up_to count lines line more tells begin (inl is) = record
-    { begin = begin; complete = λ all. let size = length-append lines (line ∷ []) in let below = tells.0 is in absurd (omega arith) }
+begin_up_to count lines line more tells begin (inl is) = search (rules, length-append)
 begin_up_to count lines line more tells begin (inr whole) = record { begin = begin; complete = λ all. whole }
 
 -- suppose that some schedule begins with the lines so far and the next line. The next line may
@@ -74,9 +53,7 @@ more_up_to count lines line more begin = record { begin = begin; complete = λ a
 -- the last line of the buffer is the line that was written there
 pub written_last : (lines after : Lines) (line found : List ℕ) (at : ℕ) → after ≡ lines ++ line ∷ [] → at ≡ length lines → found ≡ slice_index_or after at found
     → found ≡ line
-written_last lines after line found at put last is =
-    is ∙ ap (λ rows. slice_index_or rows at found) put ∙ ap (λ n. slice_index_or (lines ++ line ∷ []) n found) last
-    ∙ get_or-append_seam lines line [] found
+written_last = search (rules, get_or-append_seam)
 
 -- suppose that a line may come next in a schedule of `count` lines. If the lines before it belong to a schedule with the key, these lines and this line are the
 -- first lines of such a schedule
@@ -96,13 +73,4 @@ line_refused state key count lines line bytes same here first None up_to = lines
 line_refused state key count lines line bytes same here first (Some bad_body) refused = λ are.
     let told = subst (λ b. AreLinesUpToIn state key count (lines ++ b ∷ [])) (sym same) are in
     refused (record { begin = told.0.lines_of.begin; complete = told.0.complete })
-line_refused state key count lines line bytes same here first (Some bad_mark) refused = absurd refused
-line_refused state key count lines line bytes same here first (Some bad_item) refused = absurd refused
-line_refused state key count lines line bytes same here first (Some bad_order) refused = absurd refused
-line_refused state key count lines line bytes same here first (Some bad_floor) refused = absurd refused
-line_refused state key count lines line bytes same here first (Some bad_tag) refused = absurd refused
-line_refused state key count lines line bytes same here first (Some bad_stamp) refused = absurd refused
-line_refused state key count lines line bytes same here first (Some too_short) refused = absurd refused
-line_refused state key count lines line bytes same here first (Some has_tail) refused = absurd refused
-line_refused state key count lines line bytes same here first (Some too_long) refused = absurd refused
-line_refused state key count lines line bytes same here first (Some bad_horizon) refused = absurd refused
+line_refused state key count lines line bytes same here first _ refused = absurd refused

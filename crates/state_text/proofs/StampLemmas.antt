@@ -60,9 +60,8 @@ stamps_rise item items file is = λ i j d before within. by i j d before within 
   where
     by : (i j : ℕ) (d : _) → i ≤ j → j < length items → (i < j) ⊎ (j ≤ i)
         → ordering_index (stamp_order item file (get_or items i d)) ≤ ordering_index (stamp_order item file (get_or items j d))
-    by i j d before within (inl strictly) =
-        rises item file (item (get_or items i d)).stamp (item (get_or items j d)).stamp
-        (stamps_below (item (get_or items i d)) (item (get_or items j d)) (below_at item items i j d is.ascending strictly within))
+    by i j d before within (inl strictly) = rises item _ (item (get_or items i d)).stamp (item (get_or items j d)).stamp
+        (stamps_below _ (item (get_or items j d)) (below_at _ items _ j d is.ascending strictly within))
     by i j d before within (inr after) =
         let same : i ≡ j = omega arith in
         subst (λ k. ordering_index (stamp_order item file (get_or items i d)) ≤ ordering_index (stamp_order item file (get_or items k d))) same (omega arith)

@@ -5,22 +5,17 @@ use Rattle.docker_model.specs.state.StatePart.{key_text, IsKeyHere}
 use Rattle.docker_join.specs.Meaning.{stamp_meant}
 use Rattle.docker_state.specs.Meaning.{item_meant}
 use Rattle.state_text.specs.Stage.{tag_meant}
-use Rattle.state_text.specs.FaultMeaning.{cause_meant}
 use Rattle.state_text.proofs.HeadLemmas.{is_tag, put_text}
 use Rattle.state_text.proofs.NoHeadLemmas.{bad_key, bad_stamp, other_op}
 use Rattle.state_text.proofs.head.put_of.Goals as goal
 
 pub returns-then-op-ne-PUT : goal.returns-then-op-ne-PUT
-returns-then-op-ne-PUT g c =
-    other_op c.args.parts.now (tag_meant c.args.tag) c.args.bytes.now c.split_at.result.0.now c.split_at.result.1.now c.split_at-2.result.0.now
-    c.split_at-2.result.1.now c.requires.valid.ledger c.split_at.ensures.by_index.0 c.split_at-2.ensures.by_index.0
+returns-then-op-ne-PUT g c = other_op _ _ _ _ _ _ _ c.requires.valid.ledger c.split_at.ensures.by_index.0 c.split_at-2.ensures.by_index.0
     (c.split_at.ensures.front_len ∙ c.width.ensures.value) c.split_at-2.ensures.front_len c.if-op-ne-PUT.true
 
 pub returns-in_default : goal.returns-in_default
-returns-in_default g c =
-    bad_key c.args.parts.now (tag_meant c.args.tag) c.args.bytes.now c.split_at.result.0.now c.split_at.result.1.now c.split_at-2.result.0.now
-    c.split_at-2.result.1.now c.requires.valid.ledger c.split_at.ensures.by_index.0 c.split_at-2.ensures.by_index.0
-    (c.split_at.ensures.front_len ∙ c.width.ensures.value) c.split_at-2.ensures.front_len (cause_meant c.in_default.field-0) c.in_default.ensures
+returns-in_default g c = bad_key _ _ _ _ _ _ _ c.requires.valid.ledger c.split_at.ensures.by_index.0 c.split_at-2.ensures.by_index.0
+    (c.split_at.ensures.front_len ∙ c.width.ensures.value) c.split_at-2.ensures.front_len _ c.in_default.ensures
 
 pub returns-in_default-judged_stamp : goal.returns-in_default-judged_stamp
 returns-in_default-judged_stamp g c =
@@ -47,7 +42,7 @@ returns g c =
             (subst (IsStampIn (map item_meant c.ledger.result.now)) (sym c.in-Some.ensures.0) c.in-Some.ensures.1),
       );
       text = (λ i. key_text (c.in-Ok.ensures.0 i) ++ stamp_bytes (c.in-Some.ensures.0 i) ++ 1 ∷ [])
-          ∙ put_text (tag_meant c.args.tag) c.args.bytes.now key rest stamp op (is_tag c.args.tag) c.split_at.ensures.by_index.0
+          ∙ put_text _ _ _ _ _ _ (is_tag _) c.split_at.ensures.by_index.0
           c.split_at-2.ensures.by_index.0 (c.split_at.ensures.front_len ∙ width) c.split_at-2.ensures.front_len op_size c.if-op-ne-PUT.false
           (λ i. let fits = c.type_inv.bytes i in omega arith);
     }

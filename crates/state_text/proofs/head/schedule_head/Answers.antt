@@ -12,15 +12,12 @@ pub returns-then-bytes : goal.returns-then-bytes
 returns-then-bytes g c = no_lines c.args.parts.now c.args.bytes.now c.requires.ledger c.if-bytes.true
 
 pub returns-in_err-lines : goal.returns-in_err-lines
-returns-in_err-lines g c =
-    rw c.from_residual.ensures
-    (bad_count c.args.parts.now c.args.bytes.now c.split_at.result.0.now c.split_at.result.1.now c.split_at-2.result.0.now c.split_at-2.result.1.now
+returns-in_err-lines g c = rw c.from_residual.ensures (bad_count _ _ _ _ _ _
     c.requires.ledger c.split_at.ensures.by_index.0 c.split_at-2.ensures.by_index.0 c.split_at.ensures.front_len c.split_at-2.ensures.front_len
     c.in_err-lines.ensures)
 
 pub returns-in_default : goal.returns-in_default
-returns-in_default g c =
-    no_schedule c.args.parts.now c.args.bytes.now c.split_at.result.0.now c.split_at.result.1.now c.split_at-2.result.0.now c.split_at-2.result.1.now
+returns-in_default g c = no_schedule _ _ _ _ _ _
     c.requires.ledger c.split_at.ensures.by_index.0 c.split_at-2.ensures.by_index.0 c.split_at.ensures.front_len c.split_at-2.ensures.front_len
     c.in_default.ensures
 
@@ -29,9 +26,7 @@ returns-in-Schedule g c =
     let parts = c.args.parts.now in
     let stamp = stamp_meant c.in-Some.stamp in
     let put = c.split_at.result.0.now in
-    lines_after c.args.count parts c.in-Schedule.key c.in-Some.stamp c.in_ok-lines.lines c.args.bytes.now put c.split_at.result.1.now
-    c.split_at-2.result.0.now c.split_at-2.result.1.now c.split_at.ensures.by_index.0 c.split_at-2.ensures.by_index.0 c.split_at.ensures.front_len
-    c.split_at-2.ensures.front_len
+    lines_after _ _ _ _ _ _ _ _ _ _ c.split_at.ensures.by_index.0 c.split_at-2.ensures.by_index.0 c.split_at.ensures.front_len c.split_at-2.ensures.front_len
     (λ i. let fits = c.type_inv.bytes i in omega arith)
     (subst (λ (k : Key). AreParts parts (3 ∷ put) (before_body (key_meant k) stamp)) c.in-Schedule.is c.in-Some.ensures)
     c.in_ok-lines.ensures.0 c.in_ok-lines.ensures.1

@@ -1,8 +1,7 @@
 use Rattle.std.proofs.Common.{ap}
-use Rattle.cif_change.specs.Meaning.{key_meant, body_meant}
+use Rattle.cif_change.specs.Meaning.{body_meant}
 use Rattle.state_text.proofs.LengthLemmas.{schedule_length}
 use Rattle.state_text.proofs.length.body_len.Goals as goal
 
 pub returns-in-Schedule-clause-value : goal.returns-in-Schedule-clause-value
-returns-in-Schedule-clause-value c = schedule_length (key_meant c.args.key.now) (body_meant c.args.body.now) c.in-Schedule.lines c.len.result
-    (ap body_meant c.in-Schedule.is) c.requires c.len.ensures
+returns-in-Schedule-clause-value c = schedule_length _ _ _ _ (ap body_meant c.in-Schedule.is) c.requires c.len.ensures

@@ -6,12 +6,10 @@ use Rattle.state_text.proofs.StampLemmas.{stamp_order, file_found, file_missing,
 use Rattle.state_text.proofs.stamp.has_file.Goals as goal
 
 pub returns-in-Ok : goal.returns-in-Ok
-returns-in-Ok c =
-    file_found item_meant c.args.ledger.now (file_stamp_meant c.args.file.now) c.in-Ok.field-0 c.in-Ok.ensures.bound
+returns-in-Ok c = file_found _ _ _ _ c.in-Ok.ensures.bound
     (c.in-Ok.ensures.position (stamp_order item_meant (file_stamp_meant c.args.file.now)) (always_returns_same _ _ _ (λ a r f h. search rules)))
 
 pub returns-in-Err : goal.returns-in-Err
-returns-in-Err c =
-    file_missing item_meant c.args.ledger.now (file_stamp_meant c.args.file.now) c.in-Err.field-0
+returns-in-Err c = file_missing _ _ _ _
     (c.in-Err.ensures.position (stamp_order item_meant (file_stamp_meant c.args.file.now)) (always_returns_same _ _ _ (λ a r f h. search rules))
-    (stamps_rise item_meant c.args.ledger.now (file_stamp_meant c.args.file.now) c.requires))
+    (stamps_rise _ _ _ c.requires))

@@ -9,9 +9,8 @@ pub give-requires-clause-agrees : goal.give-requires-clause-agrees
 give-requires-clause-agrees g c =
     let lines = c.args.lines.now in
     let taken = c.in_ok-judged_line.ensures.taken refl in
-    whole_schedule g.format c.args.count c.args.parts.now (schedule_key_meant c.args.schedule.key) (stamp_meant c.args.schedule.stamp)
-    c.args.schedule.count lines c.args.bytes.now c.judged_line.new.lines c.requires.1.0.4 taken c.in_ok-take_body.field-0 c.in_ok-take_body.ensures
-    (taken_all lines c.args.bytes.now c.judged_line.new.lines c.args.schedule.count taken c.requires.1.1) (c.in_ok-judged_line.ensures.up_to refl).0
+    whole_schedule g.format c.args.count _ _ _ _ _ _ _ c.requires.1.0.4 taken _ c.in_ok-take_body.ensures
+    (taken_all _ _ _ _ taken c.requires.1.1) (c.in_ok-judged_line.ensures.up_to refl).0
 
 pub returns : goal.returns
 returns g c =

@@ -1,7 +1,6 @@
 use Rattle.std.proofs.Common.{subst, []}
 use Rattle.std.specs.List.{concat}
 use Rattle.docker_join.specs.Meaning.{row_meant}
-use Rattle.state_text.specs.Entries.{entry_head, op_lines}
 use Rattle.state_text.specs.Written.{Gives}
 use Rattle.state_text.proofs.BufferLemmas.{then_gives, fails_first, room_then_add}
 use Rattle.state_text.proofs.WriteLemmas.{entry_text}
@@ -18,11 +17,7 @@ returns g c =
     let taken = g.K.Sink.taken in
     let failures = g.K.Sink.failures in
     subst (λ bytes. Gives taken failures c.args.sink.now c.args.buffer.now.items bytes c.put_lines.result c.put_lines.new.sink c.put_lines.new.buffer.items)
-    (entry_text entry)
-    (then_gives taken failures c.args.sink.now c.make_room.new.sink c.put_lines.new.sink c.args.buffer.now.items (entry_head entry)
-    c.add_entry_head.new.buffer.items (concat (op_lines entry.1.op)) c.put_lines.new.buffer.items c.put_lines.result
-    (room_then_add (taken c.args.sink.now) c.args.buffer.now.items (taken c.make_room.new.sink) c.make_room.new.buffer.items (entry_head entry)
-    c.add_entry_head.new.buffer.items c.in_ok-make_room.ensures.gives.0 c.add_entry_head.ensures.items)
+    (entry_text _) (then_gives _ _ _ _ _ _ _ _ _ _ _ (room_then_add _ _ _ _ _ _ c.in_ok-make_room.ensures.gives.0 c.add_entry_head.ensures.items)
     c.in_ok-make_room.ensures.gives.1
     (subst (λ lines. Gives taken failures c.make_room.new.sink c.add_entry_head.new.buffer.items (concat lines) c.put_lines.result c.put_lines.new.sink
     c.put_lines.new.buffer.items) c.lines_of.ensures c.put_lines.ensures))

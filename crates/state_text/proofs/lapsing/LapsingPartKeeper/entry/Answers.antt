@@ -11,6 +11,5 @@ entry-requires-clause-here g c =
     let it = c.self.inside in
     let key = key_meant c.args.key in
     let stamp = stamp_meant c.args.entry.stamp in
-    subst (IsStampHere it.parts key) (sym (ap (λ (entry : Entry). entry.stamp) c.lapse.ensures.lapsed))
-    (kept_here g.D.HorizonDay.day it.day it.parts it.given.entries c.self.invariant key stamp
+    subst (IsStampHere it.parts key) (sym (ap (λ (entry : Entry). entry.stamp) c.lapse.ensures.lapsed)) (kept_here _ _ _ _ c.self.invariant _ _
     (subst (λ state. IsStampHere state key stamp) (sym c.self.view_is) c.requires.here))

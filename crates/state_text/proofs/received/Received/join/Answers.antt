@@ -16,11 +16,9 @@ returns-clause-ok g c = λ ok.
     let joined = c.finish-joined.ensures.ok ok (horizon_meant c.args.horizon)
     (subst (λ t. IsValid (under (horizon_meant c.args.horizon) t)) (sym c.self.view_is) c.requires) in
     elim c.if-is_ok.branch [
-      | then-is_ok+in-Some w ↦ subst (λ s. IsJoin own told s) (sym w.joined-is)
-          (join_behind w.in-Some.day own told parts c.finish-joined.result.0 w.set_horizon.new.self
+      | then-is_ok+in-Some w ↦ subst (λ s. IsJoin own told s) (sym w.joined-is) (join_behind _ _ _ _ _ _
           (ap (λ h. under (horizon_meant h) given) w.in-Some.is ∙ ap (under w.in-Some.day) (sym c.self.view_is)) refl joined w.set_horizon.ensures.raised)
-      | then-is_ok+in_default w ↦ subst (λ s. IsJoin own told s) (sym w.joined-is)
-          (join_plain own told parts c.finish-joined.result.0
+      | then-is_ok+in_default w ↦ subst (λ s. IsJoin own told s) (sym w.joined-is) (join_plain _ _ _ _
           (ap (λ h. under (horizon_meant h) given) w.in_default.is ∙ ap (under 0) (sym c.self.view_is)) refl joined)
       | else-is_ok w ↦ let none : false ≡ true = sym w.if-is_ok.false ∙ c.is_ok.ensures.value ∙ ok in cc
     ]

@@ -16,9 +16,7 @@ pub returns-clause-goes_on : goal.returns-clause-goes_on
 returns-clause-goes_on c = λ done.
     let ok : IsOk c.line.result = search rules in
     let here = subst (HasLines c.self.inside.journey) c.self.view_is c.self.invariant in
-    begin_up_to c.args.count c.args.self.now c.args.line.now c.has_more-is_last.result c.has_more-is_last.ensures
-    ((c.line.ensures.ok c.args.self.now here).0 ok)
-    (elim c.else-is_last.branch [
+    begin_up_to _ _ _ _ c.has_more-is_last.ensures ((c.line.ensures.ok c.args.self.now here).0 ok) (elim c.else-is_last.branch [
       | else-is_last-via-then-is_last+else-not-complete w ↦
           inr ((w.complete.ensures (c.args.self.now ++ c.args.line.now ∷ []) (c.line.ensures.read c.args.self.now here ok)).0 w.if-not-complete.false)
       | else-is_last-via-else-is_last w ↦ inl w.if-is_last.false
@@ -28,9 +26,7 @@ pub returns-then-is_err-2-clause-err : goal.returns-then-is_err-2-clause-err
 returns-then-is_err-2-clause-err c =
     let ok : IsOk c.line.result = search rules in
     let here = subst (HasLines c.self.inside.journey) c.self.view_is c.self.invariant in
-    begin_up_to c.args.count c.args.self.now c.args.line.now c.has_more-is_last.result c.has_more-is_last.ensures
-    ((c.line.ensures.ok c.args.self.now here).0 ok)
-    (elim c.else-is_last.branch [
+    begin_up_to _ _ _ _ c.has_more-is_last.ensures ((c.line.ensures.ok c.args.self.now here).0 ok) (elim c.else-is_last.branch [
       | else-is_last-via-then-is_last+else-not-complete w ↦
           inr ((w.complete.ensures (c.args.self.now ++ c.args.line.now ∷ []) (c.line.ensures.read c.args.self.now here ok)).0 w.if-not-complete.false)
       | else-is_last-via-else-is_last w ↦ inl w.if-is_last.false

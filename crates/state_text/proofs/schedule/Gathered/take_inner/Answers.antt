@@ -9,17 +9,14 @@ pub returns-clause-goes_on : goal.returns-clause-goes_on
 returns-clause-goes_on c = λ done.
     let ok : IsOk c.line.result = search rules in
     let at : c.len-at.result ≡ length c.self.inside.lines.items = search rules in
-    let same = written_last c.self.inside.lines.items c.push_reserved.new.self.items c.in-Some.line c.index.result.now c.len-at.result
-    c.push_reserved.ensures.items at c.index.ensures ∙ c.in-Some.ensures.value in
+    let same = written_last _ _ _ _ _ c.push_reserved.ensures.items at c.index.ensures ∙ c.in-Some.ensures.value in
     let here = subst (HasLines c.self.inside.journey) c.self.view_is c.self.invariant in
-    more_up_to c.args.count c.args.self.now c.args.bytes.now c.requires
-    (subst (λ line. BeginsSchedule (c.args.self.now ++ line ∷ [])) same ((c.line.ensures.ok c.args.self.now here).0 ok))
+    more_up_to _ _ _ c.requires (subst (λ line. BeginsSchedule (c.args.self.now ++ line ∷ [])) same ((c.line.ensures.ok c.args.self.now here).0 ok))
 
 pub returns-clause-kept : goal.returns-clause-kept
 returns-clause-kept c = λ none.
     let ok : IsOk c.line.result = search rules in
     let at : c.len-at.result ≡ length c.self.inside.lines.items = search rules in
-    let same = written_last c.self.inside.lines.items c.push_reserved.new.self.items c.in-Some.line c.index.result.now c.len-at.result
-    c.push_reserved.ensures.items at c.index.ensures ∙ c.in-Some.ensures.value in
+    let same = written_last _ _ _ _ _ c.push_reserved.ensures.items at c.index.ensures ∙ c.in-Some.ensures.value in
     let here = subst (HasLines c.self.inside.journey) c.self.view_is c.self.invariant in
     absurd (none (subst (λ line. BeginsSchedule (c.args.self.now ++ line ∷ [])) same ((c.line.ensures.ok c.args.self.now here).0 ok)))

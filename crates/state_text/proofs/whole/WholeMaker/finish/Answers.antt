@@ -15,6 +15,5 @@ returns-in-Some c =
     ∙ ap (λ h. under (horizon_meant h) c.args.self) (sym c.in-Some.is)
 
 pub returns-in-None : goal.returns-in-None
-returns-in-None c =
-    c.finish_unindexed.ensures ∙ under_none c.self.inside.parts c.self.invariant ∙ ap (under 0) c.self.view_is
+returns-in-None c = c.finish_unindexed.ensures ∙ under_none _ c.self.invariant ∙ ap (under 0) c.self.view_is
     ∙ ap (λ h. under (horizon_meant h) c.args.self) (sym c.in-None.is)
