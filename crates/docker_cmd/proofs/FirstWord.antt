@@ -1,15 +1,13 @@
 -- How `clap` reads a command whose first word is the name of a subcommand. The definitions of
 -- `clap` say that it walks over the words and stops at the subcommand's name.
-use Rattle.std.proofs.Common.{◌≡◌, ◌∙◌, ◌++◌, cond, true, false, refl, sym, ap, ap₂, List, [], ◌∷◌, Some, None, is_some, codes, option_map}
+use Rattle.std.proofs.Common.{◌≡◌, ◌∙◌, ◌++◌, true, false, refl, sym, ap, ap₂, List, [], ◌∷◌, Some, None, is_some, codes, option_map, rules}
 use Rattle.std.specs.List.{find, fold}
-use Rattle.std.specs.Option.{option_map_or}
 use Rattle.std.proofs.Math.Bool.{and-false}
-use Rattle.std.specs.Str.{bytes_eq}
-use Rattle.clap.specs.Walk.{Held, Names, Step, Text, Walk, after_step, answers_to, finished, idle, nothing_held, settled}
+use Rattle.clap.specs.Walk.{Held, Names, Step, Text, Walk, after_step, answers_to, idle, nothing_held}
 use Rattle.clap.specs.Walk.{subcommand, subcommand_met, subcommand_or_other, walk, walk_from, walked, word_met}
 use Rattle.clap.specs.Simple.{App, Shape, entered, label_of, names_of, rows_at}
-use Rattle.clap.specs.Faults.{built_fault, check_fault, defaults_fault, entered_fault, level_fault}
-use Rattle.clap.specs.Faults.{other_fault, settle_fault, step_fault, turn_fault, walk_fault}
+use Rattle.clap.specs.Faults.{built_fault, defaults_fault, level_fault}
+use Rattle.clap.specs.Faults.{turn_fault, walk_fault}
 use Rattle.clap.specs.Kinds.{Kinds, or_else}
 use Rattle.clap.proofs.WalkLemmas.{walk_stopped}
 use Rattle.clap.specs.declared.error.ErrorKind.TheVariants as kind
@@ -35,17 +33,7 @@ no_later_fault names name seen (word ∷ words) = no_later_fault names name (see
 
 -- if the second list of faults is empty, `or_else` returns the first list unchanged
 or_else_none : (kinds : Kinds) → or_else kinds [] ≡ kinds
-or_else_none [] = refl
-or_else_none (k ∷ kinds) = refl
-
--- all faults of a command, given the faults of `clap`'s walk over the words and the state in which
--- this walk ended
-abbrev faults_at : List Shape → Kinds → Walk → Kinds
-faults_at subs kinds w = or_else kinds
-    (or_else (entered_fault (built_with subs) w.stopped)
-    (or_else (settle_fault [] false w.held)
-    (or_else (defaults_fault (settled [] w.held).rows [])
-    (check_fault built_top (finished [] w.held) (is_some (entered (built_with subs) w.stopped))))))
+or_else_none = search rules
 
 -- for a command without words there is one possible fault: the subcommand is missing
 pub no_word : (subs : List Shape) → built_fault (built_with subs) nothing_held [] ≡ kind.MissingSubcommand ∷ []
@@ -57,9 +45,7 @@ no_word subs = refl
 pub unnamed_fault : (subs : List Shape) (word : Text) (words : List Text) → is_plain_word word ≡ true
     → subcommand_met (names_of (built_with subs)) idle word ≡ None
     → built_fault (built_with subs) nothing_held (word ∷ words) ≡ kind.UnknownArgument ∷ kind.InvalidSubcommand ∷ []
-unnamed_fault subs word words plain none =
-    let names = names_of (built_with subs) in
-    ap (λ kinds. faults_at subs kinds (walk [] names nothing_held (word ∷ words))) (plain_walk_fault built_top names 1 word words nothing_held plain none)
+unnamed_fault = search (rules, plain_walk_fault, built_top)
 
 module _ (subs : List Shape) (s : Shape) (name : Text) (words : List Text)
     (met : subcommand_met (names_of (built_with subs)) idle name ≡ Some name)
@@ -82,10 +68,7 @@ module _ (subs : List Shape) (s : Shape) (name : Text) (words : List Text)
 
   -- `clap`'s walk finds no fault in the subcommand's name
   named_turn : turn_fault built_top names (walk_from nothing_held) name ≡ []
-  named_turn =
-      let word_part = ap (λ o. other_fault built_top o name nothing_held) met
-      ∙ ap (λ b. cond b (kind.DisplayHelp ∷ kind.InvalidSubcommand ∷ []) []) (and-false (bytes_eq name (codes "help"))) in
-      λ i. or_else (word_part i) (step_fault built_top 1 (named_met i).0 (named_met i).1)
+  named_turn = search (rules, built_top, and-false, codes, named_met)
 
   -- `clap`'s walk over the name and the words after it finds no fault
   named_walk_fault : walk_fault built_top names (walk_from nothing_held) (name ∷ words) ≡ []
@@ -95,13 +78,8 @@ module _ (subs : List Shape) (s : Shape) (name : Text) (words : List Text)
   -- the faults of the command are the faults that the subcommand finds in the words after its name
   pub named_fault : built_fault (built_with subs) nothing_held (name ∷ words) ≡ level_fault s [] nothing_held words false []
   unfolding defaults_fault
-  named_fault =
-      ap₂ (faults_at subs) named_walk_fault named_walk
-      ∙ ap (λ found. or_else (option_map_or (λ x. level_fault x [] nothing_held words false []) found [])
-      (check_fault built_top [] (is_some (option_map (λ x. rows_at x words) found)))) under
-      ∙ or_else_none (level_fault s [] nothing_held words false [])
+  named_fault = search (rules, ap₂, named_walk_fault, named_walk, built_top, is_some, option_map, or_else_none)
 
   -- the matches of the command are the subcommand's matches for the words after its name
   pub named_rows : entered (built_with subs) (walk [] names nothing_held (name ∷ words)).stopped ≡ Some (rows_at s words)
-  named_rows =
-      ap (λ (w : Walk). entered (built_with subs) w.stopped) named_walk ∙ ap (option_map (λ x. rows_at x words)) under
+  named_rows = search (rules, named_walk, option_map)

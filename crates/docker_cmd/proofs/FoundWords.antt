@@ -1,5 +1,6 @@
 -- Looking up the words of several arguments by their ids, one id after another.
-use Rattle.std.proofs.Common.{◌≡◌, ◌∙◌, ◌<◌, ◌+◌, ℕ, List, [], ◌∷◌, ◌++◌, length, drop, Some, None, option_map, refl, sym, ap, append_assoc, slice_index_or}
+use Rattle.std.proofs.Common.{◌≡◌, ◌∙◌, ◌<◌, ◌+◌, ℕ, List, [], ◌∷◌, ◌++◌, length, drop, None, option_map, ap, slice_index_or}
+use Rattle.std.proofs.Common.{rules}
 use Rattle.std.specs.Prelude.{Option, option_and_then}
 use Rattle.std.specs.Borrow.{Bor}
 use Rattle.std.proofs.lemmas.List.{drop_more}
@@ -15,11 +16,7 @@ HasFound ids rows i found = found_words (texts ids) rows ≡ option_map (λ rest
 
 -- if no id has been looked up yet, no word has been found
 pub none_yet : (ids : List (Bor Text)) (rows : List Row) → HasFound ids rows 0 []
-none_yet ids rows = by (found_words (texts ids) rows)
-  where
-    by : (o : Option (List Text)) → o ≡ option_map (λ rest. [] ++ rest) o
-    by None = refl
-    by (Some words) = refl
+none_yet = search (rules, option_map)
 
 -- the words found before id `i`, then this word of id `i`, then the words of later ids, or `None`
 -- if id `i` or a later id has no word
@@ -31,20 +28,7 @@ with_word ids rows i found here = option_map (λ rest. found ++ rest)
 -- later ids, in this order
 one_on : (ids : List (Bor Text)) (rows : List Row) (i : ℕ) (d : Bor Text) (found : List Text) → i < length ids → HasFound ids rows i found
     → found_words (texts ids) rows ≡ with_word ids rows i found (first_of (slice_index_or ids i d).now rows)
-one_on ids rows i d found within has =
-    has ∙ ap (λ left. option_map (λ rest. found ++ rest) (found_words (texts left) rows)) (drop_more ids i d within)
-
--- if id `i` has a word, the words found before this id, followed by this word, are the words found
--- up to and including id `i`
-pub one_more : (ids : List (Bor Text)) (rows : List Row) (i : ℕ) (d : Bor Text) (found : List Text) (word : Text) → i < length ids
-    → first_of (slice_index_or ids i d).now rows ≡ Some word → HasFound ids rows i found → HasFound ids rows (i + 1) (found ++ word ∷ [])
-one_more ids rows i d found word within here has =
-    one_on ids rows i d found within has ∙ ap (with_word ids rows i found) here ∙ by (found_words (texts (drop (i + 1) ids)) rows)
-  where
-    by : (o : Option (List Text))
-        → option_map (λ rest. found ++ rest) (option_map (λ words. word ∷ words) o) ≡ option_map (λ rest. (found ++ word ∷ []) ++ rest) o
-    by None = refl
-    by (Some words) = ap Some (sym (append_assoc found (word ∷ []) words))
+one_on = search (rules, option_map, drop_more)
 
 -- if id `i` has no word, looking up all ids returns None
 pub none_here : (ids : List (Bor Text)) (rows : List Row) (i : ℕ) (d : Bor Text) (found : List Text) → i < length ids

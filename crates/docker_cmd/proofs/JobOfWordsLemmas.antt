@@ -1,5 +1,6 @@
 -- Which words name a job.
-use Rattle.std.proofs.Common.{◌≡◌, ◌∙◌, ◌↔◌, ◌≤◌, ◌-◌, List, [], ◌∷◌, length, take, drop, slice_index_or}
+use Rattle.std.proofs.Common.{◌≡◌, ◌∙◌, ◌↔◌, ◌≤◌, ◌-◌, List, [], ◌∷◌, length, take, drop, slice_index_or, rules}
+use Rattle.std.proofs.lemmas.Grind.{common_steps}
 use Rattle.std.proofs.Common.{Bool, true, false, true≢false, Some, None, subst, sym, ap, arith}
 use Rattle.std.specs.Borrow.{Bor}
 use Rattle.std.proofs.lemmas.List.{length-map, take_all}
@@ -22,10 +23,7 @@ no_subcommand words none = λ job is. none (subcommand_of job.task) job.words (j
 
 -- if words name a subcommand, but no task of this subcommand, they name no job
 pub asks_nothing : (words : List Text) (s : Subcommand) (behind : List Text) → NamesSubcommand words s behind → IsTaskOf s behind None → NameNoJob words
-asks_nothing words s behind names nothing = λ job is.
-    let same = sym names.whole ∙ is.whole in
-    let one = same_subcommand s (subcommand_of job.task) (ap first_word same) in
-    nothing job.task (sym one) (subst (AreWordsOf job.task) (sym (ap other_words same)) is.required)
+asks_nothing = search (rules, same_subcommand, first_word, other_words)
 
 -- ---- words that `clap` doesn't parse
 
@@ -36,16 +34,11 @@ no_plain_job words never = λ job is. true≢false (sym is.plain ∙ never)
 -- if the number of words isn't the number that a subcommand requires, the words name no task of the
 -- subcommand
 pub miscounted : (s : Subcommand) (words ids : List (Bor Text)) → texts ids ≡ ids_of s → (length words ≡ length ids → ⊥) → AskNothing s (texts words)
-miscounted s words ids are never = λ task same is.
-    let required = words_counted task (texts words) is ∙ ap (λ (t : Subcommand). length (ids_of t)) same in
-    never (sym (length-map words (λ word. word.now)) ∙ required ∙ ap length (sym are) ∙ length-map ids (λ id. id.now))
+miscounted = search (rules, words_counted, length-map)
 
 -- if the first word isn't a subcommand's name, the words name no job
 pub unnamed_job : (words : List (Bor Text)) (d : Bor Text) → 1 ≤ length words → None ≡ subcommand_named (slice_index_or words 0 d).now → NameNoJob (texts words)
-unnamed_job [] d some none = absurd (omega (arith, some))
-unnamed_job (word ∷ words) d some none = λ job is.
-    let never : None ≡ Some (subcommand_of job.task) = none ∙ ap subcommand_named (ap first_word is.whole) ∙ named_back (subcommand_of job.task) in
-    cc
+unnamed_job = grind (common_steps, arith, first_word, named_back)
 
 -- suppose that plain words begin with a subcommand's name. They name no job if and only if the
 -- other words name no task of the subcommand

@@ -1,8 +1,8 @@
 -- `clap` accepts words if and only if they name a subcommand. If `clap` accepts the words, it finds
 -- the subcommand that they name, and the words after its name.
-use Rattle.std.proofs.Common.{◌≡◌, ◌∙◌, ◌⊎◌, ◌||◌, inl, inr, Bool, cond, true, false, refl, sym, ap, subst}
+use Rattle.std.proofs.Common.{◌≡◌, ◌∙◌, ◌⊎◌, ◌||◌, inl, inr, Bool, cond, true, false, refl, sym, ap, subst, rules}
+use Rattle.std.proofs.lemmas.Grind.{common_steps}
 use Rattle.std.proofs.Common.{List, [], ◌∷◌, length, map, Some, None, option_map, true≢false, arith}
-use Rattle.std.specs.Prelude.{option_and_then}
 use Rattle.std.specs.List.{find, list_all}
 use Rattle.std.specs.Str.{bytes_eq}
 use Rattle.std.proofs.lemmas.Slice.Eq.{bytes_eq-Decides}
@@ -11,9 +11,9 @@ use Rattle.clap.specs.Simple.{label_of, subcommand_of}
 use Rattle.clap.specs.Faults.{fault_of}
 use Rattle.clap.proofs.WalkLemmas.{both}
 use Rattle.docker_cmd.specs.declared.tasks.Subcommand.{Subcommand}
-use Rattle.docker_cmd.specs.Tasks.{ids_of, name_of, subcommand_named, subcommands}
+use Rattle.docker_cmd.specs.Tasks.{ids_of, name_of, subcommands}
 use Rattle.docker_cmd.specs.Words.{is_plain_word, word_named}
-use Rattle.docker_cmd.specs.Grammar.{docker_app, found_at, found_in, found_words, pair_of}
+use Rattle.docker_cmd.specs.Grammar.{docker_app, found_at, found_in, pair_of}
 use Rattle.docker_cmd.proofs.FirstWord.{named_fault, named_rows, no_word, unnamed_fault}
 use Rattle.docker_cmd.proofs.RequiredWords.{count_fault, leaf_fault, paired, rows_found}
 use Rattle.docker_cmd.proofs.Rows.{known, leaf_of, leaves, named_back}
@@ -53,11 +53,7 @@ counted : (ids words : List Text) → IsCounted ids words
 counted [] [] = inl (refl, refl)
 counted [] (word ∷ words) = inr ((λ same. omega (arith, same)), refl)
 counted (id ∷ ids) [] = inr ((λ same. omega (arith, same)), refl)
-counted (id ∷ ids) (word ∷ words) = by (counted ids words)
-  where
-    by : IsCounted ids words → IsCounted (id ∷ ids) (word ∷ words)
-    by (inl is) = inl (omega (arith, is.0), is.1)
-    by (inr never) = inr ((λ same. never.0 (omega (arith, same))), never.1)
+counted (id ∷ ids) (word ∷ words) = grind (arith, (counted ids words))
 
 module _ (s : Subcommand) (words : List Text) (plain : list_all is_plain_word words ≡ true) where
   -- for the words after a subcommand's name, the only possible faults are the faults for a wrong
@@ -78,9 +74,7 @@ module _ (s : Subcommand) (words : List Text) (plain : list_all is_plain_word wo
   -- if there are as many words as the subcommand requires, looking up the subcommand's ids finds
   -- all of these words
   words_at_name : length words ≡ length (ids_of s) → found_at (name_of s) (paired (ids_of s) words) ≡ Some (pair_of s words)
-  words_at_name count =
-      ap (option_and_then (λ t. option_map (pair_of t) (found_words (ids_of t) (paired (ids_of s) words)))) (named_back s)
-      ∙ ap (option_map (pair_of s)) ((known s).found words count)
+  words_at_name = grind (common_steps, arith, option_map, paired, named_back, known)
 
   -- `clap` accepts or refuses the words after a subcommand's name, depending on their number
   named_judged : Judged (name_of s ∷ words)
@@ -110,9 +104,8 @@ IsNoneOf word (s ∷ ss) = (bytes_eq (name_of s) word ≡ false) × IsNoneOf wor
 -- if the word isn't the name of any subcommand in a list, `clap` doesn't recognise the word
 none_answers : (word : Text) (ss : List Subcommand) → IsNoneOf word ss → find (answers_to word) (map label_of (map leaf_of ss)) ≡ None
 none_answers word [] none = refl
-none_answers word (s ∷ ss) none =
-    ap (λ b. cond (b || false) (Some (name_of s, [])) (find (answers_to word) (map label_of (map leaf_of ss)))) none.0
-    ∙ none_answers word ss none.1
+none_answers word (s ∷ ss) none = ap (λ b. cond (b || false) (Some (name_of s, [])) (find (answers_to word) (map label_of (map leaf_of ss)))) none.0
+    ∙ none_answers _ ss none.1
 
 -- if the word isn't the name of any subcommand in a list, a search of the list by name returns
 -- `None`
@@ -124,18 +117,11 @@ none_found word (s ∷ ss) none = ap (λ b. cond b (Some s) (find (λ t. bytes_e
 -- the name of `s`
 no_name : (word : Text) (s : Subcommand) → IsNoneOf word subcommands → word ≡ name_of s → ⊥
 unfolding word_named
-no_name word s none is =
-    let never : None ≡ Some s = sym (none_found word subcommands none) ∙ ap subcommand_named is ∙ named_back s in
-    cc
+no_name = search (rules, none_found, named_back)
 
 -- `clap` refuses a list of plain words if the first word isn't the name of a subcommand
 unnamed_judged : (word : Text) (words : List Text) → list_all is_plain_word (word ∷ words) ≡ true → IsNoneOf word subcommands → Judged (word ∷ words)
-unnamed_judged word words plain none =
-    let fault = unnamed_fault leaves word words (both _ _ plain).0 (ap (option_map (λ (s : Text × List Text). s.0)) (none_answers word subcommands none)) in
-    inr (record {
-      fault = λ empty. true≢false (sym (ap is_empty (sym fault ∙ empty)));
-      names_none = λ s behind are. no_name word s none (ap first_word are.whole);
-    })
+unnamed_judged = search (rules, unnamed_fault, leaves, both, option_map, none_answers, true≢false, no_name, first_word)
 
 -- `clap` either accepts or refuses a word followed by plain words (`Judged`). It is enough that
 -- `clap` does so if the first word isn't the name of any subcommand in a list
@@ -150,8 +136,5 @@ by_name word words plain (s ∷ ss) unnamed = by (bytes_eq (name_of s) word) ref
 
 -- `clap` either accepts or refuses plain words
 pub judged : (words : List Text) → list_all is_plain_word words ≡ true → Judged words
-judged [] plain = inr (record {
-  fault = λ empty. true≢false (sym (ap is_empty (sym (no_word leaves) ∙ empty)));
-  names_none = λ s behind are. omega (arith, ap length are.whole);
-})
+judged [] plain = search (rules, true≢false, no_word, leaves)
 judged (word ∷ words) plain = by_name word words (both _ _ plain).1 subcommands (unnamed_judged word words plain)

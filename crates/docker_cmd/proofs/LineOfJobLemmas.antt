@@ -1,7 +1,8 @@
 -- Reading the job line byte by byte, and what the bytes read so far say about the source's text.
-use Rattle.std.proofs.Common.{◌≡◌, ℕ, ◌<◌, ◌≤◌, ◌≢◌, List, [], ◌∷◌, ◌++◌, length, Bool, true, false, refl, sym, ◌∙◌, ap}
-use Rattle.std.proofs.Common.{subst, arith, append_assoc, length-append, append-nil, Some, None, inl, inr, get_or}
-use Rattle.std.specs.Prelude.{Option, option_map, ◌&&◌, ◌⊎◌, nat_le}
+use Rattle.std.proofs.Common.{◌≡◌, ℕ, ◌<◌, ◌≤◌, ◌≢◌, List, [], ◌∷◌, ◌++◌, length, Bool, true, false, refl, sym, ◌∙◌, rules}
+use Rattle.std.proofs.lemmas.Grind.{common_steps}
+use Rattle.std.proofs.Common.{subst, arith, append_assoc, length-append, append-nil, Some, None, get_or}
+use Rattle.std.specs.Prelude.{Option}
 use Rattle.std.specs.Str.{IsAscii}
 use Rattle.std.proofs.lemmas.Str.Ascii.{IsAscii-from_all}
 use Rattle.std.proofs.lemmas.Bool.Decides.{leb_tells}
@@ -20,76 +21,51 @@ ArePrintable = AllByRecursion (λ b. is_printable b ≡ true)
 -- line of printable bytes and a line feed
 clash : (a b : List ℕ) (x : ℕ) (r s : List ℕ) → ArePrintable a → ArePrintable b → is_printable x ≡ false → x ≢ 10 → a ++ x ∷ r ≡ b ++ 10 ∷ s → ⊥
 clash [] [] x r s a_good b_good bad other same = other (cc)
-clash [] (z ∷ b) x r s a_good b_good bad other same =
-    let head : x ≡ z = cc in
-    let good : is_printable x ≡ true = subst (λ c. is_printable c ≡ true) (sym head) b_good.0 in
-    cc
-clash (y ∷ a) [] x r s a_good b_good bad other same =
-    let head : y ≡ 10 = cc in
-    let good : is_printable 10 ≡ true = subst (λ c. is_printable c ≡ true) head a_good.0 in
-    cc
+clash [] (z ∷ b) x r s a_good b_good bad other same = cc
+clash (y ∷ a) [] x r s a_good b_good bad other same = cc
 clash (y ∷ a) (z ∷ b) x r s a_good b_good bad other same = clash a b x r s a_good.1 b_good.1 bad other (cc)
 
 -- printable bytes contain no line feed
 ended : (a b s : List ℕ) → ArePrintable a → a ≡ b ++ 10 ∷ s → ⊥
 ended [] [] s good same = cc
 ended [] (z ∷ b) s good same = cc
-ended (y ∷ a) [] s good same =
-    let head : y ≡ 10 = cc in
-    let good : is_printable 10 ≡ true = subst (λ c. is_printable c ≡ true) head good.0 in
-    cc
+ended (y ∷ a) [] s good same = cc
 ended (y ∷ a) (z ∷ b) s good same = ended a b s good.1 (cc)
 
 -- if a text begins with n printable bytes, its first line has at least n bytes
 long : (a b r s : List ℕ) → ArePrintable a → length b < length a → a ++ r ≡ b ++ 10 ∷ s → ⊥
 long [] b r s good short same = absurd (omega arith)
-long (y ∷ a) [] r s good short same =
-    let head : y ≡ 10 = cc in
-    let good : is_printable 10 ≡ true = subst (λ c. is_printable c ≡ true) head good.0 in
-    cc
+long (y ∷ a) [] r s good short same = cc
 long (y ∷ a) (z ∷ b) r s good short same = long a b r s good.1 (omega arith) (cc)
 
 -- if a printable byte is appended to printable bytes, all bytes are still printable
 pub printable_more : (line : List ℕ) (b : ℕ) → ArePrintable line → is_printable b ≡ true → ArePrintable (line ++ b ∷ [])
-printable_more [] b good here = (here, tt)
-printable_more (y ∷ line) b good here = (good.0, printable_more line b good.1 here)
+printable_more = grind (common_steps, arith)
 
 -- if the bytes of a line were read and then one more byte, the line with this byte appended was
 -- read
 pub reads_on : (old now new : Option (List ℕ)) (line : List ℕ) (b : ℕ) → Reads old line now → Reads now (b ∷ []) new → Reads old (line ++ b ∷ []) new
-reads_on old now None line b first then_one = first ∙ ap (option_map (λ rest. line ++ rest)) then_one
-reads_on old now (Some rest) line b first then_one = first ∙ ap (option_map (λ rest. line ++ rest)) then_one ∙ ap Some (sym (append_assoc line (b ∷ []) rest))
+reads_on = search (rules, append_assoc)
 
 -- if all bytes of a text are printable, the text has no line feed, so it has no job line
 pub no_line_at_end : (old now : Option (List ℕ)) (line : List ℕ) → Reads old line now → IsEnd now → ArePrintable line → HasNoLine old
-no_line_at_end None now line read end good = tt
-no_line_at_end (Some text) None line read end good = cc
-no_line_at_end (Some text) (Some rest) line read end good = λ other behind is.
-    let same : text ≡ line ++ rest = cc in
-    let whole : text ≡ line = same ∙ ap (λ r. line ++ r) end ∙ append-nil line in
-    ended line other behind good (sym whole ∙ is.whole)
+no_line_at_end = search (rules, append-nil, ended)
 
 -- if the first unprintable byte of a text isn't a line feed, the text has no job line
 pub no_line_at : (old now new : Option (List ℕ)) (line : List ℕ) (b : ℕ) → Reads old line now → Reads now (b ∷ []) new → ArePrintable line
     → is_printable b ≡ false → b ≢ 10 → HasNoLine old
-no_line_at old now new line b first feed good bad other = by old new (reads_on old now new line b first feed)
+no_line_at old now new line b first feed good bad other = by old new (reads_on _ _ _ _ _ first feed)
   where
     by : (old new : Option (List ℕ)) → Reads old (line ++ b ∷ []) new → HasNoLine old
     by None new read = tt
     by (Some text) None read = cc
     by (Some text) (Some rest) read = λ found behind is.
         let same : text ≡ (line ++ b ∷ []) ++ rest = cc in
-        clash line found b rest behind good (recursion_from_All _ found is.line_text.printable) bad other
-        (sym (append_assoc line (b ∷ []) rest) ∙ sym same ∙ is.whole)
+        clash _ _ _ _ _ good (recursion_from_All _ found is.line_text.printable) bad other (sym (append_assoc line (b ∷ []) rest) ∙ sym same ∙ is.whole)
 
 -- a text that begins with more than 255 printable bytes has no job line
 pub no_line_behind : (old new : Option (List ℕ)) (line : List ℕ) → Reads old line new → ArePrintable line → 255 < length line → HasNoLine old
-no_line_behind None new line read good long_line = tt
-no_line_behind (Some text) None line read good long_line = cc
-no_line_behind (Some text) (Some rest) line read good long_line = λ found behind is.
-    let same : text ≡ line ++ rest = cc in
-    let short : length found ≤ 255 = is.line_text.short in
-    long line found rest behind good (omega arith) (sym same ∙ is.whole)
+no_line_behind = search (rules, long)
 
 -- if a text begins with 255 printable bytes and the next byte isn't a line feed, the text has no
 -- job line
@@ -98,22 +74,15 @@ pub no_line_full : (old now new : Option (List ℕ)) (line : List ℕ) (b : ℕ)
 no_line_full old now new line b first feed good full other = by (is_printable b) refl
   where
     by : (test : Bool) → is_printable b ≡ test → HasNoLine old
-    by true here = no_line_behind old new (line ++ b ∷ []) (reads_on old now new line b first feed) (printable_more line b good here)
-        (omega (arith, length-append line (b ∷ [])))
-    by false here = no_line_at old now new line b first feed good here other
+    by true here = no_line_behind _ _ _ (reads_on _ _ _ _ _ first feed) (printable_more _ _ good here) (omega (arith, length-append line (b ∷ [])))
+    by false here = no_line_at _ _ _ _ _ first feed good here other
 
 -- if two lines of printable bytes, each followed by a line feed, begin the same text, the two lines
 -- are equal
 one_line : (a b r s : List ℕ) → ArePrintable a → ArePrintable b → a ++ 10 ∷ r ≡ b ++ 10 ∷ s → a ≡ b
 one_line [] [] r s a_good b_good same = refl
-one_line [] (z ∷ b) r s a_good b_good same =
-    let head : 10 ≡ z = cc in
-    let good : is_printable 10 ≡ true = subst (λ c. is_printable c ≡ true) (sym head) b_good.0 in
-    cc
-one_line (y ∷ a) [] r s a_good b_good same =
-    let head : y ≡ 10 = cc in
-    let good : is_printable 10 ≡ true = subst (λ c. is_printable c ≡ true) head a_good.0 in
-    cc
+one_line [] (z ∷ b) r s a_good b_good same = cc
+one_line (y ∷ a) [] r s a_good b_good same = cc
 one_line (y ∷ a) (z ∷ b) r s a_good b_good same =
     let head : y ≡ z = cc in
     let rest : a ≡ b = one_line a b r s a_good.1 b_good.1 (cc) in
@@ -124,22 +93,13 @@ one_line (y ∷ a) (z ∷ b) r s a_good b_good same =
 pub no_job_on_line : (old new : Option (List ℕ)) (line : List ℕ) → ReadsLine old line new → NameNoJob (words_in line) → HasNoJob old
 no_job_on_line None new line read none = tt
 no_job_on_line (Some text) new line read none = λ other behind is.
-    let same : line ≡ other =
-    one_line line other read.0 behind (recursion_from_All _ line read.1.line_text.printable) (recursion_from_All _ other is.line_text.printable)
+    let same : line ≡ other = one_line _ _ _ _ (recursion_from_All _ line read.1.line_text.printable) (recursion_from_All _ other is.line_text.printable)
     (sym read.1.whole ∙ is.whole) in
     subst (λ (l : List ℕ). NameNoJob (words_in l)) same none
 
 -- a printable byte is ASCII
 printable_small : (b : ℕ) → is_printable b ≡ true → b < 128
-printable_small b good = by (leb_tells b 126) good
-  where
-    by : ((nat_le b 126 ≡ true) × (b ≤ 126)) ⊎ ((nat_le b 126 ≡ false) × (126 < b)) → (nat_le 32 b && nat_le b 126) ≡ true → b < 128
-    by (inl small) good = omega (arith, small.1)
-    by (inr large) good = absurd (under (nat_le 32 b) (nat_le b 126) large.0 good)
-      where
-        under : (one two : Bool) → two ≡ false → (one && two) ≡ true → ⊥
-        under true two false_ both = cc
-        under false two false_ both = cc
+printable_small = search (rules, leb_tells)
 
 -- the bytes of a job line are ASCII
 pub line_ascii : (line : List ℕ) → AllPass is_printable line → IsAscii line
@@ -148,8 +108,7 @@ line_ascii line good = IsAscii-from_all line (λ k d within. printable_small (ge
 -- if a job line was read and its words name a job, the source begins with a job line that names a
 -- job
 pub job_on_line : (old new : Option (List ℕ)) (line : List ℕ) → ReadsLine old line new → ¬ NameNoJob (words_in line) → HasJob old
-job_on_line None new line read some = tt
-job_on_line (Some text) new line read some = (line, (read.0, (read.1, some)))
+job_on_line = search rules
 
 -- if a line of at most 256 bytes was read and nothing more, at most 256 bytes were read from the
 -- source

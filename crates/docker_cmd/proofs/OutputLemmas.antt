@@ -1,5 +1,5 @@
 -- Lemmas on writing a docker, given the contract of the office that prints it.
-use Rattle.std.proofs.Common.{◌≡◌, ◌≢◌, ◌+◌, ◌⊎◌, ℕ, List, inl, inr, refl, Ok, Err}
+use Rattle.std.proofs.Common.{◌≡◌, ◌≢◌, ◌+◌, ◌⊎◌, ℕ, List, Err, rules}
 use Rattle.std.specs.Prelude.{IfErr, IsOk, Result, ⊤}
 use Rattle.docker_model.specs.state.Lapse.{IsDayRefused}
 use Rattle.docker_model.specs.state.State.{State}
@@ -23,24 +23,4 @@ pub docker_ends : {K : Type 0} (taken : K → DeviceBytes) (failures : K → ℕ
     → (result ≢ Err office.Sink → failures new ≡ failures old)
     → IfErr result IsOfDocker
     → EndsEmitting taken failures (docker_written place day) (office_read state) old new result
-docker_ends taken failures state place day old new (Ok done) ok part lapsed refused unwritten rose kept only =
-    let prints = ok refl in
-    (record { text = prints.text; is = prints.is; gained = prints.gained }, (λ is. by (refused is)), kept (λ is. cc))
-  where
-    by : ◌≡◌ {A = Result ⊤ OfficeFault} (Ok done) (Err office.Lapsed) → ⊥
-    by same = cc
-docker_ends taken failures state place day old new (Err office.Sink) ok part lapsed refused unwritten rose kept only =
-    let prints = part refl in
-    (record { text = prints.text; is = prints.is; gained = prints.gained }, (λ is. by (refused is)), rose refl)
-  where
-    by : ◌≡◌ {A = Result ⊤ OfficeFault} (Err office.Sink) (Err office.Lapsed) → ⊥
-    by same = cc
-docker_ends taken failures state place day old new (Err office.Lapsed) ok part lapsed refused unwritten rose kept only = (lapsed refl, unwritten (inl refl))
-docker_ends taken failures state place day old new (Err office.Memory) ok part lapsed refused unwritten rose kept only =
-    (tt, (λ is. by (refused is)), unwritten (inr refl))
-  where
-    by : ◌≡◌ {A = Result ⊤ OfficeFault} (Err office.Memory) (Err office.Lapsed) → ⊥
-    by same = cc
-docker_ends taken failures state place day old new (Err (office.File fault)) ok part lapsed refused unwritten rose kept only = only
-docker_ends taken failures state place day old new (Err (office.State fault)) ok part lapsed refused unwritten rose kept only = only
-docker_ends taken failures state place day old new (Err office.Source) ok part lapsed refused unwritten rose kept only = only
+docker_ends = search rules

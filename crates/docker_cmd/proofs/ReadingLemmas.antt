@@ -1,10 +1,9 @@
 -- The result of reading two sources follows from the results of reading each source.
-use Rattle.std.proofs.Common.{◌≡◌, ℕ, arith, refl, inl, inr, Err}
+use Rattle.std.proofs.Common.{◌≡◌, ℕ, Err, rules}
 use Rattle.std.specs.Prelude.{Result}
 use Rattle.cif_file.specs.FileEnds.{CountsWhyNoFile, IsWhyNoFile, StopsReadingFile}
 use Rattle.cif_file.specs.SourceRead.{WantsAtStart}
 use Rattle.cif_file.specs.declared.fault.FileReadFault as files
-use Rattle.cif_file.specs.declared.fault.FileReadFault.TheVariants as file_faults
 use Rattle.docker_model.specs.file.File.{most_records}
 use Rattle.docker_model.specs.state.StateText.{Format, dks_2}
 use Rattle.docker_bytes.specs.ReadEnds.{CountsWhy, IsWhyUnread, StopsReading}
@@ -12,7 +11,6 @@ use Rattle.docker_bytes.specs.SourceRead.{WantsMemory}
 use Rattle.docker_office.specs.Faults.{office_fault_of_file}
 use Rattle.docker_office.specs.OfficeReads.{CountsTaking, IsTakingOutcome, why_unread}
 use Rattle.docker_office.specs.declared.fault.OfficeFault.{OfficeFault}
-use Rattle.docker_office.specs.declared.fault.OfficeFault.TheVariants as office
 use Rattle.docker_cmd.specs.Prepared.{CountsSources, DeviceBytes, EndsReadingSources, FailsBy, HasNoSource, HoldsSomeState, IsWhyRefused}
 use Rattle.docker_cmd.specs.Prepared.{ReadsFew, ReadsFewOfFile, ReadsFewOfState, ReadsSources, most_bytes}
 use Rattle.docker_cmd.specs.Reads.{Sources, checked_file, one_state, state_and_file, taken_file, two_states}
@@ -25,72 +23,38 @@ pub state_refused_alone : (format : Format) (first left second : DeviceBytes) (f
     → StopsReading format most_bytes first left (IsWhyUnread WantsMemory format most_bytes first left (why_unread fault))
     (CountsWhy (why_unread fault) failed failed_now)
     → ReadsFew (one_state format) first left second second (IsWhyRefused (one_state format) first left second second fault)
-state_refused_alone format first left second failed failed_now fault ends = record { first_few = ends.few; second_few = refl; ends = by fault ends.outcome }
-  where
-    by : (fault : OfficeFault) → IsWhyUnread WantsMemory format most_bytes first left (why_unread fault)
-        → IsWhyRefused (one_state format) first left second second fault
-    by (office.File fault) why = elim why [ ]
-    by (office.State fault) why = why
-    by office.Source why = tt
-    by office.Memory why = why
-    by office.Lapsed why = why
-    by office.Sink why = why
+state_refused_alone = search rules
 
 -- if reading a state from the only source ends with a fault, the source has failed if and only if
 -- the fault is `Source`
 pub state_failed_alone : (one one_now two : ℕ) (fault : OfficeFault) → CountsWhy (why_unread fault) one one_now → FailsBy one one_now two two fault
-state_failed_alone one one_now two (office.File fault) counted = elim counted [ ]
-state_failed_alone one one_now two (office.State fault) counted = (counted, refl)
-state_failed_alone one one_now two office.Source counted = omega arith
-state_failed_alone one one_now two office.Memory counted = (counted, refl)
-state_failed_alone one one_now two office.Lapsed counted = counted
-state_failed_alone one one_now two office.Sink counted = counted
+state_failed_alone = search rules
 
 -- if taking a file from the only source ends with a fault, this fault is one for which the source
 -- may be refused
 pub file_refused_alone : {A : Type 0} (IsMade : A → Type 0) (first left second : DeviceBytes) (fault : OfficeFault) → ReadsFewOfFile first left
     → IsTakingOutcome most_records IsMade first left (Err fault)
     → ReadsFew taken_file first left second second (IsWhyRefused taken_file first left second second fault)
-file_refused_alone IsMade first left second fault few outcome = record { first_few = few; second_few = refl; ends = by fault outcome }
-  where
-    by : (fault : OfficeFault) → IsTakingOutcome most_records IsMade first left (Err fault) → IsWhyRefused taken_file first left second second fault
-    by (office.File fault) why = why
-    by (office.State fault) why = elim why [ ]
-    by office.Source why = tt
-    by office.Memory why = why
-    by office.Lapsed why = why
-    by office.Sink why = why
+file_refused_alone = search rules
 
 -- if taking a file from the only source ends with a fault, the source has failed if and only if the
 -- fault is `Source`
 pub file_failed_alone : (A : Type 0) (one one_now two : ℕ) (fault : OfficeFault) → CountsTaking {A = A} one one_now (Err fault)
     → FailsBy one one_now two two fault
-file_failed_alone A one one_now two (office.File fault) counted = (counted, refl)
-file_failed_alone A one one_now two (office.State fault) counted = elim counted [ ]
-file_failed_alone A one one_now two office.Source counted = omega arith
-file_failed_alone A one one_now two office.Memory counted = (counted, refl)
-file_failed_alone A one one_now two office.Lapsed counted = counted
-file_failed_alone A one one_now two office.Sink counted = counted
+file_failed_alone = search rules
 
 -- if checking the file in the only source ends with a fault, this fault is one for which the source
 -- may be refused
 pub check_refused : (left left_now second : DeviceBytes) (failed failed_now : ℕ) (cause : files.FileReadFault)
     → StopsReadingFile most_records left left_now (IsWhyNoFile WantsAtStart most_records left left_now cause) (CountsWhyNoFile cause failed failed_now)
     → ReadsFew checked_file left left_now second second (IsWhyRefused checked_file left left_now second second (office_fault_of_file cause))
-check_refused left left_now second failed failed_now file_faults.Source ends =
-    record { first_few = ends.no_further; second_few = refl; ends = tt }
-check_refused left left_now second failed failed_now (file_faults.File fault) ends =
-    record { first_few = ends.no_further; second_few = refl; ends = ends.outcome }
-check_refused left left_now second failed failed_now file_faults.Memory ends =
-    record { first_few = ends.no_further; second_few = refl; ends = ends.outcome }
+check_refused = search rules
 
 -- if checking the file in the only source ends with a fault, the source has failed if and only if
 -- the fault is `Source`
 pub check_failed : (one one_now two : ℕ) (cause : files.FileReadFault) → CountsWhyNoFile cause one one_now
     → FailsBy one one_now two two (office_fault_of_file cause)
-check_failed one one_now two file_faults.Source counted = omega arith
-check_failed one one_now two (file_faults.File fault) counted = (counted, refl)
-check_failed one one_now two file_faults.Memory counted = (counted, refl)
+check_failed = search rules
 
 -- ---- reading two sources
 
@@ -99,50 +63,21 @@ check_failed one one_now two file_faults.Memory counted = (counted, refl)
 pub file_unread : (first left second : DeviceBytes) (fault : OfficeFault)
     → ReadsFew (one_state dks_2) first left second second (IsWhyRefused (one_state dks_2) first left second second fault)
     → ReadsFew state_and_file first left second second (IsWhyRefused state_and_file first left second second fault)
-file_unread first left second fault reads = record { first_few = reads.first_few; second_few = inl refl; ends = by fault reads.ends }
-  where
-    by : (fault : OfficeFault) → IsWhyRefused (one_state dks_2) first left second second fault → IsWhyRefused state_and_file first left second second fault
-    by (office.File fault) why = elim why [ ]
-    by (office.State fault) why = why
-    by office.Source why = tt
-    by office.Memory why = inl (why, refl)
-    by office.Lapsed why = why
-    by office.Sink why = why
+file_unread = search rules
 
 -- suppose that reading a state from the first source ends with a fault, so that the state in the
 -- second source isn't read. Then this fault is one for which the sources may be refused
 pub state_unread : (first left second : DeviceBytes) (fault : OfficeFault)
     → ReadsFew (one_state dks_2) first left second second (IsWhyRefused (one_state dks_2) first left second second fault)
     → ReadsFew two_states first left second second (IsWhyRefused two_states first left second second fault)
-state_unread first left second fault reads = record { first_few = reads.first_few; second_few = inl refl; ends = by fault reads.ends }
-  where
-    by : (fault : OfficeFault) → IsWhyRefused (one_state dks_2) first left second second fault → IsWhyRefused two_states first left second second fault
-    by (office.File fault) why = elim why [ ]
-    by (office.State fault) why = inl why
-    by office.Source why = tt
-    by office.Memory why = inl (why, refl)
-    by office.Lapsed why = why
-    by office.Sink why = why
+state_unread = search rules
 
 -- suppose that the first source held a state, and that taking a file from the second source ends
 -- with a fault. Then this fault is one for which the sources may be refused
 pub file_refused : {A : Type 0} (IsMade : A → Type 0) (first left second second_left : DeviceBytes) (fault : OfficeFault) → HoldsSomeState first
     → ReadsFewOfState dks_2 first left → ReadsFewOfFile second second_left → IsTakingOutcome most_records IsMade second second_left (Err fault)
     → ReadsFew state_and_file first left second second_left (IsWhyRefused state_and_file first left second second_left fault)
-file_refused IsMade first left second second_left fault holds few second_few outcome = record {
-  first_few = few;
-  second_few = inr (holds, second_few);
-  ends = by fault outcome;
-}
-  where
-    by : (fault : OfficeFault) → IsTakingOutcome most_records IsMade second second_left (Err fault)
-        → IsWhyRefused state_and_file first left second second_left fault
-    by (office.File fault) why = (holds, why)
-    by (office.State fault) why = elim why [ ]
-    by office.Source why = tt
-    by office.Memory why = inr (holds, why)
-    by office.Lapsed why = why
-    by office.Sink why = why
+file_refused = search rules
 
 -- suppose that the first source held a state, and that reading a state from the second source ends
 -- with a fault. Then this fault is one for which the sources may be refused
@@ -151,42 +86,19 @@ pub state_refused : (first left second second_left : DeviceBytes) (failed failed
     → StopsReading dks_2 most_bytes second second_left (IsWhyUnread WantsMemory dks_2 most_bytes second second_left (why_unread fault))
     (CountsWhy (why_unread fault) failed failed_now)
     → ReadsFew two_states first left second second_left (IsWhyRefused two_states first left second second_left fault)
-state_refused first left second second_left failed failed_now fault holds few read = record {
-  first_few = few;
-  second_few = inr (holds, read.few);
-  ends = by fault read.outcome;
-}
-  where
-    by : (fault : OfficeFault) → IsWhyUnread WantsMemory dks_2 most_bytes second second_left (why_unread fault)
-        → IsWhyRefused two_states first left second second_left fault
-    by (office.State fault) why = inr (holds, why)
-    by (office.File fault) why = elim why [ ]
-    by office.Source why = tt
-    by office.Memory why = inr (holds, why)
-    by office.Lapsed why = why
-    by office.Sink why = why
+state_refused = search rules
 
 -- suppose that the first source hasn't failed, and taking a file from the second source ends with a
 -- fault. Then one of the two sources has failed if and only if the fault is `Source`
 pub file_failed : (A : Type 0) (one one_now two two_now : ℕ) (fault : OfficeFault) → one_now ≡ one → CountsTaking {A = A} two two_now (Err fault)
     → FailsBy one one_now two two_now fault
-file_failed A one one_now two two_now (office.File fault) same counted = (same, counted)
-file_failed A one one_now two two_now (office.State fault) same counted = elim counted [ ]
-file_failed A one one_now two two_now office.Source same counted = omega arith
-file_failed A one one_now two two_now office.Memory same counted = (same, counted)
-file_failed A one one_now two two_now office.Lapsed same counted = counted
-file_failed A one one_now two two_now office.Sink same counted = counted
+file_failed = search rules
 
 -- suppose that the first source hasn't failed, and reading a state from the second source ends with
 -- a fault. Then one of the two sources has failed if and only if the fault is `Source`
 pub state_failed : (one one_now two two_now : ℕ) (fault : OfficeFault) → one_now ≡ one → CountsWhy (why_unread fault) two two_now
     → FailsBy one one_now two two_now fault
-state_failed one one_now two two_now (office.File fault) same counted = elim counted [ ]
-state_failed one one_now two two_now (office.State fault) same counted = (same, counted)
-state_failed one one_now two two_now office.Source same counted = omega arith
-state_failed one one_now two two_now office.Memory same counted = (same, counted)
-state_failed one one_now two two_now office.Lapsed same counted = counted
-state_failed one one_now two two_now office.Sink same counted = counted
+state_failed = search rules
 
 -- ---- tasks with one source
 
@@ -197,9 +109,4 @@ pub read_alone : {S T A : Type 0} (left : S → DeviceBytes) (failures : S → �
     → ReadsSources IsMade sources (left first) (left now) (left_of second) (left_of second) result
     → CountsSources result (failures first) (failures now) (failures_of second) (failures_of second)
     → EndsReadingSources left failures left_of failures_of IsMade sources first now second second result
-read_alone left failures left_of failures_of IsMade sources first now second result some reads counted = record {
-  outcome = reads;
-  none = λ none. absurd (some none);
-  order = inl refl;
-  counted = counted;
-}
+read_alone = search rules

@@ -1,5 +1,5 @@
 -- How `clap` reads the words after a subcommand's name, if the subcommand requires words.
-use Rattle.std.proofs.Common.{◌≡◌, ◌∙◌, ◌+◌, ◌&&◌, ◌||◌, ℕ, Bool, cond, true, false, not, min, map, refl, sym, ap}
+use Rattle.std.proofs.Common.{◌≡◌, ◌∙◌, ◌+◌, ◌&&◌, ◌||◌, ℕ, Bool, cond, true, false, not, min, map, refl, sym, ap, rules}
 use Rattle.std.proofs.Common.{subst, true≢false, List, [], ◌∷◌, ◌++◌, Some, None, append_assoc, append-nil}
 use Rattle.std.specs.List.{find, fold, list_all, list_any}
 use Rattle.std.specs.Str.{bytes_eq}
@@ -8,8 +8,8 @@ use Rattle.clap.specs.Facts.{explicit_source}
 use Rattle.std.specs.Option.{option_map_or}
 use Rattle.std.proofs.Math.Bool.{and-false, or-true}
 use Rattle.clap.specs.Lexer.{usize_max}
-use Rattle.clap.specs.Walk.{Held, Row, Rule, Text, arg_by_id, arg_by_index, at_row, has_row, is_pending, more_values, nothing_held, pushed, reading_by}
-use Rattle.clap.specs.Walk.{rows_after, settled, settled_rows, to_positional, used, used_by_id, walk, walked, with_default, with_values}
+use Rattle.clap.specs.Walk.{Held, Row, Rule, Text, arg_by_id, arg_by_index, at_row, has_row, is_pending, nothing_held, reading_by}
+use Rattle.clap.specs.Walk.{rows_after, settled, settled_rows, to_positional, used, used_by_id, walk, walked, with_default}
 use Rattle.clap.specs.Simple.{Shape, built_leaf, filled, filled_from, inherited, new_rule, with_index}
 use Rattle.clap.specs.Takes.{is_given}
 use Rattle.clap.specs.Faults.{check_fault, defaults_fault, level_fault, positional_fault, settle_fault, stray_fault, use_fault, walk_fault}
@@ -61,8 +61,7 @@ paired (id ∷ ids) (word ∷ words) = row id word ∷ paired ids words
 
 -- if the disjunction of two tests is false, both tests are false
 neither : (a b : Bool) → (a || b) ≡ false → (a ≡ false) × (b ≡ false)
-neither true b e = absurd (true≢false e)
-neither false b e = (refl, e)
+neither = search (rules, true≢false)
 
 -- if no row has this id, `at_row` appends the rows in `missing`
 at_new : (id : Text) (change : Row → List Row) (missing rows : List Row) → has_row id rows ≡ false → at_row id change missing rows ≡ rows ++ missing
@@ -73,9 +72,7 @@ at_new id change missing (r ∷ rows) fresh =
 
 -- if no row has the id of a required word, `used` appends this word's row to the rows
 used_new : (position : ℕ) (id word : Text) (rows : List Row) → has_row id rows ≡ false → used (placed position id) (word ∷ []) rows ≡ rows ++ row id word ∷ []
-used_new position id word rows fresh =
-    ap (with_values id (reading_by (new_rule id)) CommandLine (word ∷ [])) (at_new id (λ _. []) [] rows fresh ∙ append-nil rows)
-    ∙ at_new id (more_values CommandLine (word ∷ [])) (row id word ∷ []) rows fresh
+used_new = search (rules, at_new, append-nil)
 
 -- at the end of `clap`'s walk over the words, a word that the walk still holds becomes a row. The
 -- rows are then `rows`, and no fault is found
@@ -100,17 +97,12 @@ settles_new s position id word rows skip found fresh = record {
 -- `clap`'s walk takes a required word as the value at its position
 at_positional : (c : List Rule) (position : ℕ) (id word : Text) (h : Held)
     → to_positional c (Some (placed position id)) word (at h position) h ≡ at (holding (settled_rows c h.pending h.rows) id word h.skip) (next position)
-at_positional c position id word h =
-    ap (λ b. at (pushed id word (cond b h (settled c h))) (next position)) (and-false (is_pending (placed position id) h.pending))
+at_positional = search (rules, at, and-false)
 
 -- after a required word, `clap`'s walk holds this word
 placed_walked : (s : Shape) (position : ℕ) (id word : Text) (h : Held) (rows : List Row) → arg_by_index s.rules position ≡ Some (placed position id)
     → Settles s h rows → is_plain_word word ≡ true → walked s.rules [] (at h position) word ≡ at (holding rows id word h.skip) (next position)
-placed_walked s position id word h rows found settles plain =
-    plain_walked s.rules [] position word h plain refl
-    ∙ ap (λ rule. to_positional s.rules rule word (at h position) h) found
-    ∙ at_positional s.rules position id word h
-    ∙ ap (λ rs. at (holding rs id word h.skip) (next position)) settles.rows_are
+placed_walked = search (rules, plain_walked, at, at_positional)
 
 -- a required word at its position causes no fault
 placed_fault : (s : Shape) (position : ℕ) (id word : Text) (rest : List Text) (h : Held) (rows : List Row)
@@ -148,10 +140,7 @@ words_fault : (s : Shape) (position : ℕ) (ids words : List Text) (h : Held) (r
     → Settles s h rows → list_all is_plain_word words ≡ true → walk_fault s [] (at h position) words ≡ surplus_fault ids words
 unfolding walk_fault
 words_fault s position [] [] h rows stray fits fresh settles plain = refl
-words_fault s position [] (word ∷ words) h rows stray fits fresh settles plain =
-    let turn = plain_turn s [] position word h (both _ _ plain).0 refl
-    ∙ ap (λ rule. option_map_or (λ a. positional_fault s.rules s.args_override_self a h) rule (stray_fault s)) fits ∙ stray in
-    ap (λ ks. or_else ks (walk_fault s [] (walked s.rules [] (at h position) word) words)) turn
+words_fault s position [] (word ∷ words) h rows stray fits fresh settles plain = search (rules, plain_turn, both, at)
 words_fault s position (id ∷ ids) [] h rows stray fits fresh settles plain = refl
 words_fault s position (id ∷ ids) (word ∷ words) h rows stray fits fresh settles plain =
     placed_fault s position id word words h rows fits.0 settles (both _ _ plain).0
@@ -181,11 +170,7 @@ words_held s position (id ∷ ids) (word ∷ words) h rows fits fresh settles pl
 
 -- if both branches of `cond` are the same rows, its value is these rows
 same_rows : (id : Text) (rows : List Row) → cond (has_row id rows) rows rows ≡ rows
-same_rows id rows = go (has_row id rows)
-  where
-    go : (b : Bool) → cond b rows rows ≡ rows
-    go true = refl
-    go false = refl
+same_rows = search rules
 
 -- required words have no default values
 no_defaults : (position : ℕ) (ids : List Text) (rows : List Row) → fold with_default rows (filled_from position (map required_rule ids)) ≡ rows
@@ -212,17 +197,13 @@ not_given id (r ∷ rows) rest fresh =
 
 -- the id of the first row counts as given (`is_given`)
 given_here : (id word : Text) (rest : List Row) → is_given id (row id word ∷ rest) ≡ true
-given_here id word rest =
-    ap (λ b. option_map_or (λ (x : Row). explicit_source x.source) (cond b (Some (row id word)) (find (λ x. bytes_eq x.id id) rest)) false)
-    ((bytes_eq-Decides id id).1 refl)
+given_here = search (rules, bytes_eq-Decides)
 
 -- a required word is missing if and only if there are fewer words than ids
 missing : (position : ℕ) (ids words : List Text) (rows : List Row) → Fresh rows ids
     → list_any (λ a. a.required && not (is_given a.id (rows ++ paired ids words))) (filled_from position (map required_rule ids)) ≡ is_short ids words
 missing position [] words rows fresh = refl
-missing position (id ∷ ids) [] rows fresh =
-    ap (λ b. not b || list_any (λ a. a.required && not (is_given a.id (rows ++ []))) (filled_from (next position) (map required_rule ids)))
-    (not_given id rows [] fresh.0)
+missing position (id ∷ ids) [] rows fresh = search (rules, not, not_given)
 missing position (id ∷ ids) (word ∷ words) rows fresh =
     let tail = filled_from (next position) (map required_rule ids) in
     let after = paired ids words in

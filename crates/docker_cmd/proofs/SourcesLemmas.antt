@@ -1,5 +1,5 @@
 -- What a job has read, as the contract of `prepare` says it.
-use Rattle.std.proofs.Common.{◌≡◌, ℕ, [], ◌∷◌, None, refl, sym, ◌∙◌, subst, Ok, Err}
+use Rattle.std.proofs.Common.{◌≡◌, ℕ, [], ◌∷◌, refl, sym, ◌∙◌, Ok, Err, rules}
 use Rattle.std.specs.Prelude.{Result}
 use Rattle.cif_laws.proofs.lists.Membership.{Contains-single, nil-Contains}
 use Rattle.docker_model.specs.file.File.{most_records}
@@ -15,7 +15,7 @@ use Rattle.docker_office.specs.OfficeReads.{why_unread}
 use Rattle.docker_office.specs.declared.fault.OfficeFault.{OfficeFault}
 use Rattle.docker_cmd.specs.Holding.{held_meant}
 use Rattle.docker_cmd.specs.Job.{JobView}
-use Rattle.docker_cmd.specs.Reads.{Sources, one_state, taken_file}
+use Rattle.docker_cmd.specs.Reads.{one_state, taken_file}
 use Rattle.docker_cmd.specs.Tasks.{TaskView, check_task, day_task, files_task, horizon_task, merge_task}
 use Rattle.docker_cmd.specs.Tasks.{migrate_task, new_task, print_task, sources_of, take_task}
 use Rattle.docker_cmd.specs.Prepared.{DeviceBytes, EndsReadingSources, HasReadToEnd, IsOfOneFile, IsPreparedFor}
@@ -26,22 +26,13 @@ use Rattle.docker_cmd.proofs.ReadingLemmas.{read_alone, state_failed_alone, stat
 -- `no_state`, the state without files and without a horizon, is the summary of no files and no
 -- horizon
 no_files : IsSummary [] 0 no_state
-no_files = record {
-  horizon_is = refl;
-  floor = None;
-  is_floor = λ item among. absurd (nil-Contains item among);
-  ledger_ascends = tt;
-  ledger = λ item. (λ among. absurd (nil-Contains item among), λ told. absurd (nil-Contains told.0 told.1.among));
-  entries_ascend = tt;
-  entries = λ key entry. (λ among. absurd (nil-Contains (key, entry) among), λ told. absurd (nil-Contains told.1.is.file told.1.is.kept.among));
-}
+no_files = search (rules, nil-Contains)
 
 -- if a new office takes one file, its state is the summary of this file, and its live table is the
 -- file's plain table
 of_one_file : (left : DeviceBytes) (state : State) → TakesFile most_records left no_state state → IsOfOneFile left (office_read state)
 of_one_file left state takes =
-    let summary : IsSummary (takes.file ∷ []) 0 state =
-    join_is_summary [] (takes.file ∷ []) 0 0 no_state takes.own state no_files takes.of_file takes.joined in
+    let summary : IsSummary (takes.file ∷ []) 0 state = join_is_summary _ _ _ _ _ _ _ no_files takes.of_file takes.joined in
     record {
       text = takes.text;
       held = takes.held;
@@ -50,8 +41,7 @@ of_one_file left state takes =
       state = state;
       read_is = refl;
       summary = summary;
-      plain = live_table_is_plain (takes.file ∷ []) state summary
-          (λ one two is_one is_two same. sym (Contains-single takes.file one is_one) ∙ Contains-single takes.file two is_two);
+      plain = live_table_is_plain _ _ summary (λ one two is_one is_two same. sym (Contains-single _ _ is_one) ∙ Contains-single _ _ is_two);
     }
 
 -- if a task's source is a file that an office takes, the content that the task has read is the
@@ -60,9 +50,7 @@ pub read_one_file : (task : TaskView) (first second : DeviceBytes) (read : ReadV
     → IsOfOneFile first read
 read_one_file new_task first second read is reads = let never : ⊥ = cc in absurd never
 read_one_file check_task first second read is reads = let never : ⊥ = cc in absurd never
-read_one_file (day_task place day) first second (file_read file) is reads =
-    let check : day_task place day ≡ check_task = reads.0 in
-    let never : ⊥ = cc in absurd never
+read_one_file (day_task place day) first second (file_read file) is reads = search rules
 read_one_file (day_task place day) first second (office_read state) is reads = of_one_file first state reads
 read_one_file take_task first second read is reads = let never : ⊥ = cc in absurd never
 read_one_file merge_task first second read is reads = let never : ⊥ = cc in absurd never
@@ -76,8 +64,7 @@ pub prepared_read : (job : JobView) (first left second second_left : DeviceBytes
     → ReadsFew (sources_of job.task) first left second second_left (IsReadOf job.task first second read × HasReadToEnd (sources_of job.task) left second_left)
     → ReadsFew (sources_of job.task) first left second second_left
     (IsPreparedFor job first second (record { job = job; read = read }) × HasReadToEnd (sources_of job.task) left second_left)
-prepared_read job first left second second_left read reads =
-    record { first_few = reads.first_few; second_few = reads.second_few; ends = ((refl, reads.ends.0), reads.ends.1) }
+prepared_read = search rules
 
 -- ---- the contract of `hold`
 
@@ -93,20 +80,14 @@ pub held_for : {S T : Type 0} (left : S → DeviceBytes) (failures : S → ℕ) 
     (first now : S) (second second_now : T) (result : Result Holding OfficeFault) → asked ≡ task
     → EndsHolding left failures left_of failures_of task first now second second_now result
     → EndsHolding left failures left_of failures_of asked first now second second_now result
-held_for left failures left_of failures_of asked task first now second second_now result is ends =
-    subst (λ (t : TaskView). EndsHolding left failures left_of failures_of t first now second second_now result) (sym is) ends
+held_for = search rules
 
 -- a task whose only source is a state has read this state
 pub state_held : {S T : Type 0} (left : S → DeviceBytes) (failures : S → ℕ) (left_of : T → DeviceBytes) (failures_of : T → ℕ) (format : Format)
     (asked task : TaskView) (first now : S) (second : T) (held : Holding) → asked ≡ task → sources_of task ≡ one_state format
     → StopsReading format most_bytes (left first) (left now) (IsReadOf task (left first) (left_of second) (held_meant held)) (failures now ≡ failures first)
     → EndsHolding left failures left_of failures_of asked first now second second (Ok held)
-state_held left failures left_of failures_of format asked task first now second held is of ends =
-    held_for left failures left_of failures_of asked task first now second second (Ok held) is
-    (subst (λ (s : Sources). EndsReadingSources left failures left_of failures_of
-    (λ held. IsReadOf task (left first) (left_of second) (held_meant held)) s first now second second (Ok held)) (sym of)
-    (read_alone left failures left_of failures_of (λ held. IsReadOf task (left first) (left_of second) (held_meant held)) (one_state format)
-    first now second (Ok held) (λ none. cc) (record { first_few = ends.few; second_few = refl; ends = (ends.outcome, tt) }) (ends.failures, refl)))
+state_held = search (rules, held_for, read_alone)
 
 -- a task whose only source is a state has read no state
 pub state_unheld : {S T : Type 0} (left : S → DeviceBytes) (failures : S → ℕ) (left_of : T → DeviceBytes) (failures_of : T → ℕ) (format : Format)
@@ -114,11 +95,4 @@ pub state_unheld : {S T : Type 0} (left : S → DeviceBytes) (failures : S → �
     → StopsReading format most_bytes (left first) (left now) (IsWhyUnread WantsMemory format most_bytes (left first) (left now) (why_unread fault))
     (CountsWhy (why_unread fault) (failures first) (failures now))
     → EndsHolding left failures left_of failures_of asked first now second second (Err fault)
-state_unheld left failures left_of failures_of format asked task first now second fault is of ends =
-    held_for left failures left_of failures_of asked task first now second second (Err fault) is
-    (subst (λ (s : Sources). EndsReadingSources left failures left_of failures_of
-    (λ held. IsReadOf task (left first) (left_of second) (held_meant held)) s first now second second (Err fault)) (sym of)
-    (read_alone left failures left_of failures_of (λ held. IsReadOf task (left first) (left_of second) (held_meant held)) (one_state format)
-    first now second (Err fault) (λ none. cc)
-    (state_refused_alone format (left first) (left now) (left_of second) (failures first) (failures now) fault ends)
-    (state_failed_alone (failures first) (failures now) (failures_of second) fault ends.failures)))
+state_unheld = search (rules, held_for, read_alone, state_refused_alone, state_failed_alone)

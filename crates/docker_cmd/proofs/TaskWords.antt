@@ -1,13 +1,14 @@
 -- The words after a subcommand determine the task.
-use Rattle.std.proofs.Common.{◌≡◌, ◌∙◌, ℕ, List, [], ◌∷◌, length, Bool, true, false, cond, Some, None}
-use Rattle.std.proofs.Common.{refl, sym, ap, subst, codes, arith, slice_index_or, true≢false}
+use Rattle.std.proofs.Common.{◌≡◌, ◌∙◌, ℕ, List, [], ◌∷◌, length, Bool, true, false, cond, Some, None, rules}
+use Rattle.std.proofs.lemmas.Grind.{common_steps}
+use Rattle.std.proofs.Common.{refl, sym, subst, codes, arith, slice_index_or, true≢false}
 use Rattle.std.specs.Prelude.{Option, option_map}
 use Rattle.std.specs.Str.{bytes_eq}
 use Rattle.std.specs.Borrow.{Bor}
 use Rattle.std.proofs.lemmas.Slice.Eq.{bytes_eq-Decides}
 use Rattle.docker_cmd.specs.declared.tasks.Subcommand.{Subcommand}
 use Rattle.docker_cmd.specs.declared.tasks.Task.{Task}
-use Rattle.docker_cmd.specs.Tasks.{AreWordsOf, TaskView, name_of, subcommand_named, subcommand_of, task_meant}
+use Rattle.docker_cmd.specs.Tasks.{AreWordsOf, TaskView, name_of, subcommand_of, task_meant}
 use Rattle.docker_cmd.specs.Words.{NamesDay, NamesPlace, NamesStored, Text, texts}
 use Rattle.docker_cmd.specs.Job.{IsTaskOf}
 use Rattle.docker_cmd.proofs.Rows.{NameBoth, Suit, named_back, suit}
@@ -26,9 +27,7 @@ other_words (word ∷ words) = words
 
 -- a subcommand's name determines the subcommand
 pub same_subcommand : (s t : Subcommand) → name_of s ≡ name_of t → s ≡ t
-same_subcommand s t same =
-    let found : Some s ≡ Some t = sym (named_back s) ∙ ap subcommand_named same ∙ named_back t in
-    cc
+same_subcommand = search (rules, named_back)
 
 -- ---- the words name a task
 
@@ -40,8 +39,7 @@ nothing_asked s words never = λ task same is. never (subst (λ t. Suit t words)
 -- name the task `q` of `t`
 pub asked : (s t : Subcommand) (words : List Text) (r q : Option Task) → t ≡ s → q ≡ r → IsTaskOf s words (option_map task_meant r)
     → IsTaskOf t words (option_map task_meant q)
-asked s t words r q same result is =
-    subst (λ o. IsTaskOf t words (option_map task_meant o)) (sym result) (subst (λ u. IsTaskOf u words (option_map task_meant r)) (sym same) is)
+asked = search rules
 
 -- this task, or None if `stdin` is given as the name of STATE
 abbrev pub unless_stdin : Text → Task → Option Task
@@ -63,9 +61,7 @@ pub state_alone : (s : Subcommand) (task : Task) → subcommand_of (task_meant t
     → ((state : Text) → NamesStored state → AreWordsOf (task_meant task) (state ∷ [])) → ((state : Text) → Suit s (state ∷ []) → NamesStored state)
     → (words : List (Bor Text)) (d : Bor Text) → length words ≡ 1
     → IsTaskOf s (texts words) (option_map task_meant (unless_stdin (slice_index_or words 0 d).now task))
-state_alone s task same holds back [] d one = absurd (omega (arith, one))
-state_alone s task same holds back (a ∷ []) d one = tested s (a.now ∷ []) a.now task same (holds a.now) (back a.now)
-state_alone s task same holds back (a ∷ b ∷ words) d one = absurd (omega (arith, one))
+state_alone = grind (common_steps, arith, tested)
 
 -- if the first of two words is the name of STATE, the two words name the task unless the name is
 -- `stdin`

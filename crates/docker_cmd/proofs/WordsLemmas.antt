@@ -1,6 +1,6 @@
 -- What `read_words` returns follows from what `clap` returns.
-use Rattle.std.proofs.Common.{◌≡◌, ◌≢◌, ◌∙◌, ◌⊎◌, inl, inr, Bool, true, sym, ap, subst, List, []}
-use Rattle.std.proofs.Common.{Option, Some, None, Result, Err, IfOk, option_map, false, true≢false}
+use Rattle.std.proofs.Common.{◌≡◌, ◌≢◌, ◌∙◌, ◌⊎◌, inl, inr, Bool, true, sym, subst, List, [], rules}
+use Rattle.std.proofs.Common.{Option, Some, Result, Err, IfOk, option_map, false, true≢false}
 use Rattle.std.specs.List.{list_all}
 use Rattle.std.specs.Option.{ok_or}
 use Rattle.std.specs.Borrow.{Bor}
@@ -37,7 +37,7 @@ pub record IsFound (words : List Text) (found : Option (Subcommand × List Text)
 -- its name
 pub words_found : (words : List Text) → list_all is_plain_word words ≡ true → fault_of docker_app words ≡ []
     → IsFound words (found_in (subcommand_of docker_app words))
-words_found words plain none = elim (judged words plain) [
+words_found words plain none = elim (judged _ plain) [
   | inl takes ↦ record {
     subcommand = takes.subcommand;
     behind = takes.behind;
@@ -51,7 +51,7 @@ words_found words plain none = elim (judged words plain) [
 pub words_refused : (words : List Text) (kind : ErrorKind) → list_all is_plain_word words ≡ true
     → (kind ≡ OutOfMemory) ⊎ IsAmong kind (fault_of docker_app words) → kind ≢ OutOfMemory → NameNoSubcommand words
 words_refused words kind plain (inl memory) other = absurd (other memory)
-words_refused words kind plain (inr among) other = elim (judged words plain) [
+words_refused words kind plain (inr among) other = elim (judged _ plain) [
   | inl takes ↦ absurd (subst (IsAmong kind) takes.no_fault among)
   | inr refuses ↦ λ s behind names. refuses.names_none s behind (record { whole = names.whole; count = names.count })
 ]
@@ -65,10 +65,4 @@ IsRead held words result = IfOk result (λ read. NamesSubcommand words read.0 (h
 -- may return this subcommand and these words
 pub read_found : {B : Type 0} (held : B → List Text) (words : List Text) (found : Option (Subcommand × B)) (rows : Option (Subcommand × List Text))
     → IsFound words rows → option_map (λ read. pair_of read.0 (held read.1)) found ≡ rows → IsRead held words (ok_or found Usage)
-read_found held words None rows is same = let bad : None ≡ Some (pair_of is.subcommand is.behind) = same ∙ is.is in absurd (cc)
-read_found held words (Some read) rows is same =
-    let some : Some (pair_of read.0 (held read.1)) ≡ Some (pair_of is.subcommand is.behind) = same ∙ is.is in
-    let pair : pair_of read.0 (held read.1) ≡ pair_of is.subcommand is.behind = cc in
-    let one = ap (λ (p : Subcommand × List Text). p.0) pair in
-    let words_are = ap (λ (p : Subcommand × List Text). p.1) pair in
-    (subst (λ s. NamesSubcommand words s (held read.1)) (sym one) (subst (NamesSubcommand words is.subcommand) (sym words_are) is.names), λ usage. absurd (cc))
+read_found = search rules

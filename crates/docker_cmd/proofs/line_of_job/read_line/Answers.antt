@@ -15,7 +15,7 @@ returns-then-is_full-clause-usage g c = λ usage.
     elim c.then-is_full.branch [
       | then-is_full-via-then-is_full w ↦
           let full : length c.loop.line.items ≡ 255 = search rules in
-          no_line_full _ _ _ c.loop.line.items c.in-Some.byte c.loop.invariant.so_far read c.loop.invariant.printable full other
+          no_line_full _ _ _ _ _ c.loop.invariant.so_far read c.loop.invariant.printable full other
       | then-is_full-via-else-is_full+then-not-is_printable w ↦ no_line_at _ _ _ c.loop.line.items c.in-Some.byte c.loop.invariant.so_far read
           c.loop.invariant.printable (search rules) other
     ]

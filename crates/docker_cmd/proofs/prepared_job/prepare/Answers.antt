@@ -1,5 +1,4 @@
 use Rattle.std.proofs.lemmas.Result.{err_from_is_err_and}
-use Rattle.docker_cmd.specs.Holding.{held_meant}
 use Rattle.docker_cmd.proofs.SourcesLemmas.{prepared_read, read_one_file}
 use Rattle.docker_cmd.proofs.prepared_job.prepare.Goals as goal
 
@@ -11,11 +10,9 @@ returns-in_err-held g c =
 pub returns : goal.returns
 returns g c =
     let ends = c.in_ok-held.ensures.reads in
-    let reads = prepared_read c.args.job.now (g.S.Source.left c.args.first.now) (g.S.Source.left c.hold.new.first)
-    (g.T.Source.left c.args.second.now) (g.T.Source.left c.hold.new.second) (held_meant c.in_ok-held.held) ends.outcome in
+    let reads = prepared_read _ _ _ _ _ _ ends.outcome in
     record {
       reads = record { outcome = reads; none = ends.none; order = ends.order; counted = ends.counted };
-      one_file = λ is. read_one_file c.args.job.now.task (g.S.Source.left c.args.first.now) (g.T.Source.left c.args.second.now)
-          (held_meant c.in_ok-held.held) is reads.ends.0.1;
+      one_file = λ is. read_one_file _ _ _ _ is reads.ends.0.1;
       not_passed = c.in_ok-held.ensures.not_passed;
     }

@@ -27,11 +27,10 @@ returns-in_err-receive-clause-reads g c =
     let failed = g.T.Source.failures c.args.second.now in
     let failed_now = g.T.Source.failures c.receive.new.source in
     rw (same.1, same.2) (record {
-      outcome = state_refused (g.S.Source.left c.args.first.now) (g.S.Source.left c.read.new.source)
-          (g.T.Source.left c.args.second.now) (g.T.Source.left c.receive.new.source) failed failed_now _ (_, first.outcome) first.few received;
+      outcome = state_refused _ _ _ _ _ _ _ (_, first.outcome) first.few received;
       none = λ none. let never : ⊥ = cc in absurd never;
       order = inr (inr refl, (_, first.outcome), first.failures);
-      counted = state_failed _ _ failed failed_now _ first.failures received.failures;
+      counted = state_failed _ _ _ _ _ first.failures received.failures;
     })
 
 pub returns-clause-reads : goal.returns-clause-reads

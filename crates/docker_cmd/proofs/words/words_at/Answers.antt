@@ -13,7 +13,5 @@ loop-id-init c = record {
 }
 
 pub returns-in_err-word_at : goal.returns-in_err-word_at
-returns-in_err-word_at c =
-    ap (option_map (λ found. texts found.items)) c.from_residual.ensures
-    ∙ sym (none_here c.args.ids.now (rows_of (found_of c.args.words.now)) c.loop-id.id-index _ (texts c.loop-id.found.items) c.loop-id-test.true
-    (sym c.in_err-word_at.ensures) c.loop-id.invariant.so_far)
+returns-in_err-word_at c = ap (option_map (λ found. texts found.items)) c.from_residual.ensures
+    ∙ sym (none_here _ _ _ _ _ c.loop-id-test.true (sym c.in_err-word_at.ensures) c.loop-id.invariant.so_far)
