@@ -230,6 +230,8 @@ module _ (place : List ℕ) (day : ℕ) (old new : Thinned) (first : Option code
       → Thins place day between last new → ThinsAll place day old (listed_after first last) new
   two_taken = search (rules, append_assoc)
 
+-- ---- the test `a || not b`
+
 -- if `a || not b` is true, `a` is true or `b` is false
 pub either : (a b : Bool) → (a || not b) ≡ true → (a ≡ true) ⊎ (b ≡ false)
 either = search rules

@@ -39,6 +39,8 @@ module _ {A : Type 0} (P : A → Type 0) where
   dropped (x ∷ xs) (suc n) bound all z among = dropped xs n (omega arith) (λ k d low high. all (suc k) d (omega arith) (omega arith)) z among
       ---- a monotone test passes for the first postings and fails for all postings after them
 
+-- ---- a monotone test passes for the first postings and fails for all postings after them
+
 above_at : (low : Posting) (postings : List Posting) (j : ℕ) (d : Posting) → AllByRecursion (IsBelow posting_cmp low) postings → j < length postings
     → posting_cmp low
     (get_or postings j d) ≡ Less

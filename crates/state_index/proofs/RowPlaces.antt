@@ -1,7 +1,6 @@
 -- The places of a row: where a schedule calls, or where an association links two trains.
 use Rattle.std.proofs.Common.{◌≡◌, ℕ, List, [], ◌∷◌, map, refl, subst, ◌⊎◌, true, false, Some, None, Contains, rules}
 use Rattle.std.specs.Prelude.{filter}
-use Rattle.docker_model.specs.records.Record.{association}
 use Rattle.docker_model.specs.records.Record.{origin_location, intermediate_location}
 use Rattle.docker_model.specs.records.Record.{terminating_location, kind_of, HasKind, columns, is_location}
 use Rattle.docker_model.specs.file.Change.{Key, association_key, schedule_key, AssociationKey}

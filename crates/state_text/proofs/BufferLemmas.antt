@@ -106,6 +106,8 @@ module _ {S A E : Type 0} (taken : S → Told) (failures : S → ℕ) where
       → TakesPart (taken old) (b ++ p) (taken new) × (failures new ≡ failures old + 1) → Flushes taken failures old whole result new
   part_written = search rules
 
+-- ---- the bytes of a list, element by element
+
 module _ {X : Type 0} (bytes : List X → List ℕ) (joined : (xs ys : List X) → bytes (xs ++ ys) ≡ bytes xs ++ bytes ys) where
   -- the bytes of the first i + 1 elements are the bytes of the first i elements, followed by the
   -- bytes of the next element

@@ -11,7 +11,6 @@ use Rattle.std.proofs.lemmas.List.{length-map}
 use Rattle.std.proofs.lemmas.List.Concat.{flat_map-append}
 use Rattle.std.proofs.lemmas.List.Elements.{All-append, All-contains, All-drop, All-from_recursion, All-take}
 use Rattle.docker_model.specs.records.Record.{columns, is_printable, IsRecord, IsTextOfLength}
-use Rattle.docker_model.specs.records.Record.{association}
 use Rattle.docker_model.specs.records.Field.{IsTiploc}
 use Rattle.docker_model.specs.records.PrintedNumber.{number_text}
 use Rattle.docker_model.specs.records.PrintedTime.{spaces}
@@ -55,7 +54,8 @@ kept count column (b ∷ text) rest plain fits =
       plain_first,
       eqb-true,
       ltb-false,
-      (kept count (column + 1) text rest (plain_rest b text plain) (omega arith) ∙ ap (λ c. text ++ columns_from count c rest) (let same : (column + 1) + length text ≡ column + suc (length text) = omega arith in same)),
+      (kept count (column + 1) text rest (plain_rest b text plain) (omega arith)
+          ∙ ap (λ c. text ++ columns_from count c rest) (let same : (column + 1) + length text ≡ column + suc (length text) = omega arith in same)),
     )
 
 -- a text after the kept columns is dropped
@@ -69,7 +69,8 @@ dropped count column (b ∷ text) rest plain past =
       plain_first,
       eqb-true,
       ltb-true,
-      (dropped count (column + 1) text rest (plain_rest b text plain) (omega arith) ∙ ap (λ c. columns_from count c rest) (let same : (column + 1) + length text ≡ column + suc (length text) = omega arith in same)),
+      (dropped count (column + 1) text rest (plain_rest b text plain) (omega arith)
+          ∙ ap (λ c. columns_from count c rest) (let same : (column + 1) + length text ≡ column + suc (length text) = omega arith in same)),
     )
 
 -- the first columns of a line, and of the lines after it

@@ -180,6 +180,8 @@ module _ (test : Key → Bool) where
   pub live_dropped : (state : State) (key : Key) → test key ≡ false → live_table (with_passing state) key ≡ None
   live_dropped = search (rules, live_none, find_dropped)
 
+-- ---- the keys that the docker of a place needs can be found from the entries
+
 -- whether the entry is a live schedule that has the UID and calls at the place
 abbrev pub calls_as : List ℕ → List ℕ → Keyed → Bool
 calls_as place uid entry = has_uid uid entry.0 && is_call place entry.1.op

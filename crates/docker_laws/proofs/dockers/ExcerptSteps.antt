@@ -199,6 +199,8 @@ module _ (place : List ℕ) where
       → names_in (kept_so_far place (entries ++ (schedule_key key, entry) ∷ [])).kept ≡ names_in (kept_so_far place entries).kept
   names_stay = search (rules, filter-append, append-nil, names_so_far)
 
+-- ---- each step of the walk keeps, drops or postpones an entry
+
 module _ (place : List ℕ) (so_far : ExcerptSoFar) where
   -- a schedule that has the UID of the entries in `run` is appended to `run`
   pub joins_run : (key : ScheduleKey) (entry : Entry) → goes_on so_far.run key.uid ≡ true

@@ -97,6 +97,8 @@ module _ (uids : List (List ℕ)) where
   pub wanted_uid : (key : ScheduleKey) → Contains uids key.uid → is_wanted uids (schedule_key key) ≡ true
   wanted_uid = grind (common_steps, arith, any_forth, bytes_eq-Decides)
 
+-- ---- the state made from the wanted changes has the same docker as the summary of the file
+
 module _ (place : List ℕ) (day : ℕ) (file : List (List ℕ)) (is_file : IsFile file) (few : length file ≤ most_records) (kept : List Change)
     (is : IsThinning place day (changes file) kept) (uids : List (List ℕ)) (part : State)
     (of : IsStateOfChanges file (wanted_changes uids kept) part) where

@@ -106,6 +106,8 @@ module _ (place : List ℕ) (day : ℕ) where
   thin_enough : (changes : List Change) → AreEnough place day changes (thin_changes place day changes)
   thin_enough = search (rules, kept_from, none_or)
 
+-- ---- a thinning can be made change by change
+
 -- applying a list of changes with one change appended gives the same table as applying the list and
 -- then that change
 table_more : (table : Table) (changes : List Change) (change : Change)

@@ -298,6 +298,8 @@ module _ (place : List ℕ) (day : ℕ) (live part : Table) (stands : StandsFor 
       → IsDockerText live place day text ↔ IsDockerText part place day text
   stand_in_text_iff = grind (arith, stand_in_list_iff, stand_in_text_same)
 
+-- ---- the thinned table may replace the table
+
 module _ (place : List ℕ) (day : ℕ) (live : Table) where
   -- suppose that a schedule in the table runs on a start day near the day. Then the thinned table
   -- has, at the same key, the records of this schedule that the docker needs (`lines_for`)

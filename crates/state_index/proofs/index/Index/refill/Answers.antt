@@ -1,7 +1,6 @@
 use Rattle.std.proofs.Common.{map}
 use Rattle.state_index.specs.NamedPlaces.{call_places, link_places}
 use Rattle.docker_join.specs.Meaning.{row_meant}
-use Rattle.state_index.specs.Rooms.{items_of}
 use Rattle.state_index.proofs.PostedSpots.{can_all, made_all}
 use Rattle.state_index.proofs.PostingSpots.{postings_made}
 use Rattle.state_index.proofs.index.Index.refill.Goals as goal

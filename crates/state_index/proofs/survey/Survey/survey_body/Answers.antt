@@ -1,8 +1,6 @@
-use Rattle.std.proofs.Common.{◌≡◌, ℕ, List, [], ◌∷◌, ap, length, map, refl, rules, subst, arith}
+use Rattle.std.proofs.Common.{◌≡◌, ℕ, List, [], ◌∷◌, ap, length, refl, rules, subst, arith}
 use Rattle.docker_model.specs.file.Change.{schedule_body}
-use Rattle.docker_model.specs.records.Record.{columns}
 use Rattle.cif_change.specs.Meaning.{body_meant, key_meant}
-use Rattle.state_index.specs.NamedPlaces.{location_lines}
 use Rattle.state_index.specs.Rooms.{Includes}
 use Rattle.state_index.proofs.Surveyed.{grown_association, grown_schedule, still_listed}
 use Rattle.state_index.proofs.survey.Survey.survey_body.Goals as goal
