@@ -43,15 +43,13 @@ pub both_gathered : (live : Table) (place : List ℕ) (day : ℕ) (linked callin
     → HasGathered live place day before after
 both_gathered live place day linked calling before between after are_linked are_calling first second = (
   linked ++ calling,
-  indexed_walk live place linked calling are_linked are_calling,
-  λ rows are. all (train_in rows) (link_in rows) (first rows are)
-      (second rows are),
+  indexed_walk _ _ _ _ are_linked are_calling,
+  λ rows are. all (train_in rows) (link_in rows) (first rows are) (second rows are),
 )
   where
     all : (trains : List ℕ → ℕ → Option Train) (links : Group → ℕ → Option Link) → between ≡ before ++ gathered trains links place day linked
         → after ≡ between ++ gathered trains links place day calling → after ≡ before ++ gathered trains links place day (linked ++ calling)
-    all trains links one two =
-        two ∙ ap (λ out. out ++ gathered trains links place day calling) one
+    all trains links one two = two ∙ ap (λ out. out ++ gathered trains links place day calling) one
         ∙ append_assoc before (gathered trains links place day linked) (gathered trains links place day calling)
         ∙ ap (λ more. before ++ more) (sym (flat_map-append (λ (row : Row). row_lines trains links place day row.0 row.1) linked calling))
 
@@ -64,6 +62,5 @@ docker_made live place day rows none made lines description docker is described 
   place_is = ap (λ (d : Docker). d.place) is;
   day_is = ap (λ (d : Docker). d.day) is;
   described = ap (λ (d : Docker). d.description) is ∙ described;
-  list = subst (IsDockerList live place day) (sym (ap (λ (d : Docker). d.lines) is))
-      (docker_of_walk live place day rows walk none made lines good are walks empty adds same sorted);
+  list = subst (IsDockerList live place day) (sym (ap (λ (d : Docker). d.lines) is)) (docker_of_walk _ _ _ _ _ _ _ _ good are walks empty adds same sorted);
 }

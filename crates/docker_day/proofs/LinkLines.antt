@@ -1,24 +1,20 @@
 -- The docker line of an association, made from the events of its base train.
-use Rattle.std.proofs.Common.{◌≡◌, ℕ, Bool, true, false, cond, List, [], ◌∷◌, ◌++◌, map, refl, ap, sym, ◌∙◌, Some, None, append_assoc, append-nil}
+use Rattle.std.proofs.Common.{◌≡◌, ℕ, Bool, List, [], ◌∷◌, ◌++◌, map, refl, append_assoc, append-nil}
+use Rattle.std.proofs.Common.{arith, rules}
 use Rattle.std.specs.Prelude.{Option, option_map, find}
 use Rattle.std.specs.List.{flat_map}
-use Rattle.std.specs.Str.{bytes_eq}
-use Rattle.docker_model.specs.records.Record.{columns}
 use Rattle.docker_model.specs.file.Journey.{Occasion}
-use Rattle.docker_model.specs.docker.Event.{Event, events_of, first_event_at}
+use Rattle.docker_model.specs.docker.Event.{events_of, first_event_at}
 use Rattle.docker_model.specs.docker.Choice.{Group}
-use Rattle.docker_model.specs.docker.Association.{category_occasion}
 use Rattle.docker_model.specs.state.Table.{Table}
 use Rattle.docker_model.specs.docker.Choice as choices
 use Rattle.docker_laws.specs.LiveRows as live_rows
-use Rattle.docker_laws.specs.LiveRows.{train_in, link_in}
-use Rattle.docker_laws.specs.Gathering.{start_days, is_in_force, line_at, line_with}
+use Rattle.docker_laws.specs.Gathering.{start_days, line_with}
 use Rattle.docker_model.specs.docker.DockerLine.{DockerLine}
 use Rattle.train_choice.specs.Occurrences.{occurrence_of, occurrences}
-use Rattle.docker_day.specs.Lines.{Adds, is_call, link_line_by, link_line_with, link_piece}
+use Rattle.docker_day.specs.Lines.{Adds, is_call, link_line_with}
 use Rattle.docker_day.specs.RowViews.{row_back, row_piece, view_lines}
 use Rattle.docker_day.specs.declared.row_view.RowView.{RowView}
-use Rattle.docker_day.specs.declared.row_view.RowView.TheVariants.{Train, Link, Other}
 use Rattle.docker_day.proofs.Days.{starts_split}
 
 abbrev no_line : List DockerLine
@@ -26,12 +22,7 @@ no_line = []
 
 find_mapped : {A B : Type 0} (f : A → B) (p : B → Bool) (xs : List A) → find p (map f xs) ≡ option_map f (find (λ x. p (f x)) xs)
 find_mapped f p [] = refl
-find_mapped f p (x ∷ xs) = by (p (f x)) (find_mapped f p xs)
-  where
-    by : (b : Bool) → find p (map f xs) ≡ option_map f (find (λ y. p (f y)) xs)
-        → cond b (Some (f x)) (find p (map f xs)) ≡ option_map f (cond b (Some x) (find (λ y. p (f y)) xs))
-    by true rest = refl
-    by false rest = rest
+find_mapped f p (x ∷ xs) = grind (arith, (find_mapped f p xs))
 
 -- the first event of a call is the first of the train's events that are at the place and have the
 -- call's suffix
@@ -43,16 +34,7 @@ first_call_is lines location suffix = find_mapped (occurrence_of lines) (is_call
 -- definitions
 link_line_is : (trains : List ℕ → ℕ → Option choices.Train) (day start : ℕ) (link : live_rows.Link) (occasion : Option Occasion) (base : Option choices.Train)
     → link_line_with trains day start link occasion base ≡ line_with trains day start link.key link.line occasion base
-link_line_is trains day start link None base = refl
-link_line_is trains day start link (Some occasion) None = refl
-link_line_is trains day start link (Some occasion) (Some base) =
-    ap (link_line_by trains day start link occasion base.key) (first_call_is base.lines link.key.location link.key.suffix)
-    ∙ by (first_event_at base.lines link.key.location link.key.suffix)
-  where
-    by : (event : Option Event) → link_line_by trains day start link occasion base.key (option_map (occurrence_of base.lines) event)
-        ≡ line_at trains day start link.key link.line occasion base event
-    by None = refl
-    by (Some event) = refl
+link_line_is = search (rules, first_call_is)
 
 none_of_all : (days : List ℕ) → flat_map (λ (day : ℕ). no_line) days ≡ no_line
 none_of_all [] = refl
@@ -62,32 +44,16 @@ none_of_all (day ∷ days) = none_of_all days
 -- itself and the two days before it
 row_pieces : (trains : List ℕ → ℕ → Option choices.Train) (links : Group → ℕ → Option live_rows.Link) (place : List ℕ) (day : ℕ) (view : RowView)
     → flat_map (row_piece trains links place day view) (start_days day) ≡ view_lines trains links place day view
-row_pieces trains links place day (Train train) = refl
-row_pieces trains links place day (Link link) = by (bytes_eq link.key.location place)
-  where
-    by : (b : Bool) → flat_map (λ (start : ℕ). cond b (link_piece trains links day link start) no_line) (start_days day)
-        ≡ cond b (flat_map (λ (start : ℕ). cond (is_in_force links start link.key link.line)
-        (line_with trains day start link.key link.line (category_occasion (columns 35 36 link.line)) (trains link.key.base start)) no_line)
-        (start_days day)) no_line
-    by true = λ i. flat_map (λ (start : ℕ). cond (is_in_force links start link.key link.line)
-        (link_line_is trains day start link (category_occasion (columns 35 36 link.line))
-        (trains link.key.base start) i) no_line) (start_days day)
-    by false = none_of_all (start_days day)
-row_pieces trains links place day Other = none_of_all (start_days day)
+row_pieces = search (rules, link_line_is, none_of_all)
 
 three_parts : (a b c d : List DockerLine) → ((a ++ b) ++ c) ++ d ≡ a ++ (b ++ (c ++ (d ++ no_line)))
-three_parts a b c d =
-    append_assoc (a ++ b) c d ∙ append_assoc a b (c ++ d) ∙ (λ i. a ++ (b ++ (c ++ sym (append-nil d) i)))
+three_parts = search (rules, append_assoc, append-nil)
 
 module _ (place : List ℕ) (day : ℕ) (view : RowView) where
   three_at : (trains : List ℕ → ℕ → Option choices.Train) (links : Group → ℕ → Option live_rows.Link) (first second third last : List DockerLine)
       → second ≡ first ++ row_back trains links place day view 0 → third ≡ second ++ row_back trains links place day view 1
       → last ≡ third ++ row_back trains links place day view 2 → last ≡ first ++ view_lines trains links place day view
-  three_at trains links first second third last one two three =
-      three ∙ (λ i. two i ++ row_back trains links place day view 2)
-      ∙ (λ i. (one i ++ row_back trains links place day view 1) ++ row_back trains links place day view 2)
-      ∙ three_parts first (row_back trains links place day view 0) (row_back trains links place day view 1) (row_back trains links place day view 2)
-      ∙ ap (λ more. first ++ more) (sym (starts_split (row_piece trains links place day view) day) ∙ row_pieces trains links place day view)
+  three_at = search (rules, three_parts, starts_split, row_pieces)
 
   -- suppose that a row's lines are appended to a list in three steps, for three start days. These
   -- are the day itself, the day before it, and the day two days before it. Then all lines of the
@@ -97,5 +63,4 @@ module _ (place : List ℕ) (day : ℕ) (view : RowView) where
       → Adds live (λ trains links. row_back trains links place day view 1) second third
       → Adds live (λ trains links. row_back trains links place day view 2) third last
       → Adds live (λ trains links. view_lines trains links place day view) first last
-  three_backs live first second third last one two three =
-      λ rows are. three_at (train_in rows) (link_in rows) first second third last (one rows are) (two rows are) (three rows are)
+  three_backs = search (rules, three_at)

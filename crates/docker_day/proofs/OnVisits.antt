@@ -1,15 +1,15 @@
 -- The docker lines of a row are the concatenation of the row's lines for three visits, one for each
 -- start day.
-use Rattle.std.proofs.Common.{◌≡◌, ℕ, ◌-◌, Bool, true, false, cond, List, [], ◌++◌, refl, ap, sym, ◌∙◌, subst, Some, None, append-nil, arith}
-use Rattle.std.specs.Prelude.{Option, nat_le}
+use Rattle.std.proofs.Common.{◌≡◌, ℕ, false, List, ap, sym, ◌∙◌, subst, Some, append-nil}
+use Rattle.std.proofs.Common.{rules}
+use Rattle.std.specs.Prelude.{Option}
 use Rattle.std.proofs.Math.Dec.{leb-zero}
 use Rattle.docker_model.specs.docker.DockerLine.{DockerLine}
 use Rattle.docker_laws.specs.Gathering.{gathered}
-use Rattle.docker_laws.specs.LiveRows.{train_in, link_in}
 use Rattle.docker_state.specs.Timetables.{live_in}
 use Rattle.train_choice.specs.Known.{PlaceDay}
 use Rattle.docker_day.specs.Lines.{Adds}
-use Rattle.docker_day.specs.RowViews.{IsLiveView, row_back, row_piece, row_under_way, view_lines}
+use Rattle.docker_day.specs.RowViews.{IsLiveView, row_back, row_under_way, view_lines}
 use Rattle.docker_day.specs.declared.row_view.RowView.{RowView}
 use Rattle.docker_day.specs.Visits.{Visit, visit_back, AreVisits, AddsAt, AddsIf}
 use Rattle.docker_day.proofs.LinkLines.{three_backs}
@@ -24,24 +24,10 @@ module _ (there : PlaceDay) (view : RowView) where
   -- lines for this start day appended
   adds_back : (back : ℕ) (visit : Option Visit) (before after : List DockerLine) → visit ≡ visit_back there back → AddsIf visit view before after
       → AddsBack back before after
-  adds_back back visit before after is adds = by (nat_le back there.day) refl (subst (λ (v : Option Visit). AddsIf v view before after) is adds)
-    where
-      by : (b : Bool) → nat_le back there.day ≡ b
-          → AddsIf (cond b (Some (record { timetable = there.timetable; place = there.place; day = there.day; start = there.day - back })) None) view
-          before after
-          → AddsBack back before after
-      by true there_is added = λ rows are.
-          added rows are
-          ∙ (λ i. before ++ cond (sym there_is i) (row_piece (train_in rows) (link_in rows) there.place there.day view (there.day - back)) [])
-      by false none same = λ rows are.
-          same ∙ sym (append-nil before)
-          ∙ (λ i. before ++ cond (sym none i) (row_piece (train_in rows) (link_in rows) there.place there.day view (there.day - back)) [])
+  adds_back = search (rules, append-nil)
 
   today_is_back : visit_back there 0 ≡ Some (record { timetable = there.timetable; place = there.place; day = there.day; start = there.day })
-  today_is_back =
-      let same : there.day - 0 ≡ there.day = omega arith in
-      (λ i. cond (leb-zero there.day i) (Some (record { timetable = there.timetable; place = there.place; day = there.day; start = there.day - 0 })) None)
-      ∙ (λ i. Some (record { timetable = there.timetable; place = there.place; day = there.day; start = same i }))
+  today_is_back = search (rules, leb-zero)
 
   -- for the visit whose start day is the day itself, `after` is `before` with the row's lines for
   -- this start day appended
@@ -59,10 +45,9 @@ module _ (there again : PlaceDay) (view : RowView) (today : Visit) (day_before t
   pub adds_on_visits : (first second third last : List DockerLine) → there ≡ again
       → AreVisits there today day_before two_before → AddsAt today view first second → AddsIf day_before view second third
       → AddsIf two_before view third last → AddsRow again view first last
-  adds_on_visits first second third last same are one two three =
-      subst (λ (p : PlaceDay). AddsRow p view first last) same
-      (three_backs there.place there.day view (live_in there.timetable) first second third last (adds_today there view today first second are.today_is one)
-      (adds_back there view 1 day_before second third are.day_before_is two) (adds_back there view 2 two_before third last are.two_before_is three))
+  adds_on_visits first second third last same are one two three = subst (λ (p : PlaceDay). AddsRow p view first last) same
+      (three_backs there.place _ view _ first _ third _ (adds_today there _ today first second are.today_is one)
+      (adds_back _ view _ day_before second third are.day_before_is two) (adds_back _ view _ two_before third last are.two_before_is three))
 
   -- suppose that, according to `row_under_way`, the row can't have lines for a train that started
   -- before the day. Then all lines of the row are the lines for the visit whose start day is the
@@ -70,14 +55,12 @@ module _ (there again : PlaceDay) (view : RowView) (today : Visit) (day_before t
   pub adds_today_alone : (first second : List DockerLine) → there ≡ again → AreVisits there today day_before two_before
       → IsLiveView (live_in again.timetable) view → row_under_way again.place view again.day ≡ false → AddsAt today view first second
       → AddsRow again view first second
-  adds_today_alone first second same are is_live idle one =
-      first_back_alone again.place again.day view (live_in again.timetable) first second is_live idle
-      (subst (λ (p : PlaceDay). AddsBack p view 0 first second) same (adds_today there view today first second are.today_is one))
+  adds_today_alone first second same are is_live idle one = first_back_alone _ _ _ _ _ _ is_live idle
+      (subst (λ (p : PlaceDay). AddsBack p view 0 first second) same (adds_today _ _ _ first second are.today_is one))
 
 -- if the docker lines of a walk for a `PlaceDay` were appended to a list, so were the lines of this
 -- walk for an equal `PlaceDay`
 pub gathered_at : (there again : PlaceDay) (walk : List Row) (before after : List DockerLine) → again ≡ there
     → Adds (live_in again.timetable) (λ trains links. gathered trains links again.place again.day walk) before after
     → Adds (live_in there.timetable) (λ trains links. gathered trains links there.place there.day walk) before after
-gathered_at there again walk before after same adds =
-    subst (λ (p : PlaceDay). Adds (live_in p.timetable) (λ trains links. gathered trains links p.place p.day walk) before after) same adds
+gathered_at = search rules

@@ -1,19 +1,20 @@
 -- Rows that are skipped without a search have no docker lines.
-use Rattle.std.proofs.Common.{◌≡◌, ℕ, ◌+◌, ◌-◌, ◌<◌, ◌==◌, ◌⊎◌, inl, inr, Bool, true, false, cond, List}
+use Rattle.std.proofs.Common.{◌≡◌, ℕ, ◌-◌, ◌<◌, ◌⊎◌, Bool, true, false, cond, List, rules}
+use Rattle.std.proofs.lemmas.Grind.{common_steps}
 use Rattle.std.proofs.Common.{[], ◌∷◌, ◌++◌, refl, ap, sym, ◌∙◌, append-nil, Some, None, arith, eqb-true}
-use Rattle.std.specs.Prelude.{Option, ◌&&◌, ◌||◌, not, nat_le, codes}
+use Rattle.std.specs.Prelude.{Option, ◌&&◌, ◌||◌, not, nat_le}
 use Rattle.std.specs.Ordering.{is_eq}
 use Rattle.std.proofs.lemmas.Bool.{leb-true}
 use Rattle.docker_model.specs.records.Record.{column}
 use Rattle.docker_model.specs.file.File.{first_record}
-use Rattle.docker_model.specs.file.Change.{Key, tiploc_key, schedule_key, association_key, ScheduleKey, Body, tiploc_body, schedule_body, association_body}
+use Rattle.docker_model.specs.file.Change.{Key, ScheduleKey, Body}
 use Rattle.docker_model.specs.state.Op.{schedule_key_cmp, association_key_cmp}
 use Rattle.docker_model.specs.state.Table.{Table}
 use Rattle.docker_model.specs.state.State.{IsBodyOf}
 use Rattle.docker_model.specs.state.Row.{Row, AreRowsOf}
 use Rattle.docker_model.specs.docker.Association.{is_date_indicator}
 use Rattle.docker_model.specs.docker.Choice.{schedule_runs, association_runs, group_of}
-use Rattle.docker_model.specs.docker.DockerLine.{DockerLine, Detail, ends, tiploc_of_first}
+use Rattle.docker_model.specs.docker.DockerLine.{DockerLine, Detail}
 use Rattle.docker_model.specs.docker.Choice as choices
 use Rattle.docker_laws.specs.LiveRows as live_rows
 use Rattle.docker_laws.specs.LiveRows.{train_in, link_in, IsTrainOn, IsLinkOn}
@@ -27,20 +28,16 @@ use Rattle.train_choice.specs.Occurrences.{Occurrence}
 use Rattle.train_choice.specs.UpTo.{occurrences_to}
 use Rattle.train_choice.specs.Along.{IsLiveTrain, IsLiveLink}
 use Rattle.train_choice.specs.Midnights.{some_late}
-use Rattle.docker_day.specs.Lines.{line_at_event, is_here, is_today, lines_there, schedule_piece, Adds}
+use Rattle.docker_day.specs.Lines.{lines_there, schedule_piece, Adds}
 use Rattle.docker_day.specs.RowViews.{IsLiveView, row_back, row_runs_recently, row_may_run, row_under_way, view_lines, view_of}
 use Rattle.docker_day.specs.declared.row_view.RowView.{RowView}
-use Rattle.docker_day.specs.declared.row_view.RowView.TheVariants.{Train, Link, Other}
+use Rattle.docker_day.specs.declared.row_view.RowView.TheVariants.{Train}
 use Rattle.train_choice.specs.RecentRuns.{runs_back}
 use Rattle.train_choice.specs.Ranked.{is_cancellation}
 use Rattle.train_choice.proofs.RecentDays.{idle_recently}
 use Rattle.docker_day.proofs.TrainLines.{event_lines_are}
 use Rattle.docker_day.proofs.UpToLast.{lines_to_last}
 use Rattle.docker_day.proofs.LinkLines.{three_backs}
-
--- the empty list of docker lines
-abbrev no_line : List DockerLine
-no_line = []
 
 true_false : true ≡ false → ⊥
 true_false bad = cc
@@ -78,58 +75,31 @@ counts_not live rows link start are is_live idle = by (link_in rows (group_of li
             absurd (true_false (sym chosen.associated.runs_then ∙ ap (λ (l : List ℕ). association_runs l start) line ∙ idle))
 
 and_false : (a b : Bool) → b ≡ false → (a && b) ≡ false
-and_false true b h = h
-and_false false b h = refl
+and_false = search rules
 
 not_not : (b : Bool) → not b ≡ false → b ≡ true
-not_not true h = refl
-not_not false h = absurd (true_false h)
+not_not = search (rules, true_false)
 
 -- if no midnight is passed before any event, no docker line is on a day later than the start day
 none_late : (place : List ℕ) (day start : ℕ) (key : ScheduleKey) (detail : Detail) (events : List Occurrence) → start < day → some_late events ≡ false
     → lines_there place day start key detail events ≡ []
 none_late place day start key detail [] before none = refl
 none_late place day start key detail (event ∷ events) before none =
-    by (not (event.falls == 0)) refl (none_late place day start key detail events before)
-  where
-    not_today : event.falls ≡ 0 → (b : Bool) → (start + event.falls == day) ≡ b → b ≡ false
-    not_today at_first false h = refl
-    not_today at_first true h = let same : start + event.falls ≡ day = eqb-true (start + event.falls) day h in absurd (omega arith)
-
-    elsewhere : not (event.falls == 0) ≡ false → (is_here place event && is_today day start event) ≡ false
-    elsewhere h = and_false (is_here place event) (is_today day start event)
-        (not_today (eqb-true event.falls 0 (not_not (event.falls == 0) h)) (is_today day start event) refl)
-
-    by : (b : Bool) → not (event.falls == 0) ≡ b
-        → (some_late events ≡ false → lines_there place day start key detail events ≡ [])
-        → lines_there place day start key detail (event ∷ events) ≡ []
-    by true h rest = absurd (true_false ((λ i. sym h i || some_late events) ∙ none))
-    by false h rest =
-        let none_behind : some_late events ≡ false = (λ i. sym h i || some_late events) ∙ none in
-        (λ i. cond (elsewhere h i) (line_at_event key start detail event ∷ []) [] ++ rest none_behind i)
+    grind (common_steps, arith, eqb-true, and_false, not_not, true_false, (none_late place day start key detail events before))
 
 -- if a train doesn't pass midnight up to its last record at a place, it has no docker line at this
 -- place on a day later than the start day
 no_lines_then : (place : List ℕ) (day start : ℕ) (key : ScheduleKey) (lines : List (List ℕ)) → start < day
     → some_late (occurrences_to place lines) ≡ false → event_lines place day start key lines ≡ []
-no_lines_then place day start key lines before none =
-    let detail = ends (tiploc_of_first (codes "LO") lines) (tiploc_of_first (codes "LT") lines) in
-    sym (event_lines_are place day start key lines) ∙ sym (lines_to_last place day start key detail lines)
-    ∙ none_late place day start key detail (occurrences_to place lines) before none
+no_lines_then = search (rules, event_lines_are, lines_to_last, none_late)
 
 -- if `(a || b) && c` is false, then `a` and `b` are both false, or `c` is false
 none_of_both : (a b c : Bool) → ((a || b) && c) ≡ false → ((a ≡ false) × (b ≡ false)) ⊎ (c ≡ false)
-none_of_both a b false h = inr refl
-none_of_both false false true h = inl (refl, refl)
-none_of_both true b true h = absurd (true_false h)
-none_of_both false true true h = absurd (true_false h)
+none_of_both = search (rules, true_false)
 
 -- if the disjunction of three tests is false, each test is false
 none_of_three : (a b c : Bool) → (a || b || c) ≡ false → (a ≡ false) × (b ≡ false) × (c ≡ false)
-none_of_three false false false h = (refl, refl, refl)
-none_of_three true b c h = absurd (true_false h)
-none_of_three false true c h = absurd (true_false h)
-none_of_three false false true h = absurd (true_false h)
+none_of_three = search (rules, true_false)
 
 module _ (live : Table) (rows : List Row) (are : AreRowsOf live rows) (place : List ℕ) (day : ℕ) where
   abbrev lines_back : RowView → ℕ → List DockerLine
@@ -142,54 +112,27 @@ module _ (live : Table) (rows : List Row) (are : AreRowsOf live rows) (place : L
     where
       by : (b : Bool) → nat_le back day ≡ b → cond b (schedule_piece (train_in rows) place day train.key train.lines (day - back)) [] ≡ []
       by false h = refl
-      by true h =
-          (λ i. cond (runs_not live rows train (day - back) are is_live ((λ j. sym h j && schedule_runs (first_record train.lines) (day - back)) ∙ idle) i)
+      by true h = (λ i. cond (runs_not _ _ _ _ are is_live ((λ j. sym h j && schedule_runs (first_record train.lines) (day - back)) ∙ idle) i)
           (event_lines place day (day - back) train.key train.lines) [])
 
   -- if a train doesn't pass midnight up to its last record at the place, it has no docker line for
   -- a start day before the day
   early_back : (train : choices.Train) (back : ℕ) → 0 < back → some_late (occurrences_to place train.lines) ≡ false
       → lines_back (Train train) back ≡ []
-  early_back train back some early = by (nat_le back day) refl
-    where
-      none_either : (b : Bool) → cond b no_line [] ≡ no_line
-      none_either true = refl
-      none_either false = refl
-
-      by : (b : Bool) → nat_le back day ≡ b → cond b (schedule_piece (train_in rows) place day train.key train.lines (day - back)) [] ≡ []
-      by false h = refl
-      by true h =
-          let low = leb-true back day h in
-          let before : day - back < day = omega arith in
-          ap (λ more. cond (runs_by (train_in rows train.key.uid (day - back)) train.key) more [])
-          (no_lines_then place day (day - back) train.key train.lines before early)
-          ∙ none_either (runs_by (train_in rows train.key.uid (day - back)) train.key)
+  early_back = search (rules, leb-true, no_lines_then)
 
   -- if, according to `row_under_way`, a row can't have lines for a train that started before the
   -- day, the row has no lines for a start day before the day
   pub none_back : (view : RowView) → IsLiveView live view → row_under_way place view day ≡ false
       → (lines_back view 1 ≡ []) × (lines_back view 2 ≡ [])
-  none_back (Train train) is_live not_so =
-      by (none_of_both (runs_back train.lines day 1) (runs_back train.lines day 2) (some_late (occurrences_to place train.lines)) not_so)
-    where
-      by : ((runs_back train.lines day 1 ≡ false) × (runs_back train.lines day 2 ≡ false)) ⊎ (some_late (occurrences_to place train.lines) ≡ false)
-          → (lines_back (Train train) 1 ≡ []) × (lines_back (Train train) 2 ≡ [])
-      by (inl idle) = (idle_back train 1 is_live idle.0, idle_back train 2 is_live idle.1)
-      by (inr early) = (early_back train 1 (omega arith) early, early_back train 2 (omega arith) early)
-  none_back (Link link) is_live not_so = absurd (true_false not_so)
-  none_back Other is_live not_so = absurd (true_false not_so)
+  none_back = search (rules, none_of_both, idle_back, early_back, true_false)
 
   -- if `row_runs_recently` says that a row can't have lines on the day, the row has no lines for
   -- the three start days: the day and the two days before it
   none_recently : (view : RowView) → IsLiveView live view → row_runs_recently view day ≡ false
       → (lines_back view 0 ≡ []) × (lines_back view 1 ≡ []) × (lines_back view 2 ≡ [])
-  none_recently (Train train) is_live not_so =
-      let idle = none_of_three (runs_back train.lines day 0) (runs_back train.lines day 1) (runs_back train.lines day 2) not_so in
-      (idle_back train 0 is_live idle.0, idle_back train 1 is_live idle.1, idle_back train 2 is_live idle.2)
-  none_recently (Link link) is_live not_so = absurd (true_false not_so)
-  none_recently Other is_live not_so = absurd (true_false not_so)
+  none_recently = search (rules, none_of_three, idle_back, true_false)
 
--- appending an empty list leaves the lines unchanged
 nothing : (before : List DockerLine) {more : List DockerLine} → more ≡ [] → before ≡ before ++ more
 nothing before none = sym (append-nil before) ∙ ap (λ out. before ++ out) (sym none)
 
@@ -198,31 +141,23 @@ nothing before none = sym (append-nil before) ∙ ap (λ out. before ++ out) (sy
 pub first_back_alone : (place : List ℕ) (day : ℕ) (view : RowView) (live : Table) (first second : List DockerLine) → IsLiveView live view
     → row_under_way place view day ≡ false → Adds live (λ trains links. row_back trains links place day view 0) first second
     → Adds live (λ trains links. view_lines trains links place day view) first second
-first_back_alone place day view live first second is_live not_so one =
-    three_backs place day view live first second second second one
-    (λ rows are. nothing second (none_back live rows are place day view is_live not_so).0)
-    (λ rows are. nothing second (none_back live rows are place day view is_live not_so).1)
+first_back_alone place day view live first second is_live not_so one = three_backs place _ view _ first _ second _ one
+    (λ rows are. nothing second (none_back _ rows are place day view is_live not_so).0)
+    (λ rows are. nothing second (none_back _ rows are place day view is_live not_so).1)
 
 -- if `row_runs_recently` says that a row can't have lines on the day, there are no lines of the row
 -- to append
 pub not_recently : (place : List ℕ) (day : ℕ) (view : RowView) (live : Table) (first : List DockerLine) → IsLiveView live view
     → row_runs_recently view day ≡ false → Adds live (λ trains links. view_lines trains links place day view) first first
-not_recently place day view live first is_live not_so =
-    three_backs place day view live first first first first
-    (λ rows are. nothing first (none_recently live rows are place day view is_live not_so).0)
-    (λ rows are. nothing first (none_recently live rows are place day view is_live not_so).1)
-    (λ rows are. nothing first (none_recently live rows are place day view is_live not_so).2)
+not_recently place day view live first is_live not_so = three_backs place _ view _ first _ first _
+    (λ rows are. nothing first (none_recently _ rows are place day view is_live not_so).0)
+    (λ rows are. nothing first (none_recently _ rows are place day view is_live not_so).1)
+    (λ rows are. nothing first (none_recently _ rows are place day view is_live not_so).2)
 
 -- if `row_may_run` says that a row can't have lines on the day, `row_runs_recently` says this too
 pub row_idle : (key : Key) (body : Body) (day : ℕ) → IsBodyOf key body → row_may_run (view_of key body) day ≡ false
     → row_runs_recently (view_of key body) day ≡ false
-row_idle (schedule_key key) (schedule_body lines) day of never = let idle = idle_recently key lines day of never in (λ i. idle.0 i || idle.1 i || idle.2 i)
-row_idle (schedule_key key) (tiploc_body bytes) day of never = absurd (true_false never)
-row_idle (schedule_key key) (association_body line) day of never = absurd (true_false never)
-row_idle (tiploc_key code) body day of never = absurd (true_false never)
-row_idle (association_key key) (association_body line) day of never = absurd (true_false never)
-row_idle (association_key key) (tiploc_body bytes) day of never = absurd (true_false never)
-row_idle (association_key key) (schedule_body lines) day of never = absurd (true_false never)
+row_idle = search (rules, idle_recently, true_false)
 
 -- an association that doesn't run on a start day isn't in force on that start day
 pub not_in_force : (live : Table) (rows : List Row) (link : live_rows.Link) (start : ℕ) → AreRowsOf live rows → IsLiveLink live link

@@ -1,9 +1,8 @@
 -- The text that the code writes for a docker equals the docker's text in the definitions.
-use Rattle.std.proofs.Common.{◌≡◌, ℕ, List, ◌++◌, refl, ap, ◌∙◌}
-use Rattle.std.specs.List.{flat_map}
+use Rattle.std.proofs.Common.{◌≡◌, ℕ, List, refl, ◌∙◌, arith}
 use Rattle.docker_model.specs.file.Change.{tiploc_key}
 use Rattle.docker_model.specs.state.Table.{Table}
-use Rattle.docker_model.specs.docker.DockerText.{IsDockerText, heading, description_in, line_text, last_line, ended}
+use Rattle.docker_model.specs.docker.DockerText.{IsDockerText, heading, description_in, ended}
 use Rattle.docker_day.specs.DockerValue.{Docker, head, text_of}
 use Rattle.docker_day.specs.Dockers.{IsDockerOf}
 
@@ -14,11 +13,7 @@ head_is live place day = refl
 -- the text that is written for the docker of a table, a place and a day is the docker's text in the
 -- definitions
 pub printed : (live : Table) (place : List ℕ) (day : ℕ) (docker : Docker) → IsDockerOf live place day docker → IsDockerText live place day (text_of docker)
-printed live place day docker is =
-    (docker.lines, is.list, ap (λ text. ended text ++ flat_map (λ line. ended (line_text line)) docker.lines ++ ended last_line) whole)
-  where
-    whole : head docker.place docker.day docker.description ≡ heading live place day
-    whole = (λ i. head (is.place_is i) (is.day_is i) (is.described i)) ∙ head_is live place day
+printed = grind (arith, head_is)
 
 -- the heading that is written equals the heading in the definitions
 pub heading_is : (place given : List ℕ) (day told : ℕ) (description shown bytes : List ℕ) → given ≡ place → told ≡ day → shown ≡ description

@@ -1,9 +1,8 @@
 -- Reading the rows of a walk in portions leaves the docker lines unchanged.
-use Rattle.std.proofs.Common.{◌≡◌, ℕ, zero, suc, ◌<◌, Bool, true, false, List, [], ◌∷◌, ◌++◌, length}
-use Rattle.std.proofs.Common.{take, get_or, refl, ap, sym, ◌∙◌, subst, Some, None, arith, append_assoc}
+use Rattle.std.proofs.Common.{◌≡◌, ℕ, zero, suc, ◌<◌, Bool, true, false, List, [], ◌∷◌, ◌++◌, length, rules}
+use Rattle.std.proofs.Common.{take, get_or, refl, ap, sym, ◌∙◌, subst, Some, arith, append_assoc}
 use Rattle.std.specs.Prelude.{Option, ◌||◌}
 use Rattle.std.proofs.lemmas.Grind.{flat_map-append}
-use Rattle.std.specs.List.{flat_map}
 use Rattle.docker_model.specs.file.Change.{Key, Body}
 use Rattle.docker_model.specs.state.Row.{Row, AreRowsOf}
 use Rattle.docker_model.specs.state.State.{IsBodyOf}
@@ -15,7 +14,7 @@ use Rattle.docker_state.specs.Timetables.{live_in}
 use Rattle.train_choice.specs.Along.{AreGoodRows, AreLive}
 use Rattle.train_choice.specs.Known.{PlaceDay}
 use Rattle.docker_day.specs.Lines.{Adds}
-use Rattle.docker_day.specs.RowViews.{AreLiveViews, IsLiveView, lines_of, row_may_run, view_lines, view_of, views_in, views_of}
+use Rattle.docker_day.specs.RowViews.{AreLiveViews, IsLiveView, lines_of, row_may_run, view_of, views_in}
 use Rattle.docker_day.specs.Portions.{AreLeft, AreOpened, ArePassedOver, HaveMoved}
 use Rattle.docker_day.specs.declared.row_view.RowView.{RowView}
 use Rattle.docker_day.proofs.PassedOver.{not_recently, row_idle}
@@ -24,9 +23,8 @@ use Rattle.docker_day.proofs.RowViews.{gathered_viewed, lines_viewed, live_view,
 -- if `row_may_run` says that a row can't have lines on a day, the row has no lines on this day
 no_lines : (place : List ℕ) (day : ℕ) (key : Key) (body : Body) (live : Table) (rows : List Row) → AreRowsOf live rows → live key ≡ Some body
     → IsBodyOf key body → row_may_run (view_of key body) day ≡ false → row_lines (train_in rows) (link_in rows) place day key body ≡ []
-no_lines place day key body live rows are is_live of never =
-    sym (lines_viewed (train_in rows) (link_in rows) place day key body)
-    ∙ sym (not_recently place day (view_of key body) live [] (live_view live key body is_live) (row_idle key body day of never) rows are)
+no_lines place day key body live rows are is_live of never = sym (lines_viewed _ (link_in rows) _ day _ body)
+    ∙ sym (not_recently _ day _ live _ (live_view live _ body is_live) (row_idle _ body _ of never) rows are)
 
 -- if `row_may_run` says that a row can't have lines on the day, the row may be skipped
 pub row_passed : (day : ℕ) (key : Key) (body : Body) (row : RowView) (before after : List Row) (may : Bool) → before ≡ (key, body) ∷ after
@@ -35,57 +33,43 @@ pub row_passed : (day : ℕ) (key : Key) (body : Body) (row : RowView) (before a
 row_passed day key body row before after true is good viewed told never = absurd (never refl)
 row_passed day key body row before after false is good viewed told never = λ place live are_live rows are.
     (λ i. gathered (train_in rows) (link_in rows) place day (is i))
-    ∙ (λ i. no_lines place day key body live rows are (subst (AreLive live) is are_live).0 (subst AreGoodRows is good).0
-    (sym (told ∙ ap (λ (r : RowView). row_may_run r day) viewed)) i
-    ++ gathered (train_in rows) (link_in rows) place day after)
+    ∙ (λ i. no_lines place _ key _ live _ are (subst (AreLive live) is are_live).0 (subst AreGoodRows is good).0
+    (sym (told ∙ ap (λ (r : RowView). row_may_run r day) viewed)) i ++ gathered (train_in rows) (link_in rows) place day after)
 
 -- `AreLeft`, which says that rows stay good and live while a walk moves on, is transitive
 pub left_again : (all rest fewer : List Row) → AreLeft all rest → AreLeft rest fewer → AreLeft all fewer
-left_again all rest fewer first second = record {
-  good = λ good. second.good (first.good good);
-  live = λ live are. second.live live (first.live live are);
-}
+left_again = search rules
 
 -- `ArePassedOver` is transitive: if the rows between `all` and `rest` may be skipped, and the rows
 -- between `rest` and `fewer`, then all rows between `all` and `fewer` may be skipped
 pub passed_again : (day : ℕ) (all rest fewer : List Row) → AreLeft all rest → ArePassedOver day all rest → ArePassedOver day rest fewer
     → ArePassedOver day all fewer
-passed_again day all rest fewer left first second = λ place live are_live rows are.
-    first place live are_live rows are ∙ second place live (left.live live are_live) rows are
+passed_again = search rules
 
 -- if neither the rows read so far nor the next row may have lines, all these rows may be skipped
 pub none_behind : (day : ℕ) (all rest fewer : List Row) (so_far may : Bool) → AreLeft all rest → (so_far ≡ false → ArePassedOver day all rest)
     → (¬ (◌≡◌ {A = Option Bool} (Some may) (Some true)) → ArePassedOver day rest fewer) → (so_far || may) ≡ false → ArePassedOver day all fewer
-none_behind day all rest fewer true may left before after none = let bad : true ≡ false = none in cc
-none_behind day all rest fewer false true left before after none = let bad : true ≡ false = none in cc
-none_behind day all rest fewer false false left before after none =
-    passed_again day all rest fewer left (before refl) (after (λ bad. cc))
+none_behind = search (rules, passed_again)
 
 -- if no row read so far may have lines, and no more rows are read, the rows read so far may be
 -- skipped
 pub none_after : (day : ℕ) (all rest fewer : List Row) (so_far : Bool) (found : Option Bool) → AreLeft all rest
     → (so_far ≡ false → ArePassedOver day all rest) → ((may : Bool) → ¬ (found ≡ Some may)) → (¬ (found ≡ Some true) → ArePassedOver day rest fewer)
     → so_far ≡ false → ArePassedOver day all fewer
-none_after day all rest fewer so_far None left before end after none = passed_again day all rest fewer left (before none) (after (λ bad. cc))
-none_after day all rest fewer so_far (Some may) left before end after none = absurd (end may refl)
+none_after = search (rules, passed_again)
 
 -- suppose that in each of two steps, a walk appends the lines of the rows that it passes. Then it
 -- has appended the lines of all rows that it passed in the two steps
 pub moved_again : (there again : PlaceDay) (all rest fewer : List Row) (first second third : List DockerLine) → again ≡ there
     → HaveMoved there all rest first second → HaveMoved again rest fewer second third → HaveMoved there all fewer first third
-moved_again there again all rest fewer first second third same one two = λ rows are.
-    subst (λ (p : PlaceDay). HaveMoved p rest fewer second third) same two rows are ∙ one rows are
+moved_again = search rules
 
 -- if a walk has appended the lines of all rows that it has passed, this is still true after the
 -- walk skips rows without docker lines
 pub moved_over : (there again : PlaceDay) (all rest fewer : List Row) (first second : List DockerLine) → again ≡ there
     → AreLive (live_in again.timetable) rest → HaveMoved there all rest first second → ArePassedOver again.day rest fewer
     → HaveMoved there all fewer first second
-moved_over there again all rest fewer first second same live one passed = λ rows are.
-    ap (λ more. second ++ more)
-    (sym (subst (λ (p : PlaceDay). ArePassedOver p.day rest fewer) same passed there.place (live_in there.timetable)
-    (subst (λ (p : PlaceDay). AreLive (live_in p.timetable) rest) same live) rows are))
-    ∙ one rows are
+moved_over = search rules
 
 -- rows that are live in the timetable of a `PlaceDay` are live in the timetable of an equal
 -- `PlaceDay`
@@ -102,10 +86,7 @@ live_first live (row ∷ rows) second are = (are.0, live_first live rows second 
 -- if the walk's rows are live, the rows of its portion are live
 pub live_portion : (live : Table) (all rest : List Row) (portion rows : List (ℕ × RowView)) → AreOpened all rest [] portion → rows ≡ portion
     → AreLive live all → AreLiveViews live (views_in rows)
-live_portion live all rest portion rows opened same are =
-    let first : AreLiveViews live (views_in portion) =
-    live_first live (views_in portion) (views_of rest) (subst (AreLiveViews live) (sym opened) (live_views live all are)) in
-    subst (λ (some : List (ℕ × RowView)). AreLiveViews live (views_in some)) (sym same) first
+live_portion = search (rules, live_first, live_views)
 
 -- each row of the portion is live
 live_item : (live : Table) (portion : List (ℕ × RowView)) (i : ℕ) (row : ℕ × RowView) → AreLiveViews live (views_in portion) → i < length portion
@@ -132,11 +113,4 @@ module _ (there : PlaceDay) (portion : List (ℕ × RowView)) where
   pub moved_open : (all rest : List Row) (rows : List (ℕ × RowView)) (first second : List DockerLine) → AreOpened all rest [] portion → rows ≡ portion
       → Adds (live_in there.timetable) (λ trains links. lines_of trains links there.place there.day (views_in rows)) first second
       → HaveMoved there all rest first second
-  moved_open all rest rows first second opened same adds = λ table are.
-      let f : RowView → List DockerLine = view_lines (train_in table) (link_in table) there.place there.day in
-      let old : List Row → List DockerLine = gathered (train_in table) (link_in table) there.place there.day in
-      let viewed : (some : List Row) → flat_map f (views_of some) ≡ old some = gathered_viewed (train_in table) (link_in table) there.place there.day in
-      ap (λ lines. lines ++ old rest) (adds table are ∙ ap (λ (some : List (ℕ × RowView)). first ++ flat_map f (views_in some)) same)
-      ∙ append_assoc first (flat_map f (views_in portion)) (old rest)
-      ∙ ap (λ more. first ++ (flat_map f (views_in portion) ++ more)) (sym (viewed rest))
-      ∙ ap (λ more. first ++ more) (sym (flat_map-append f (views_in portion) (views_of rest)) ∙ ap (flat_map f) opened ∙ viewed all)
+  moved_open = search (rules, gathered_viewed, append_assoc, flat_map-append)

@@ -1,7 +1,7 @@
 -- The typed views of a walk's rows have the same docker lines as these rows.
-use Rattle.std.proofs.Common.{◌≡◌, ℕ, List, [], ◌∷◌, ◌++◌, refl, Some}
+use Rattle.std.proofs.Common.{◌≡◌, ℕ, List, [], ◌∷◌, ◌++◌, refl, Some, rules}
 use Rattle.std.specs.Prelude.{Option}
-use Rattle.docker_model.specs.file.Change.{Key, tiploc_key, association_key, schedule_key, Body, tiploc_body, association_body, schedule_body}
+use Rattle.docker_model.specs.file.Change.{Key, Body}
 use Rattle.docker_model.specs.docker.Choice.{Group}
 use Rattle.docker_laws.specs.Gathering.{gathered, row_lines}
 use Rattle.docker_model.specs.docker.Choice as choices
@@ -13,13 +13,7 @@ use Rattle.docker_day.specs.RowViews.{AreLiveViews, IsLiveView, lines_of, view_l
 
 -- the view of a live row is live
 pub live_view : (live : Table) (key : Key) (body : Body) → live key ≡ Some body → IsLiveView live (view_of key body)
-live_view live (schedule_key key) (schedule_body lines) is = is
-live_view live (schedule_key key) (tiploc_body bytes) is = tt
-live_view live (schedule_key key) (association_body line) is = tt
-live_view live (association_key key) (association_body line) is = is
-live_view live (association_key key) (tiploc_body bytes) is = tt
-live_view live (association_key key) (schedule_body lines) is = tt
-live_view live (tiploc_key code) body is = tt
+live_view = search rules
 
 -- the views of live rows are live
 pub live_views : (live : Table) (rows : List Row) → AreLive live rows → AreLiveViews live (views_of rows)
@@ -29,13 +23,7 @@ live_views live (row ∷ rows) are = (live_view live row.0 row.1 are.0, live_vie
 module _ (trains : List ℕ → ℕ → Option choices.Train) (links : Group → ℕ → Option live_rows.Link) (place : List ℕ) (day : ℕ) where
   -- a row and its view have the same docker lines
   pub lines_viewed : (key : Key) (body : Body) → view_lines trains links place day (view_of key body) ≡ row_lines trains links place day key body
-  lines_viewed (schedule_key key) (schedule_body lines) = refl
-  lines_viewed (schedule_key key) (tiploc_body bytes) = refl
-  lines_viewed (schedule_key key) (association_body line) = refl
-  lines_viewed (association_key key) (association_body line) = refl
-  lines_viewed (association_key key) (tiploc_body bytes) = refl
-  lines_viewed (association_key key) (schedule_body lines) = refl
-  lines_viewed (tiploc_key code) body = refl
+  lines_viewed = search rules
 
   -- rows and their views have the same docker lines
   pub gathered_viewed : (rows : List Row) → lines_of trains links place day (views_of rows) ≡ gathered trains links place day rows

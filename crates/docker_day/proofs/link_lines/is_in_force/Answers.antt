@@ -4,7 +4,6 @@ use Rattle.docker_model.specs.file.Change.{AssociationKey}
 use Rattle.docker_model.specs.docker.Choice.{association_runs, group_of}
 use Rattle.docker_laws.specs.Gathering.{counts_as}
 use Rattle.docker_laws.specs.LiveRows.{link_in}
-use Rattle.docker_state.specs.Timetables.{live_in}
 use Rattle.train_choice.specs.Ranked.{is_cancellation}
 use Rattle.docker_day.proofs.PassedOver.{not_in_force}
 use Rattle.docker_day.proofs.link_lines.is_in_force.Goals as goal
@@ -16,6 +15,5 @@ returns c = λ rows are.
     λ i. (counts i && stands i) && c.has_indicator.ensures i
 
 pub returns-then-not-runs_on : goal.returns-then-not-runs_on
-returns-then-not-runs_on c = λ rows are.
-    not_in_force (live_in c.args.visit.now.timetable) rows c.args.link.now c.args.visit.now.start are c.requires.live
+returns-then-not-runs_on c = λ rows are. not_in_force _ _ _ _ are c.requires.live
     (sym (c.runs_on.ensures ∙ ap (λ start. association_runs c.args.link.now.line start) c.start.ensures.start) ∙ c.if-not-runs_on.true)

@@ -1,11 +1,8 @@
-use Rattle.docker_state.specs.Timetables.{live_in}
 use Rattle.docker_day.proofs.Gathered.{docker_made}
 use Rattle.docker_day.proofs.making.docker_in.Goals as goal
 
 pub returns-in-Ok-clause-ok : goal.returns-in-Ok-clause-ok
 returns-in-Ok-clause-ok c =
     let good = c.description-description.ensures.good in
-    docker_made (live_in c.args.timetable.now) c.args.tiploc.now c.args.day good.rows c.new-lines.result.items
-    c.add_all.new.lines.items c.in_order.result.items
-    c.description-description.result.now c.of.result c.of.ensures c.description-description.ensures.text
+    docker_made _ _ _ _ _ _ _ _ _ c.of.ensures c.description-description.ensures.text
     good.bodies good.are c.new-lines.ensures.items c.in-Ok.ensures c.in_order.ensures.same c.in_order.ensures.sorted

@@ -5,9 +5,7 @@ use Rattle.docker_day.proofs.RowPortions.{live_again, live_portion, moved_again,
 use Rattle.docker_day.proofs.portions.add_rows.Goals as goal
 
 pub add_portion-requires : goal.add_portion-requires
-add_portion-requires c =
-    live_portion (live_in c.portions.visits.timetable) c.portions.rows c.open_portion-may_run.new.rows c.open_portion-may_run.new.portion.items
-    c.as_slice.result.now c.open_portion-may_run.ensures.opened c.as_slice.ensures.value c.portions.invariant.live
+add_portion-requires c = live_portion _ _ _ _ _ c.open_portion-may_run.ensures.opened c.as_slice.ensures.value c.portions.invariant.live
 
 pub portions-preserved-in-Continue-1 : goal.portions-preserved-in-Continue-1
 portions-preserved-in-Continue-1 c =
