@@ -1,5 +1,5 @@
 -- What offices know and print at the end of their runs.
-use Rattle.std.proofs.Common.{◌≡◌, ℕ, List, subst, arith}
+use Rattle.std.proofs.Common.{◌≡◌, ℕ, List, subst, rules}
 use Rattle.docker_model.specs.state.State.{State, live_table}
 use Rattle.docker_model.specs.state.StateText.{dks_2}
 use Rattle.docker_model.specs.state.Table.{Table, IsPlainTable}
@@ -13,10 +13,7 @@ use Rattle.docker_office.specs.RunEnds.{EndsWith, PrintsAs, known_at_end}
 
 -- the office that `EndsWith` describes is one of the run's offices
 is_there : (known : Known) (state : State) → (end : EndsWith known state) → IsOffice (sets_of end.offices end.events end.exchange) end.office
-is_there known state end =
-    let many = offices_are end.offices end.events end.exchange.replies in
-    let low = end.there in
-    omega arith
+is_there = search (rules, offices_are)
 
 -- suppose that an office has the knowledge `known` and the state `state` at the end of its run. If
 -- a property is true of the office's knowledge and state at the end of the run, it is true of

@@ -1,11 +1,11 @@
 -- Writing the lines of ledger items, one after the other.
-use Rattle.std.proofs.Common.{◌≡◌, ℕ, suc, ◌+◌, ◌<◌, ◌≤◌, List, [], ◌∷◌, ◌++◌, length, take, drop, map, get_or, All, refl}
-use Rattle.std.proofs.Common.{ap, sym, ◌∙◌, subst, Some, None, Ok, Err, arith, append_assoc, append-nil, length-append}
-use Rattle.std.specs.Prelude.{Option, option_map, Result, OnErr}
+use Rattle.std.proofs.Common.{◌≡◌, ℕ, suc, ◌+◌, ◌<◌, ◌≤◌, List, [], ◌∷◌, ◌++◌, length, take, drop, map, get_or, All, rules}
+use Rattle.std.proofs.Common.{ap, sym, ◌∙◌, subst, arith, append_assoc, append-nil, length-append}
+use Rattle.std.specs.Prelude.{Option, Result, OnErr}
 use Rattle.std.proofs.Math.ListN.{get_or-map, drop_of_length-le}
 use Rattle.std.proofs.Math.Seq.{take-suc, take-append-add}
 use Rattle.std.proofs.lemmas.List.{map-append, length-map, take-append-le, take-append-drop}
-use Rattle.std.proofs.lemmas.Grind.{flat_map-append}
+use Rattle.std.proofs.lemmas.Grind.{flat_map-append, common_steps}
 use Rattle.cif_device.specs.Device.{Takes, TakesPart}
 use Rattle.docker_model.specs.docker.DockerText.{ended, file_text, files_text}
 use Rattle.docker_model.specs.state.State.{IsGoodItem}
@@ -19,8 +19,7 @@ text_of items = files_text (map item_meant items)
 -- the text of two concatenated lists is the text of the first list, followed by the text of the
 -- second list
 text_joined : (xs ys : List LedgerItem) → text_of (xs ++ ys) ≡ text_of xs ++ text_of ys
-text_joined xs ys =
-    ap files_text (map-append item_meant xs ys) ∙ flat_map-append (λ item. ended (file_text item)) (map item_meant xs) (map item_meant ys)
+text_joined = search (rules, map-append, flat_map-append)
 
 -- the text of one item is its line
 text_of_one : (item : LedgerItem) → text_of (item ∷ []) ≡ ended (file_text (item_meant item))
@@ -28,14 +27,11 @@ text_of_one item = append-nil (ended (file_text (item_meant item)))
 
 -- writing no bytes leaves the sink unchanged
 pub none_taken : (sink : Option (List ℕ)) → Takes sink [] sink
-none_taken None = refl
-none_taken (Some taken) = ap Some (sym (append-nil taken))
+none_taken = search (rules, append-nil)
 
 -- if a sink gains two pieces, one after the other, it gains their concatenation
 taken_then : (first now next : Option (List ℕ)) (front back : List ℕ) → Takes first front now → Takes now back next → Takes first (front ++ back) next
-taken_then None now next front back one two = two ∙ ap (option_map (λ taken. taken ++ back)) one
-taken_then (Some taken) now next front back one two =
-    two ∙ ap (option_map (λ bytes. bytes ++ back)) one ∙ ap Some (append_assoc taken front back)
+taken_then = search (rules, append_assoc)
 
 -- the minute of each item in a good ledger is below 1440
 pub minute_at : (items : List LedgerItem) (i : ℕ) (item : LedgerItem) → All IsGoodItem (map item_meant items) → i < length items
@@ -53,10 +49,9 @@ module _ (items : List LedgerItem) (i : ℕ) (item : LedgerItem) (line : List �
   following = omega arith
 
   front_and_line : text_of (take (i + 1) items) ≡ text_of (take i items) ++ line
-  front_and_line =
-      ap (λ n. text_of (take n items)) (sym following) ∙ ap text_of (take-suc items i item below)
-      ∙ text_joined (take i items) (get_or items i item ∷ []) ∙ ap (λ one. text_of (take i items) ++ text_of (one ∷ [])) (sym at)
-      ∙ ap (λ bytes. text_of (take i items) ++ bytes) (text_of_one item ∙ sym line_is)
+  front_and_line = ap (λ n. text_of (take n items)) (sym following) ∙ ap text_of (take-suc items i item below)
+      ∙ text_joined _ _ ∙ ap (λ one. text_of (take i items) ++ text_of (one ∷ [])) (sym at)
+      ∙ ap (λ bytes. text_of (take i items) ++ bytes) (text_of_one _ ∙ sym line_is)
 
   -- after the line of item `i` has been written, the lines up to and including this line have been
   -- written
@@ -64,8 +59,7 @@ module _ (items : List LedgerItem) (i : ℕ) (item : LedgerItem) (line : List �
   line_taken taken = subst (λ bytes. Takes first bytes next) (sym front_and_line) (taken_then first now next (text_of (take i items)) line so_far taken)
 
   whole : text_of items ≡ text_of (take i items) ++ (line ++ text_of (drop (i + 1) items))
-  whole =
-      ap text_of (sym (take-append-drop (i + 1) items)) ∙ text_joined (take (i + 1) items) (drop (i + 1) items)
+  whole = ap text_of (sym (take-append-drop (i + 1) items)) ∙ text_joined _ _
       ∙ ap (λ bytes. bytes ++ text_of (drop (i + 1) items)) front_and_line
       ∙ append_assoc (text_of (take i items)) line (text_of (drop (i + 1) items))
 
@@ -83,19 +77,14 @@ module _ (items : List LedgerItem) (i : ℕ) (item : LedgerItem) (line : List �
       ap (take (length front + n)) whole ∙ take-append-add front (line ++ rest) n ∙ ap (λ bytes. front ++ bytes) within in (
         length front + n,
         omega arith,
-        subst (λ bytes. Takes first bytes next) (sym cut) (taken_then first now next front (take n line) so_far taken),
+        subst (λ bytes. Takes first bytes next) (sym cut) (taken_then _ _ _ _ _ so_far taken),
       )
 
 -- after the last item, the whole text has been written
 pub all_taken : (items : List LedgerItem) (i : ℕ) (first now : Option (List ℕ)) → length items ≤ i → Takes first (text_of (take i items)) now
     → Takes first (text_of items) now
-all_taken items i first now end so_far = subst (λ xs. Takes first (text_of xs) now) all so_far
-  where
-    all : take i items ≡ items
-    all =
-        sym (append-nil (take i items)) ∙ ap (λ rest. take i items ++ rest) (sym (drop_of_length-le items end)) ∙ take-append-drop i items
+all_taken = grind (common_steps, arith, append-nil, drop_of_length-le, take-append-drop)
 
 -- what is true in any case is also true if the result is an error
 pub on_err : {A E : Type 0} (answer : Result A E) (P : Type 0) → P → OnErr answer P
-on_err (Ok a) P holds = tt
-on_err (Err e) P holds = holds
+on_err = search rules

@@ -1,5 +1,6 @@
 -- The definitions allow each reply that is made from the result of a call to an office.
-use Rattle.std.proofs.Common.{◌≡◌, ℕ, ◌^◌, ◌<◌, ◌≤◌, List, [], ◌∷◌, ◌++◌, length, set, get_or, refl, sym, ◌∙◌}
+use Rattle.std.proofs.Common.{◌≡◌, ℕ, ◌^◌, ◌<◌, ◌≤◌, List, [], ◌∷◌, ◌++◌, length, set, get_or, refl, sym, ◌∙◌, rules}
+use Rattle.std.proofs.lemmas.Grind.{common_steps}
 use Rattle.std.proofs.Common.{ap, subst, arith, Option, Some, None, Result, Ok, Err, IsOk, IsErr, IfErr}
 use Rattle.std.proofs.lemmas.List.{length-map, set-get_or, map-append}
 use Rattle.cif_device.specs.Device.{Store}
@@ -31,7 +32,7 @@ use Rattle.docker_office.specs.Office.{TakesFile, no_state}
 use Rattle.docker_office.specs.declared.reply.Reply.{Reply}
 use Rattle.docker_office.specs.declared.reply.Reply.TheVariants.{Done, Refused}
 use Rattle.docker_office.specs.declared.reply.RunFault.{RunFault}
-use Rattle.docker_office.specs.declared.reply.RunFault.TheVariants.{NoOffice, NoMessage, Office}
+use Rattle.docker_office.specs.declared.reply.RunFault.TheVariants.{NoOffice, Office}
 use Rattle.docker_office.specs.declared.steps.Holdings.{Holdings}
 use Rattle.docker_office.specs.RunMeaning.{IsMissing, refusal_of_file, reply_for, texts_of}
 use Rattle.docker_office.specs.RunSteps.{AreOf, MeetsEvent}
@@ -50,16 +51,13 @@ module _ (known : KnownSets) (held : Holdings) (holds : AreOf known held) where
   is_office office there = let many = (sizes dks_2 known held.offices.items (texts_of held.messages.items) holds).0 in omega arith
 
   no_office_there : (office : ℕ) (There : Type 0) → length held.offices.items ≤ office → IsOfficeReply known office (refused no_office) There
-  no_office_there office There far =
-      let many = (sizes dks_2 known held.offices.items (texts_of held.messages.items) holds).0 in
-      record { absent = λ _. refl; there = λ there. absurd (omega arith) }
+  no_office_there = grind (common_steps, arith, sizes)
 
   office_there : (office : ℕ) (reply : model.Reply) (There : Type 0) → office < length held.offices.items → There → IsOfficeReply known office reply There
   office_there office reply There there is = record { absent = λ never. absurd (never (is_office office there)); there = λ _. is }
 
   many_messages : length held.messages.items ≡ length known.messages
-  many_messages =
-      sym (length-map held.messages.items (λ (kept : Store). kept.taken)) ∙ (sizes dks_2 known held.offices.items (texts_of held.messages.items) holds).1
+  many_messages = sym (length-map held.messages.items (λ (kept : Store). kept.taken)) ∙ (sizes _ _ _ _ holds).1
 
   is_message : (message : ℕ) → message < length held.messages.items → IsMessage known message
   is_message message sent = let many = many_messages in omega arith
@@ -75,8 +73,7 @@ module _ (known : KnownSets) (held : Holdings) (holds : AreOf known held) where
   -- if the office doesn't exist, `NoOffice` is an allowed reply to a `Take`
   pub take_without_office : (office : ℕ) (text : List ℕ) (limit : ℕ) → length held.offices.items ≤ office
       → MeetsEvent known (take_file office text limit) (Refused NoOffice) held
-  take_without_office office text limit far =
-      record { told = tt; may = no_office_there office (IsFileReply limit text (refused no_office)) far; holds = holds }
+  take_without_office = search (rules, no_office_there)
 
   -- if the office doesn't exist, `NoOffice` is an allowed reply to a `Send`
   pub send_without_office : (office : ℕ) → length held.offices.items ≤ office → MeetsEvent known (send_state office) (Refused NoOffice) held
@@ -84,36 +81,21 @@ module _ (known : KnownSets) (held : Holdings) (holds : AreOf known held) where
 
   -- if the office doesn't exist, `NoOffice` is an allowed reply to a `Horizon`
   pub horizon_without_office : (office day : ℕ) → length held.offices.items ≤ office → MeetsEvent known (horizon_event office day) (Refused NoOffice) held
-  horizon_without_office office day far =
-      record { told = tt; may = no_office_there office (refused no_office ≡ model.done) far; holds = holds }
+  horizon_without_office = search (rules, no_office_there)
 
   -- if the office or the message doesn't exist, `NoOffice` or `NoMessage` is an allowed reply to a
   -- `Deliver`
   pub delivery_missing : (office message : ℕ) (fault : RunFault)
       → IsMissing (length held.offices.items) (length held.messages.items) office message fault
       → MeetsEvent known (deliver office message) (Refused fault) held
-  delivery_missing office message NoOffice far =
-      record { told = tt; may = no_office_there office (IsMessageReply known message (refused no_office)) far; holds = holds }
-  delivery_missing office message NoMessage far = record {
-    told = tt;
-    may = office_there office (refused no_message) (IsMessageReply known message (refused no_message)) far.0 (no_message_sent message far.1);
-    holds = holds;
-  }
-  delivery_missing office message (Office fault) never = absurd never
+  delivery_missing = search (rules, no_office_there, office_there, no_message_sent)
 
   -- if the office or the message doesn't exist, `NoOffice` or `NoMessage` is an allowed reply to a
   -- `Reload`
   pub reload_missing : (office message : ℕ) (fault : RunFault)
       → IsMissing (length held.offices.items) (length held.messages.items) office message fault
       → MeetsEvent known (reload office message) (Refused fault) held
-  reload_missing office message NoOffice far =
-      record { told = tt; may = no_office_there office (IsMessageReply known message (refused no_office)) far; holds = holds }
-  reload_missing office message NoMessage far = record {
-    told = tt;
-    may = office_there office (refused no_message) (IsMessageReply known message (refused no_message)) far.0 (no_message_sent message far.1);
-    holds = holds;
-  }
-  reload_missing office message (Office fault) never = absurd never
+  reload_missing = search (rules, no_office_there, office_there, no_message_sent)
 
   -- ---- the states and messages after an event
 
@@ -124,19 +106,14 @@ module _ (known : KnownSets) (held : Holdings) (holds : AreOf known held) where
 
   replaced : (sets : KnownSets) (office : ℕ) (now : State) (after : Holdings) → IsReplaced office now after
       → Holds dks_2 sets (set held.offices.items office now) (texts_of held.messages.items) → AreOf sets after
-  replaced sets office now after is have =
-      subst (λ states. Holds dks_2 sets states (texts_of after.messages.items)) (sym is.offices)
-      (subst (λ kept. Holds dks_2 sets (set held.offices.items office now) (texts_of kept)) (sym is.messages) have)
+  replaced = search rules
 
   -- if the office's new state equals its old state, each office's state is still the summary of
   -- what the office knew before. Each message is still the text of the summary of what its sender
   -- knew
   unchanged : (office : ℕ) (now : State) (after : Holdings) → IsReplaced office now after → now ≡ get_or held.offices.items office no_state
       → AreOf known after
-  unchanged office now after is same =
-      replaced known office now after is
-      (subst (λ states. Holds dks_2 known states (texts_of held.messages.items))
-      (sym (ap (set held.offices.items office) same ∙ set-get_or held.offices.items office no_state)) holds)
+  unchanged = search (rules, replaced, set-get_or)
 
   -- ---- a file is taken
 
@@ -153,10 +130,8 @@ module _ (known : KnownSets) (held : Holdings) (holds : AreOf known held) where
         } in
         record {
           told = tt;
-          may = office_there office model.done (IsFileReply limit text model.done) there file;
-          holds =
-              replaced (after_done known (take_file office text limit)) office now after is
-              (after_take dks_2 known held.offices.items (texts_of held.messages.items) holds office text limit takes.own now (is_office office there) low file
+          may = office_there _ _ _ there file;
+          holds = replaced _ _ _ _ is (after_take _ _ _ _ holds _ _ _ _ _ (is_office _ there) low file
               (subst (λ f. IsSummary (f ∷ []) 0 takes.own) same takes.of_file) takes.joined);
         }
 
@@ -164,21 +139,14 @@ module _ (known : KnownSets) (held : Holdings) (holds : AreOf known held) where
         → MeetsEvent known (take_file office text limit) (Refused (Office (why.File fault))) after
     file_refused fault same refuses = record {
       told = subst IsTextCause (sym refuses.is.cause_is) tt;
-      may =
-          subst (λ cause. IsOfficeReply known office (refused (refusal_of_file fault.number cause))
-          (IsFileReply limit text (refused (refusal_of_file fault.number cause)))) (sym refuses.is.cause_is)
-          (office_there office (refused (refusal_of_file fault.number (Some refuses.is.cause)))
-          (IsFileReply limit text (refused (refusal_of_file fault.number (Some refuses.is.cause)))) there
+      may = subst (λ cause. IsOfficeReply known office (refused (refusal_of_file fault.number cause))
+          (IsFileReply limit text (refused (refusal_of_file fault.number cause)))) (sym refuses.is.cause_is) (office_there _ _ _ there
           (subst (λ t. IsFileFault limit t (record { number = fault.number; cause = refuses.is.cause })) (sym refuses.held) refuses.is.is));
-      holds = unchanged office now after is same;
+      holds = unchanged _ _ _ is same;
     }
 
     take_without_memory : now ≡ get_or held.offices.items office no_state → MeetsEvent known (take_file office text limit) (Refused (Office why.Memory)) after
-    take_without_memory same = record {
-      told = tt;
-      may = office_there office (refused model.no_memory) (IsFileReply limit text (refused model.no_memory)) there tt;
-      holds = unchanged office now after is same;
-    }
+    take_without_memory = search (rules, office_there, unchanged)
 
     -- whatever result the office returns for a `Take`, the definitions allow the reply that is made
     -- from this result
@@ -210,23 +178,17 @@ module _ (known : KnownSets) (held : Holdings) (holds : AreOf known held) where
       → MeetsEvent known (send_state office) Done after
   send_met office message after there same more is = record {
     told = tt;
-    may = office_there office model.done (IsDoneOrNoMemory model.done) there tt;
-    holds =
-        subst (λ states. Holds dks_2 (after_done known (send_state office)) states (texts_of after.messages.items)) (sym same)
+    may = office_there _ _ _ there tt;
+    holds = subst (λ states. Holds dks_2 (after_done known (send_state office)) states (texts_of after.messages.items)) (sym same)
         (subst (Holds dks_2 (after_done known (send_state office)) held.offices.items)
         (sym (ap texts_of more ∙ map-append (λ (kept : Store). kept.taken) held.messages.items (message ∷ [])
-        ∙ ap (λ text. texts_of held.messages.items ++ text ∷ []) is))
-        (after_send dks_2 known held.offices.items (texts_of held.messages.items) holds office (is_office office there)));
+        ∙ ap (λ text. texts_of held.messages.items ++ text ∷ []) is)) (after_send _ _ _ _ holds _ (is_office _ there)));
   }
 
   -- if memory runs out for a `Send` and no message is appended, the definitions allow a reply that
   -- reports the lack of memory
   pub send_without_memory : (office : ℕ) → office < length held.offices.items → MeetsEvent known (send_state office) (Refused (Office why.Memory)) held
-  send_without_memory office there = record {
-    told = tt;
-    may = office_there office (refused model.no_memory) (IsDoneOrNoMemory (refused model.no_memory)) there tt;
-    holds = holds;
-  }
+  send_without_memory = search (rules, office_there)
 
   -- ---- a horizon is set
 
@@ -234,11 +196,10 @@ module _ (known : KnownSets) (held : Holdings) (holds : AreOf known held) where
       → now ≡ raise_horizon day (get_or held.offices.items office no_state) → MeetsEvent known (horizon_event office day) Done after
   horizon_met office day now after there low is raised = record {
     told = tt;
-    may = office_there office model.done (model.done ≡ model.done) there refl;
-    holds =
-        replaced (after_done known (horizon_event office day)) office now after is
+    may = office_there _ _ _ there refl;
+    holds = replaced _ _ _ _ is
         (subst (λ s. Holds dks_2 (after_done known (horizon_event office day)) (set held.offices.items office s) (texts_of held.messages.items)) (sym raised)
-        (after_horizon dks_2 known held.offices.items (texts_of held.messages.items) holds office day (is_office office there) low));
+        (after_horizon _ _ _ _ holds _ _ (is_office _ there) low));
   }
 
   -- ---- a message is read
@@ -250,10 +211,8 @@ module _ (known : KnownSets) (held : Holdings) (holds : AreOf known held) where
     no_fault fault refuses = by (state_cause_meant fault.cause) refuses.is
       where
         reads : (state : State) × IsStateText dks_2 (length text) text state
-        reads =
-            subst (λ t. (state : State) × IsStateText dks_2 (length t) t state) (sym text_is)
-            (let read = message_reads dks_2 known held.offices.items (texts_of held.messages.items) holds message (is_message message sent)
-            (subst (λ t. length t < 2 ^ 64) text_is short) in (read.0, read.2))
+        reads = subst (λ t. (state : State) × IsStateText dks_2 (length t) t state) (sym text_is)
+            (let read = message_reads _ _ _ _ holds _ (is_message _ sent) (subst (λ t. length t < 2 ^ 64) text_is short) in (read.0, read.2))
 
         by : (cause : Option states.StateCause) → IsCauseOf dks_2 (length text) refuses.text fault.at cause → ⊥
         by None is = is
@@ -271,27 +230,21 @@ module _ (known : KnownSets) (held : Holdings) (holds : AreOf known held) where
           → MeetsEvent known (deliver office message) Done after
       delivered joins = record {
         told = tt;
-        may = office_there office model.done (IsMessageReply known message model.done) there (message_sent message model.done sent tt);
-        holds =
-            replaced (after_done known (deliver office message)) office now after is
-            (after_delivery dks_2 known held.offices.items (texts_of held.messages.items) holds office message (length text) joins.received now
-            (is_office office there) (is_message message sent) (subst (λ t. length t < 2 ^ 64) text_is short) (read_of joins.received joins.read) joins.join);
+        may = office_there _ _ _ there (message_sent _ _ sent tt);
+        holds = replaced _ _ _ _ is (after_delivery _ _ _ _ holds _ _ _ _ _
+            (is_office _ there) (is_message _ sent) (subst (λ t. length t < 2 ^ 64) text_is short) (read_of _ joins.read) joins.join);
       }
 
       reloaded : ReadsState dks_2 (length text) (Some text) now → MeetsEvent known (reload office message) Done after
       reloaded reads = record {
         told = tt;
-        may = office_there office model.done (IsMessageReply known message model.done) there (message_sent message model.done sent tt);
-        holds =
-            replaced (after_done known (reload office message)) office now after is
-            (after_reload dks_2 known held.offices.items (texts_of held.messages.items) holds office message (length text) now
-            (is_office office there) (is_message message sent) (subst (λ t. length t < 2 ^ 64) text_is short) (read_of now reads));
+        may = office_there _ _ _ there (message_sent _ _ sent tt);
+        holds = replaced _ _ _ _ is (after_reload _ _ _ _ holds _ _ _ _
+            (is_office _ there) (is_message _ sent) (subst (λ t. length t < 2 ^ 64) text_is short) (read_of _ reads));
       }
 
       no_memory_there : IsOfficeReply known office (refused model.no_memory) (IsMessageReply known message (refused model.no_memory))
-      no_memory_there =
-          office_there office (refused model.no_memory) (IsMessageReply known message (refused model.no_memory)) there
-          (message_sent message (refused model.no_memory) sent tt)
+      no_memory_there = search (rules, office_there, message_sent)
 
       delivery_without_memory : now ≡ get_or held.offices.items office no_state → MeetsEvent known (deliver office message) (Refused (Office why.Memory)) after
       delivery_without_memory same = record { told = tt; may = no_memory_there; holds = unchanged office now after is same }

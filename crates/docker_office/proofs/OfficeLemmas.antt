@@ -1,5 +1,5 @@
 -- The contracts of an office's methods follow from the contracts of the functions that they call.
-use Rattle.std.proofs.Common.{◌≡◌, ◌≢◌, ℕ, ◌+◌, ◌≤◌, List, [], ◌∷◌, ◌++◌, ap, arith, inl, inr, refl, sym, ◌∙◌, subst, Some, Ok, Err}
+use Rattle.std.proofs.Common.{◌≡◌, ◌≢◌, ℕ, ◌+◌, ◌≤◌, List, [], ◌∷◌, ◌++◌, ap, arith, sym, ◌∙◌, subst, Some, Ok, Err, rules}
 use Rattle.std.specs.Prelude.{Option, Result, max, IsOk, IfErr, OnOk, OnErr}
 use Rattle.std.specs.Result.{is_ok}
 use Rattle.std.proofs.Math.Nat.{zero-max}
@@ -15,7 +15,6 @@ use Rattle.cif_file.specs.FileEnds.{CountsWhyNoFile, IsWhyNoFile, StopsReadingFi
 use Rattle.cif_file.specs.SourceRead.{ReadsText, RefusesText, WantsMemory}
 use Rattle.cif_file.specs.declared.fault.FileFault.{FileFault}
 use Rattle.cif_file.specs.declared.fault.FileReadFault as files
-use Rattle.cif_file.specs.declared.fault.FileReadFault.TheVariants as file_faults
 use Rattle.docker_bytes.specs.Excerpts.{IsExcerptAt}
 use Rattle.cif_device.specs.Device.{IsEnd, Held}
 use Rattle.docker_bytes.specs.ReadEnds.{BytesLeft, CountsOutcome, CountsWhy, IsOutcome, IsWhyUnread, StopsReading, Wanting}
@@ -25,7 +24,6 @@ use Rattle.docker_laws.specs.FileSummary.{summary_of}
 use Rattle.docker_laws.proofs.dockers.FileSummary.{join_of_nothing, summary_is, summary_valid}
 use Rattle.docker_excerpt.specs.Values.{Excerpt}
 use Rattle.docker_bytes.specs.declared.read.ReadFault as states
-use Rattle.docker_bytes.specs.declared.read.ReadFault.TheVariants as state_faults
 use Rattle.docker_office.specs.declared.fault.OfficeFault.{OfficeFault}
 use Rattle.docker_office.specs.declared.fault.OfficeFault.TheVariants as office
 use Rattle.docker_office.specs.Faults.{IsOfFile, IsOfState, office_fault_of_file, office_fault_of_state}
@@ -37,10 +35,7 @@ use Rattle.docker_office.specs.OfficeReads.{CountsTaking, IsTakingOutcome, why_u
 -- if two results are both `Ok` or both `Err`, and `P` holds if the first is `Ok`, then `P` also
 -- holds if the second is `Ok`
 pub on_ok_with : {A B E F : Type 0} (P : Type 0) (first : Result A E) (second : Result B F) → is_ok second ≡ is_ok first → OnOk first P → OnOk second P
-on_ok_with P (Ok a) (Ok b) same holds = holds
-on_ok_with P (Ok a) (Err f) same holds = tt
-on_ok_with P (Err e) (Err f) same holds = tt
-on_ok_with P (Err e) (Ok b) same holds = let never : ⊥ = cc in absurd never
+on_ok_with = search rules
 
 -- suppose that two results are both `Ok` or both `Err`, and that `P` holds if the first is `Ok`. If
 -- the second is `Ok`, then the first is `Ok` too, so `P` holds
@@ -59,27 +54,21 @@ of_err P (Ok a) second same holds fault is = let never : ⊥ = cc in absurd neve
 
 -- if a file was read from a source, the source held the text of a file
 pub holds_file : (limit : ℕ) (left : BytesLeft) (read : FileRead) → ReadsText limit left read → HoldsFile limit left
-holds_file limit left read reads =
-    record { text = reads.text; held = reads.held; file = reads.of_text.records; is_text = reads.of_text.is_text }
+holds_file = search rules
 
 -- if the reader of states returns a fault, the office returns a fault with the same meaning
 pub unread_by_office : (wants : Wanting) (format : Format) (limit : ℕ) (left left_now : BytesLeft) (failures failures_now : ℕ) (cause : states.ReadFault)
     → StopsReading format limit left left_now (IsWhyUnread wants format limit left left_now (Some cause)) (CountsWhy (Some cause) failures failures_now)
     → StopsReading format limit left left_now (IsWhyUnread wants format limit left left_now (why_unread (office_fault_of_state cause)))
     (CountsWhy (why_unread (office_fault_of_state cause)) failures failures_now)
-unread_by_office wants format limit left left_now failures failures_now state_faults.Source ends = ends
-unread_by_office wants format limit left left_now failures failures_now (state_faults.State fault) ends = ends
-unread_by_office wants format limit left left_now failures failures_now state_faults.Memory ends = ends
+unread_by_office = search rules
 
 -- if the reader of files returns a fault, the office returns a fault with the same meaning
 pub untaken : {A : Type 0} (limit : ℕ) (IsMade : A → Type 0) (left left_now : BytesLeft) (failures failures_now : ℕ) (cause : files.FileReadFault)
     → StopsReadingFile limit left left_now (IsWhyNoFile WantsMemory limit left left_now cause) (CountsWhyNoFile cause failures failures_now)
     → StopsReadingFile limit left left_now (IsTakingOutcome limit IsMade left left_now (Err (office_fault_of_file cause)))
     (CountsTaking {A = A} failures failures_now (Err (office_fault_of_file cause)))
-untaken limit IsMade left left_now failures failures_now file_faults.Source ends = ends
-untaken limit IsMade left left_now failures failures_now (file_faults.File fault) ends = ends
-untaken limit IsMade left left_now failures failures_now file_faults.Memory ends =
-    record { no_further = ends.no_further; outcome = inl ends.outcome; failures = ends.failures }
+untaken = search rules
 
 -- if a whole file was read, either the office takes the file or memory runs out for the file's
 -- state
@@ -87,14 +76,7 @@ pub taken_whole : {A : Type 0} (limit : ℕ) (IsMade : A → Type 0) (left left_
     (result : Result A OfficeFault) → StopsReadingFile limit left left_now (ReadsText limit left read × IsEnd left_now) (failures_now ≡ failures)
     → ((made : A) → result ≡ Ok made → IsMade made) → IfErr result (λ fault. fault ≡ office.Memory)
     → StopsReadingFile limit left left_now (IsTakingOutcome limit IsMade left left_now result) (CountsTaking failures failures_now result)
-taken_whole limit IsMade left left_now failures failures_now read (Ok made) ends is only =
-    record { no_further = ends.no_further; outcome = (is made refl, ends.outcome.1); failures = ends.failures }
-taken_whole {A} limit IsMade left left_now failures failures_now read (Err fault) ends is only =
-    subst
-    (λ (told : OfficeFault). StopsReadingFile limit left left_now (IsTakingOutcome limit IsMade left left_now (Err told))
-    (CountsTaking {A = A} failures failures_now (Err told)))
-    (sym only)
-    (record { no_further = ends.no_further; outcome = inr (holds_file limit left read ends.outcome.0); failures = ends.failures })
+taken_whole = search (rules, holds_file)
 
 -- ---- states
 
@@ -102,15 +84,7 @@ taken_whole {A} limit IsMade left left_now failures failures_now read (Err fault
 -- office has taken the file
 pub takes_file : (limit : ℕ) (left : Option (List ℕ)) (read : FileRead) (old own new : State) → ReadsText limit left read
     → ((file : List (List ℕ)) → IsOfRecords read file → IsSummary (file ∷ []) 0 own) → IsJoin old own new → TakesFile limit left old new
-takes_file limit left read old own new reads summary join = record {
-  text = reads.text;
-  held = reads.held;
-  file = reads.of_text.records;
-  is_text = reads.of_text.is_text;
-  own = own;
-  of_file = summary reads.of_text.records reads.of_text.of_records;
-  joined = join;
-}
+takes_file = search rules
 
 -- if the state of an office that knew no file is now the summary of the file that was read, the
 -- office has taken the file
@@ -154,16 +128,14 @@ one_read format limit left read sent reads holds =
 -- raised to a day
 pub one_raised : (format : Format) (limit : ℕ) (left : Option (List ℕ)) (day : ℕ) (read sent : State) → RaisesState format limit left day read
     → HoldsState format limit left sent → read ≡ raise_horizon day sent
-one_raised format limit left day read sent raises holds =
-    raises.raised ∙ ap (raise_horizon day) (one_read format limit left raises.own sent raises.reads holds)
+one_raised format limit left day read sent raises holds = raises.raised ∙ ap (raise_horizon day) (one_read _ _ _ _ _ raises.reads holds)
 
 -- the join of two summaries is the summary of all their files
 pub joins_summaries : (limit : ℕ) (left : Option (List ℕ)) (old new : State) → JoinsState dks_2 limit left old new
     → (files others : List (List (List ℕ))) (g h : ℕ) (sent : State) → IsSummary files g old → IsSummary others h sent → HoldsState dks_2 limit left sent
     → IsSummary (files ++ others) (max g h) new
-joins_summaries limit left old new joins files others g h sent of_files of_others holds =
-    join_is_summary files others g h old joins.received new of_files
-    (subst (IsSummary others h) (sym (one_read dks_2 limit left joins.received sent joins.read holds)) of_others) joins.join
+joins_summaries limit left old new joins files others g h sent of_files of_others holds = join_is_summary _ _ _ _ _ _ _ of_files
+    (subst (IsSummary others h) (sym (one_read _ _ _ _ _ joins.read holds)) of_others) joins.join
 
 -- ---- excerpts
 
@@ -181,17 +153,14 @@ day_read place day limit left excerpt reads = ap (λ (it : Excerpt). it.day) rea
 -- source held
 pub state_read : (place : List ℕ) (day limit : ℕ) (left : Option (List ℕ)) (excerpt : Excerpt)
     → ReadsMade (IsExcerptAt place day) dks_2 limit left excerpt → ReadsState dks_2 limit left excerpt.state
-state_read place day limit left excerpt reads =
-    subst (ReadsState dks_2 limit left) (sym (ap (λ (it : Excerpt). it.state) reads.of.made_of))
-    (record { text = reads.text; held = reads.held; is = reads.of.is })
+state_read = search rules
 
 -- in contracts, the value of an excerpt that was read includes the whole state whose text the
 -- source held. If contracts can say which bytes the source held, no other state can be read from
 -- the source
 pub one_excerpt : (place : List ℕ) (day limit : ℕ) (left : Option (List ℕ)) (excerpt : Excerpt)
     → ReadsMade (IsExcerptAt place day) dks_2 limit left excerpt → (sent : State) → HoldsState dks_2 limit left sent → excerpt.state ≡ sent
-one_excerpt place day limit left excerpt reads sent holds =
-    one_read dks_2 limit left excerpt.state sent (state_read place day limit left excerpt reads) holds
+one_excerpt = search (rules, one_read, state_read)
 
 -- ---- reading from a text in memory
 
@@ -211,20 +180,13 @@ read_refused wants format limit IsMade left left_now result outcome fault is = s
 -- if the source's failure count is unchanged, reading a state hasn't ended with a failure of the
 -- source
 pub read_unfailed : {A : Type 0} (failures : ℕ) (result : Result A OfficeFault) → CountsOutcome why_unread failures failures result → result ≢ Err office.Source
-read_unfailed failures result counted is =
-    let more : failures ≡ failures + 1 = subst (CountsOutcome why_unread failures failures) is counted in absurd (omega arith)
+read_unfailed = search rules
 
 -- reading a state can end only with a value, a fault of the text, a failure of the source, or the
 -- fault `Memory`
 pub read_only : {A : Type 0} (wants : Wanting) (format : Format) (limit : ℕ) (IsMade : A → Type 0) (left left_now : BytesLeft) (result : Result A OfficeFault)
     → IsOutcome wants why_unread format limit IsMade left left_now result → IfErr result IsOfState
-read_only wants format limit IsMade left left_now (Ok made) outcome = tt
-read_only wants format limit IsMade left left_now (Err (office.State fault)) outcome = tt
-read_only wants format limit IsMade left left_now (Err office.Source) outcome = tt
-read_only wants format limit IsMade left left_now (Err office.Memory) outcome = tt
-read_only wants format limit IsMade left left_now (Err (office.File fault)) outcome = outcome
-read_only wants format limit IsMade left left_now (Err office.Lapsed) outcome = outcome
-read_only wants format limit IsMade left left_now (Err office.Sink) outcome = outcome
+read_only = search rules
 
 -- if taking a file has ended with a value, the promise `IsMade` about this value holds
 pub taken_ok : {A : Type 0} (limit : ℕ) (IsMade : Type 0) (left left_now : BytesLeft) (result : Result A OfficeFault)
@@ -246,10 +208,4 @@ taken_unfailed failures result counted is = let more : failures ≡ failures + 1
 -- fault `Memory`
 pub taken_only : {A : Type 0} (limit : ℕ) (IsMade : A → Type 0) (left left_now : BytesLeft) (result : Result A OfficeFault)
     → IsTakingOutcome limit IsMade left left_now result → IfErr result IsOfFile
-taken_only limit IsMade left left_now (Ok made) outcome = tt
-taken_only limit IsMade left left_now (Err (office.File fault)) outcome = tt
-taken_only limit IsMade left left_now (Err office.Source) outcome = tt
-taken_only limit IsMade left left_now (Err office.Memory) outcome = tt
-taken_only limit IsMade left left_now (Err (office.State fault)) outcome = outcome
-taken_only limit IsMade left left_now (Err office.Lapsed) outcome = outcome
-taken_only limit IsMade left left_now (Err office.Sink) outcome = outcome
+taken_only = search rules

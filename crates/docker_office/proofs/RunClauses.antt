@@ -1,5 +1,5 @@
 -- Properties of a run's result, for each event, each office and each message.
-use Rattle.std.proofs.Common.{◌≡◌, ℕ, zero, suc, ◌<◌, List, [], ◌∷◌, length, take, sym, ◌∙◌, arith}
+use Rattle.std.proofs.Common.{◌≡◌, ℕ, zero, suc, ◌<◌, List, [], ◌∷◌, length, take, sym, ◌∙◌, arith, rules}
 use Rattle.std.specs.Prelude.{fold}
 use Rattle.std.specs.List.{zip}
 use Rattle.docker_model.specs.state.StateText.{dks_2}
@@ -17,8 +17,7 @@ reply_there : (known : KnownSets) (events : List RunEvent) (replies : List Reply
 reply_there known [] replies are place low = absurd (omega arith)
 reply_there known (event ∷ events) [] are place low = absurd are
 reply_there known (event ∷ events) (reply ∷ replies) are zero low = are.0
-reply_there known (event ∷ events) (reply ∷ replies) are (suc place) low =
-    reply_there (after_reply known (event, reply)) events replies are.1 place (omega arith)
+reply_there known (event ∷ events) (reply ∷ replies) are (suc place) low = reply_there (after_reply known (event, reply)) _ replies are.1 _ (omega arith)
 
 module _ (offices : ℕ) (events : List RunEvent) (exchange : Exchange) (leaves : LeavesRun offices events exchange) where
   held : Holds dks_2 (sets_of offices events exchange) exchange.states exchange.messages
@@ -46,9 +45,7 @@ module _ (offices : ℕ) (events : List RunEvent) (exchange : Exchange) (leaves 
 
   -- each office's state is the summary of what the office knows
   pub each_state : (office : ℕ) → office < offices → HasSummary offices events exchange office
-  each_state office there =
-      office_is dks_2 (sets_of offices events exchange) exchange.states exchange.messages held office
-      (let same = offices_are offices events exchange.replies in omega arith)
+  each_state = search (rules, office_is, held, offices_are)
 
   -- each message is the text of a summary: the summary of what the sending office knew when it sent
   -- the message

@@ -1,10 +1,11 @@
 -- A run up to some event, and its extension by one more event.
-use Rattle.std.proofs.Common.{◌≡◌, ℕ, ◌≤◌, List, [], ◌∷◌, ◌++◌, length, map, take, sym, subst, All}
+use Rattle.std.proofs.Common.{◌≡◌, ℕ, ◌≤◌, List, [], ◌∷◌, ◌++◌, length, map, take, sym, subst, All, arith, rules}
+use Rattle.std.proofs.lemmas.Grind.{common_steps}
 use Rattle.std.proofs.lemmas.List.{map-append, take_all}
-use Rattle.std.proofs.lemmas.List.Elements.{All-nil, All-push}
+use Rattle.std.proofs.lemmas.List.Elements.{All-nil}
 use Rattle.docker_model.specs.state.StateText.{dks_2}
 use Rattle.docker_model.specs.state.Summary.{IsSummary}
-use Rattle.docker_model.specs.run.Run.{RunEvent, Exchange, AreReplies, none_known, known_sets, after_reply}
+use Rattle.docker_model.specs.run.Run.{RunEvent, Exchange, AreReplies, none_known, known_sets}
 use Rattle.docker_model.specs.run.Run as model
 use Rattle.docker_model.specs.run.Knowledge.{IsGoodEvent}
 use Rattle.docker_laws.specs.RunInvariant.{Holds}
@@ -32,9 +33,7 @@ pub run_at_first : (offices : ℕ) (held : Holdings) → length held.offices.ite
 run_at_first offices held many each none = record {
   told = All-nil IsRunReply;
   are = tt;
-  holds =
-      subst (λ kept. Holds dks_2 (none_known offices) held.offices.items (texts_of kept)) (sym none)
-      (holds_at_first dks_2 offices held.offices.items many each);
+  holds = subst (λ kept. Holds dks_2 (none_known offices) held.offices.items (texts_of kept)) (sym none) (holds_at_first _ _ _ many each);
   good = All-nil (IsGoodEvent dks_2);
 }
 
@@ -43,46 +42,11 @@ run_at_first offices held many each none = record {
 pub run_with_one_more : (offices : ℕ) (events : List RunEvent) (replies : List Reply) (held after : Holdings) (event : RunEvent) (reply : Reply)
     → HasRun offices events replies held → IsGoodEvent dks_2 event → ((known : model.KnownSets) → AreOf known held → MeetsEvent known event reply after)
     → HasRun offices (events ++ event ∷ []) (replies ++ reply ∷ []) after
-run_with_one_more offices events replies held after event reply run good meets =
-    by (meets (known_sets offices events (map reply_meant replies)) run.holds)
-  where
-    more : map reply_meant (replies ++ reply ∷ []) ≡ map reply_meant replies ++ reply_meant reply ∷ []
-    more = map-append reply_meant replies (reply ∷ [])
-
-    sets : known_sets offices (events ++ event ∷ []) (map reply_meant replies ++ reply_meant reply ∷ [])
-        ≡ after_reply (known_sets offices events (map reply_meant replies)) (event, reply_meant reply)
-    sets =
-        sets_more offices events (map reply_meant replies) event (reply_meant reply)
-        (replies_long (none_known offices) events (map reply_meant replies) run.are)
-
-    by : MeetsEvent (known_sets offices events (map reply_meant replies)) event reply after
-        → HasRun offices (events ++ event ∷ []) (replies ++ reply ∷ []) after
-    by met = record {
-      told = All-push IsRunReply replies reply run.told met.told;
-      are =
-          subst (AreReplies (none_known offices) (events ++ event ∷ [])) (sym more)
-          (replies_more offices events (map reply_meant replies) event (reply_meant reply) run.are met.may);
-      holds =
-          subst (λ answers. AreOf (known_sets offices (events ++ event ∷ []) answers) after) (sym more)
-          (subst (λ known. AreOf known after) (sym sets) met.holds);
-      good = All-push (IsGoodEvent dks_2) events event run.good good;
-    }
+run_with_one_more = grind (common_steps, arith, map-append, sets_more, replies_long, replies_more)
 
 -- after the last event, the run so far is a run of all events
 pub run_at_end : (offices : ℕ) (events : List Event) (index : ℕ) (replies : List Reply) (held : Holdings) (exchange : Exchange)
     → HasRun offices (events_meant (take index events)) replies held → length events ≤ index
     → exchange ≡ record { states = held.offices.items; messages = texts_of held.messages.items; replies = map reply_meant replies }
     → LeavesRun offices (events_meant events) exchange
-run_at_end offices events index replies held exchange some far same =
-    subst (LeavesRun offices (events_meant events)) (sym same)
-    (by (subst (λ es. HasRun offices (events_meant es) replies held) (take_all index events far) some))
-  where
-    by : HasRun offices (events_meant events) replies held
-        → LeavesRun offices (events_meant events)
-        (record { states = held.offices.items; messages = texts_of held.messages.items; replies = map reply_meant replies })
-    by run = record {
-      run =
-          holds_at_end dks_2 offices (events_meant events)
-          (record { states = held.offices.items; messages = texts_of held.messages.items; replies = map reply_meant replies }) run.are run.holds;
-      good = run.good;
-    }
+run_at_end = search (rules, take_all, holds_at_end)

@@ -22,8 +22,7 @@ pub returns-clause-ok : goal.returns-clause-ok
 returns-clause-ok c =
     let it = c.args.excerpt.now in
     let timetable = c.timetable.result in
-    IfOk-weaker c.docker_in.result _ _ (docker_of_state it.place it.day it.state timetable.state c.timetable.ensures.stands)
-    (subst (λ permanent. IfOk c.docker_in.result
+    IfOk-weaker c.docker_in.result _ _ (docker_of_state _ _ _ _ c.timetable.ensures.stands) (subst (λ permanent. IfOk c.docker_in.result
     (IsDockerOf (live_in (record { state = timetable.state; permanent = permanent })) it.place it.day)) c.timetable.ensures.all
     (subst (λ place. IfOk c.docker_in.result (IsDockerOf (live_in timetable) place it.day)) c.place.ensures
     (subst (λ day. IfOk c.docker_in.result (IsDockerOf (live_in timetable) c.place.result.now day)) c.day.ensures c.docker_in.ensures.ok)))

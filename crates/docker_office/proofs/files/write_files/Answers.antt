@@ -10,20 +10,13 @@ line_of-requires g c = minute_at c.args.items.now c.loop-item.item-index c.item-
 
 pub loop-item-preserved : goal.loop-item-preserved
 loop-item-preserved g c = record {
-  taken = line_taken c.args.items.now c.loop-item.item-index c.item-item.result c.line_of.result (g.K.Sink.taken c.args.sink.now)
-      (g.K.Sink.taken c.loop-item.sink) (g.K.Sink.taken c.write_all.new.sink) c.loop-item-test.true c.item-item.is c.line_of.ensures
-      c.loop-item.invariant.taken c.in_ok-write_all.ensures.whole;
+  taken = line_taken _ _ _ _ _ _ _ c.loop-item-test.true c.item-item.is c.line_of.ensures c.loop-item.invariant.taken c.in_ok-write_all.ensures.whole;
   no_failure = c.in_ok-write_all.ensures.no_failure ∙ c.loop-item.invariant.no_failure;
 }
 
 pub returns-clause-whole : goal.returns-clause-whole
-returns-clause-whole g c =
-    all_taken c.args.items.now c.loop-item.item-index (g.K.Sink.taken c.args.sink.now) (g.K.Sink.taken c.loop-item.sink) c.loop-item-test.false
-    c.loop-item.invariant.taken
+returns-clause-whole g c = all_taken _ _ _ _ c.loop-item-test.false c.loop-item.invariant.taken
 
 pub returns-in_err-write_all-clause-part : goal.returns-in_err-write_all-clause-part
-returns-in_err-write_all-clause-part g c =
-    on_err c.from_residual.result _
-    (line_begun c.args.items.now c.loop-item.item-index c.item-item.result c.line_of.result (g.K.Sink.taken c.args.sink.now)
-    (g.K.Sink.taken c.loop-item.sink) (g.K.Sink.taken c.write_all.new.sink) c.loop-item-test.true c.item-item.is c.line_of.ensures
+returns-in_err-write_all-clause-part g c = on_err _ _ (line_begun _ _ _ _ _ _ _ c.loop-item-test.true c.item-item.is c.line_of.ensures
     c.loop-item.invariant.taken c.in_err-write_all.ensures.part)

@@ -10,9 +10,8 @@ use Rattle.docker_office.proofs.runs.run.Goals as goal
 
 pub loop-event-init : goal.loop-event-init
 loop-event-init c = record {
-  run =
-      subst (λ replies. HasRun c.args.offices [] replies c.in_ok-held.held) (sym c.in_ok-replies.ensures.items)
-      (run_at_first c.args.offices c.in_ok-held.held c.in_ok-held.ensures.offices c.in_ok-held.ensures.each c.in_ok-held.ensures.messages);
+  run = subst (λ replies. HasRun c.args.offices [] replies c.in_ok-held.held) (sym c.in_ok-replies.ensures.items)
+      (run_at_first _ _ c.in_ok-held.ensures.offices c.in_ok-held.ensures.each c.in_ok-held.ensures.messages);
   many = c.in_ok-replies.ensures.len;
   room = c.in_ok-replies.ensures.capacity;
   few = let none = ap length c.in_ok-held.ensures.messages in omega arith;
@@ -28,15 +27,12 @@ meet-requires-clause-limit c =
 
 pub loop-event-preserved : goal.loop-event-preserved
 loop-event-preserved c = record {
-  run =
-      subst (λ events. HasRun c.args.offices events c.push_reserved.new.self.items c.meet.new.self)
+  run = subst (λ events. HasRun c.args.offices events c.push_reserved.new.self.items c.meet.new.self)
       (sym (map_more event_meant c.args.events.now c.loop-event.event-index c.event-item.result c.loop-event-test.true
       ∙ ap (λ e. events_meant (take c.loop-event.event-index c.args.events.now) ++ event_meant e ∷ []) (sym c.event-item.is)))
       (subst (λ replies. HasRun c.args.offices
       (events_meant (take c.loop-event.event-index c.args.events.now) ++ event_meant c.event-item.result ∷ []) replies c.meet.new.self)
-      (sym c.push_reserved.ensures.items)
-      (run_with_one_more c.args.offices (events_meant (take c.loop-event.event-index c.args.events.now)) c.loop-event.replies.items c.loop-event.held
-      c.meet.new.self (event_meant c.event-item.result) c.meet.result c.loop-event.invariant.run c.meet.ensures.good c.meet.ensures.met));
+      (sym c.push_reserved.ensures.items) (run_with_one_more _ _ _ _ _ _ _ c.loop-event.invariant.run c.meet.ensures.good c.meet.ensures.met));
   many = omega arith;
   room = omega arith;
   few = omega arith;
@@ -44,18 +40,13 @@ loop-event-preserved c = record {
 }
 
 pub returns-clause-run : goal.returns-clause-run
-returns-clause-run c =
-    run_at_end c.args.offices c.args.events.now c.loop-event.event-index c.loop-event.replies.items c.loop-event.held c.of.result c.loop-event.invariant.run
-    c.loop-event-test.false c.of.ensures
+returns-clause-run c = run_at_end _ _ _ _ _ _ c.loop-event.invariant.run c.loop-event-test.false c.of.ensures
 
 pub returns-clause-one_each : goal.returns-clause-one_each
-returns-clause-one_each c =
-    one_each c.args.offices (events_meant c.args.events.now) c.of.result (returns-clause-run c) ∙ length-map c.args.events.now event_meant
+returns-clause-one_each c = one_each _ _ _ (returns-clause-run c) ∙ length-map c.args.events.now event_meant
 
 pub returns-clause-reply : goal.returns-clause-reply
-returns-clause-reply c =
-    λ place low.
-    each_reply c.args.offices (events_meant c.args.events.now) c.of.result (returns-clause-run c) place
+returns-clause-reply c = λ place low. each_reply _ _ _ (returns-clause-run c) _
     (let same = length-map c.args.events.now event_meant in omega arith)
 
 pub returns-clause-sent : goal.returns-clause-sent

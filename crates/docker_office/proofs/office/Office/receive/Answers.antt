@@ -17,8 +17,7 @@ returns-clause-reads g c =
     }
 
 pub returns-clause-summary : goal.returns-clause-summary
-returns-clause-summary g c = λ done.
-    joins_summaries c.args.limit (g.S.Source.left c.args.source.now) c.args.self.now c.join_state.new.state
+returns-clause-summary g c = λ done. joins_summaries _ _ _ _
     (subst (λ (own : State). JoinsState dks_2 c.args.limit (g.S.Source.left c.args.source.now) own c.join_state.new.state) c.self.view_is
     c.in_ok-join_state.ensures.reads.outcome)
 

@@ -8,9 +8,7 @@ pub returns-clause-reads : goal.returns-clause-reads
 returns-clause-reads g c = c.in_ok-self-inside.ensures.reads
 
 pub returns-clause-sent : goal.returns-clause-sent
-returns-clause-sent g c = λ done sent holds.
-    one_raised dks_2 c.args.limit (g.S.Source.left c.args.source.now) c.args.day c.in_ok-self-inside.field-0 sent
-    c.in_ok-self-inside.ensures.reads.outcome holds
+returns-clause-sent g c = λ done sent holds. one_raised _ _ _ _ _ _ c.in_ok-self-inside.ensures.reads.outcome holds
 
 pub returns-in_err-self-inside-clause-reads : goal.returns-in_err-self-inside-clause-reads
 returns-in_err-self-inside-clause-reads g c =

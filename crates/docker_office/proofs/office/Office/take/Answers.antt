@@ -23,15 +23,10 @@ returns-in_default-clause-takes g c = record {
 pub returns-clause-takes : goal.returns-clause-takes
 returns-clause-takes g c =
     let left = g.S.Source.left c.args.source.now in
-    taken_whole c.args.limit (λ _. TakesFile c.args.limit left c.args.self.now c.join.new.self) left (g.S.Source.left c.read_file.new.source)
-    (g.S.Source.failures c.args.source.now) (g.S.Source.failures c.read_file.new.source) c.in_ok-file.file c.join.result c.in_ok-file.ensures.reads
-    (λ _ is. takes_file c.args.limit left c.in_ok-file.file c.args.self.now c.in-Ok.taken c.join.new.self c.in_ok-file.ensures.reads.outcome.0
-    c.in-Ok.ensures.ok (c.join.ensures.ok (subst IsOk (sym is) refl)))
-    c.join.ensures.only
+    taken_whole _ _ _ _ _ _ _ _ c.in_ok-file.ensures.reads (λ _ is. takes_file _ _ _ _ _ _ c.in_ok-file.ensures.reads.outcome.0
+    c.in-Ok.ensures.ok (c.join.ensures.ok (subst IsOk (sym is) refl))) c.join.ensures.only
 
 pub returns-clause-summary : goal.returns-clause-summary
 returns-clause-summary g c = λ done files horizon is.
     let left = g.S.Source.left c.args.source.now in
-    knows_file_too c.args.limit left c.args.self.now c.join.new.self files horizon
-    (takes_file c.args.limit left c.in_ok-file.file c.args.self.now c.in-Ok.taken c.join.new.self c.in_ok-file.ensures.reads.outcome.0 c.in-Ok.ensures.ok
-    (c.join.ensures.ok done)) is
+    knows_file_too _ _ _ _ _ _ (takes_file _ _ _ _ _ _ c.in_ok-file.ensures.reads.outcome.0 c.in-Ok.ensures.ok (c.join.ensures.ok done)) is

@@ -14,16 +14,13 @@ returns-clause-reads g c =
     }
 
 pub returns-clause-sent : goal.returns-clause-sent
-returns-clause-sent g c =
-    one_excerpt c.args.place c.args.day c.args.limit (g.S.Source.left c.args.source.now) c.in_ok-excerpt.excerpt c.in_ok-excerpt.ensures.reads.outcome
+returns-clause-sent g c = one_excerpt _ _ _ _ _ c.in_ok-excerpt.ensures.reads.outcome
 
 pub returns-clause-place : goal.returns-clause-place
-returns-clause-place g c =
-    place_read c.args.place c.args.day c.args.limit (g.S.Source.left c.args.source.now) c.in_ok-excerpt.excerpt c.in_ok-excerpt.ensures.reads.outcome
+returns-clause-place g c = place_read _ _ _ _ _ c.in_ok-excerpt.ensures.reads.outcome
 
 pub returns-clause-day : goal.returns-clause-day
-returns-clause-day g c =
-    day_read c.args.place c.args.day c.args.limit (g.S.Source.left c.args.source.now) c.in_ok-excerpt.excerpt c.in_ok-excerpt.ensures.reads.outcome
+returns-clause-day g c = day_read _ _ _ _ _ c.in_ok-excerpt.ensures.reads.outcome
 
 pub returns-in_err-excerpt-clause-reads : goal.returns-in_err-excerpt-clause-reads
 returns-in_err-excerpt-clause-reads g c =

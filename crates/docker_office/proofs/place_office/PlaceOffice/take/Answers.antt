@@ -32,8 +32,7 @@ pub returns-in-Ok-clause-takes : goal.returns-in-Ok-clause-takes
 returns-in-Ok-clause-takes g c = record {
   no_further = c.in_ok-file.ensures.reads.no_further;
   outcome = (
-    takes_whole c.args.limit (g.S.Source.left c.args.source.now) c.in_ok-file.file.file c.in-Ok.excerpt.state c.in_ok-file.ensures.reads.outcome.0.reads
-        c.requires.limit c.in-Ok.ensures.state,
+    takes_whole _ _ _ _ c.in_ok-file.ensures.reads.outcome.0.reads c.requires.limit c.in-Ok.ensures.state,
     c.in_ok-file.ensures.reads.outcome.1,
   );
   failures = c.in_ok-file.ensures.reads.failures;

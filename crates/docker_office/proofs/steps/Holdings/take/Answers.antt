@@ -5,8 +5,7 @@ use Rattle.docker_office.proofs.MetEvents.{take_without_office, take_met}
 use Rattle.docker_office.proofs.steps.Holdings.take.Goals as goal
 
 pub returns-then-office-len-clause-met : goal.returns-then-office-len-clause-met
-returns-then-office-len-clause-met c =
-    λ known holds. take_without_office known c.args.self.now holds c.args.office c.args.text.now c.args.limit (omega arith)
+returns-then-office-len-clause-met c = λ known holds. take_without_office _ _ holds _ _ _ (omega arith)
 
 pub returns-clause-met : goal.returns-clause-met
 returns-clause-met c =
