@@ -1,10 +1,9 @@
 -- The entry of a live schedule, and the stamp of that entry.
-use Rattle.std.proofs.Common.{◌≡◌, ◌<◌, ap, sym, ◌∙◌, subst, Some, None}
-use Rattle.std.specs.Prelude.{option_and_then}
+use Rattle.std.proofs.Common.{◌≡◌, ◌<◌, subst, Some, None, rules}
 use Rattle.std.proofs.lemmas.List.Elements.{All-contains}
-use Rattle.docker_model.specs.file.Change.{Key, Body, schedule_key, schedule_body}
+use Rattle.docker_model.specs.file.Change.{Key, Body, schedule_key}
 use Rattle.docker_model.specs.state.Stamp.{LedgerItem, FileStamp}
-use Rattle.docker_model.specs.state.Op.{Op, deleted, lapsed, put_with, Entry, body_of}
+use Rattle.docker_model.specs.state.Op.{Op, put_with, Entry, body_of}
 use Rattle.docker_model.specs.state.State.{State, IsValid, IsGoodItem, IsGoodEntry, entry_at, live_table}
 use Rattle.docker_model.specs.docker.Choice.{Train}
 use Rattle.cif_laws.proofs.lists.BoolsAndOptions.{none_some}
@@ -15,23 +14,17 @@ use Rattle.docker_model.specs.lists.TrainText.{IsStampOf}
 
 -- an op with a body is the op `put_with` of this body
 put_of : (op : Op) (body : Body) → body_of op ≡ Some body → op ≡ put_with body
-put_of deleted body is = none_some body is
-put_of lapsed body is = none_some body is
-put_of (put_with own) body is = cc
+put_of = search (rules, none_some)
 
 -- the entry at a live schedule's key has the schedule's lines, so the entry's stamp is the
 -- schedule's stamp
 pub stamp_is : (state : State) (train : Train) (entry : Entry) → IsLiveTrain (live_table state) train
     → Some entry ≡ entry_at state (schedule_key train.key) → IsStampOf state train entry.stamp
-stamp_is state train entry live at = sym at ∙ (λ i. Some (record { stamp = entry.stamp; op = put i }))
-  where
-    put : entry.op ≡ put_with (schedule_body train.lines)
-    put = put_of entry.op (schedule_body train.lines) (ap (option_and_then (λ (e : Entry). body_of e.op)) at ∙ live)
+stamp_is = search (rules, put_of)
 
 -- a live schedule has an entry in the state
 pub entry_there : (state : State) (train : Train) → IsLiveTrain (live_table state) train → None ≡ entry_at state (schedule_key train.key) → ⊥
-entry_there state train live at =
-    none_some (schedule_body train.lines) (ap (option_and_then (λ (e : Entry). body_of e.op)) at ∙ live)
+entry_there = search (rules, none_some)
 
 -- the minute in an entry's stamp is below 1440, the number of minutes in a day
 pub minute_of_day : (state : State) (key : Key) (entry : Entry) → IsValid state → entry_at state key ≡ Some entry → entry.stamp.file.moment.minute < 1440

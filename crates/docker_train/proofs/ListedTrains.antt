@@ -1,6 +1,6 @@
 -- The list of the trains that have an identity and start on a day is written row by row. It is
 -- unique, and the same for a table before and after its rows lapse.
-use Rattle.std.proofs.Common.{◌≡◌, ℕ, ◌≤◌, List, [], ◌∷◌, ◌++◌, Bool, true, false, cond, Contains, refl, ap, sym, ◌∙◌, subst, Some, None}
+use Rattle.std.proofs.Common.{◌≡◌, ℕ, ◌≤◌, List, [], ◌∷◌, ◌++◌, Bool, true, false, cond, Contains, refl, ap, sym, ◌∙◌, subst, Some, None, rules}
 use Rattle.std.specs.Prelude.{Option, filter, max, ◌&&◌, ◌↔◌}
 use Rattle.std.specs.List.{cons_option, flat_map}
 use Rattle.std.specs.declared.cmp.Ordering.{Ordering}
@@ -11,8 +11,7 @@ use Rattle.std.specs.Cmp.Lexicographic.{nat_list_cmp_total}
 use Rattle.std.proofs.Math.Nat.{le-max_left, le-max_right}
 use Rattle.std.proofs.lemmas.Map.Lookups.{exact_bytes}
 use Rattle.docker_model.specs.records.Date.{IsDay, no_end_number}
-use Rattle.docker_model.specs.file.File.{first_record}
-use Rattle.docker_model.specs.file.Change.{Key, tiploc_key, association_key, schedule_key, Body, tiploc_body, association_body, schedule_body}
+use Rattle.docker_model.specs.file.Change.{Key, schedule_key, Body, schedule_body}
 use Rattle.docker_model.specs.run.Knowledge.{HaveSameFiles}
 use Rattle.docker_model.specs.state.Lapse.{lapse_table}
 use Rattle.docker_model.specs.state.Op.{key_cmp, schedule_key_cmp}
@@ -21,7 +20,7 @@ use Rattle.docker_model.specs.state.Row.{Row, AreRowsOf}
 use Rattle.docker_model.specs.state.State.{State, lapse_state, live_table}
 use Rattle.docker_model.specs.state.Summary.{IsSummary}
 use Rattle.docker_model.specs.state.Table.{Table, IsPlainTable}
-use Rattle.docker_model.specs.docker.Choice.{Train, TrainRuns, schedule_runs}
+use Rattle.docker_model.specs.docker.Choice.{Train, TrainRuns}
 use Rattle.docker_model.specs.docker.DockerText.{ended}
 use Rattle.cif_laws.proofs.lists.BoolsAndOptions.{both, none_some}
 use Rattle.cif_laws.proofs.lists.FilteredMembers.{filter_back, filter_forth, part_back, part_forth}
@@ -40,21 +39,12 @@ use Rattle.docker_laws.proofs.dockers.LapsedChoice.{train_iff}
 use Rattle.docker_laws.proofs.dockers.OneChoice.{one_schedule, one_train}
 use Rattle.docker_laws.proofs.dockers.PrintedDocker.{day_bound}
 use Rattle.docker_laws.proofs.dockers.TrainOfRows.{one_train_answer, trains_tell}
-use Rattle.docker_model.specs.lists.TrainsText.{AreListed, IsListed, IsTrainsText, is_identified, train_columns, trains_text}
+use Rattle.docker_model.specs.lists.TrainsText.{AreListed, IsListed, IsTrainsText, train_columns, trains_text}
 use Rattle.docker_train.specs.TrainRows.{is_listed, row_line, schedule_line}
 
 -- if a row has a schedule, the row's key and body are the key and body of this schedule
 row_is : (key : Key) (body : Body) (train : Train) → schedule_of key body ≡ Some train → (key ≡ schedule_key train.key) × (body ≡ schedule_body train.lines)
-row_is (schedule_key key) (schedule_body lines) train is =
-    let same : record { key = key; lines = lines } ≡ train = some_is (record { key = key; lines = lines }) train is in
-    (ap (λ (t : Train). schedule_key t.key) same, ap (λ (t : Train). schedule_body t.lines) same)
-  where
-    some_is : (a b : Train) → Some a ≡ Some b → a ≡ b
-    some_is a b h = cc
-row_is (schedule_key key) (tiploc_body bytes) train is = none_some train is
-row_is (schedule_key key) (association_body line) train is = none_some train is
-row_is (tiploc_key code) body train is = none_some train is
-row_is (association_key key) body train is = none_some train is
+row_is = search (rules, none_some)
 
 -- ---- the lines of a walk
 
@@ -118,10 +108,7 @@ module _ (live : Table) (rows : List Row) (are : AreRowsOf live rows) (identity 
   -- live schedule
   runs_back : (train : Train) → live (schedule_key train.key) ≡ Some (schedule_body train.lines) → (found : Option Train)
       → IsTrainOn live train.key.uid day found → runs_by found train.key ≡ true → TrainRuns live train.key.uid day train.key train.lines
-  runs_back train here None on by = absurd (none_runs by)
-    where
-      none_runs : false ≡ true → ⊥
-      none_runs bad = cc
+  runs_back train here None on by = cc
   runs_back train here (Some other) on by =
       let keys = exact_schedule_key other.key train.key (eq_is (schedule_key_cmp other.key train.key) by) in
       let lines = one_schedule live other.key train.key other.lines train.lines keys on.chosen.running.is_live here in
@@ -129,25 +116,21 @@ module _ (live : Table) (rows : List Row) (are : AreRowsOf live rows) (identity 
 
   listed_back : (train : Train) → Contains (listed_in rows identity day rows) train → IsListed live identity day train
   listed_back train among =
-      let passed = filter_back (is_listed rows identity day) (schedules_in rows) train among in
-      let outer = both (schedule_runs (first_record train.lines) day && is_identified identity train.lines)
-      (runs_by (train_in rows train.key.uid day) train.key) passed.1 in
-      let inner = both (schedule_runs (first_record train.lines) day) (is_identified identity train.lines) outer.0 in
+      let passed = filter_back _ _ _ among in
+      let outer = both _ _ passed.1 in
+      let inner = both _ _ outer.0 in
       record {
-        runs = runs_back train (is_live train passed.0) (train_in rows train.key.uid day) (trains_tell live rows are train.key.uid day) outer.1;
+        runs = runs_back _ (is_live _ passed.0) _ (trains_tell _ _ are train.key.uid day) outer.1;
         identified = inner.1;
       }
 
   listed_forth : (train : Train) → IsListed live identity day train → Contains (listed_in rows identity day rows) train
-  listed_forth train is =
-      filter_forth (is_listed rows identity day) (schedules_in rows) train
-      (part_forth (λ (row : Row). schedule_of row.0 row.1) rows (schedule_key train.key, schedule_body train.lines) train
+  listed_forth train is = filter_forth _ _ _ (part_forth _ _ _ _
       ((are.members (schedule_key train.key) (schedule_body train.lines)).1 is.runs.chosen.running.is_live) refl)
       (λ i. is.runs.chosen.running.runs_then i && is.identified i && runs_is i)
     where
       train_is : train_in rows train.key.uid day ≡ Some train
-      train_is =
-          one_train_answer live train.key.uid day (train_in rows train.key.uid day) (Some train) (trains_tell live rows are train.key.uid day) is.runs
+      train_is = one_train_answer _ _ _ _ _ (trains_tell _ _ are train.key.uid day) is.runs
 
       runs_is : runs_by (train_in rows train.key.uid day) train.key ≡ true
       runs_is = ap (λ (o : Option Train). runs_by o train.key) train_is ∙ (λ i. is_eq (tied_itself schedule_key_total train.key i))
@@ -161,8 +144,7 @@ module _ (live : Table) (rows : List Row) (are : AreRowsOf live rows) (identity 
 
       never : a.key.uid ≡ b.key.uid → ⊥
       never uids =
-          let same = one_train live a.key.uid day a.key b.key a.lines b.lines one.runs
-          (subst (λ (uid : List ℕ). TrainRuns live uid day b.key b.lines) (sym uids) two.runs) in
+          let same = one_train _ _ _ _ _ _ _ one.runs (subst (λ (uid : List ℕ). TrainRuns live uid day b.key b.lines) (sym uids) two.runs) in
           let tied : schedule_key_cmp a.key b.key ≡ Equal = ap (schedule_key_cmp a.key) (sym same.0) ∙ tied_itself schedule_key_total a.key in
           equal_less (sym tied ∙ below)
         where
@@ -177,22 +159,14 @@ module _ (live : Table) (rows : List Row) (are : AreRowsOf live rows) (identity 
   -- the listed schedules of all live rows belong to the trains of the list
   pub are_listed : AreListed live identity day (listed_in rows identity day rows)
   are_listed = record {
-    ascending = ascending_of (on (λ (train : Train). train.key.uid) bytes_cmp) (listed_in rows identity day rows)
-        (later_weaker IsKeyBelow (IsBelow (on (λ (train : Train). train.key.uid) bytes_cmp)) (listed_in rows identity day rows)
-        (λ a b in_a in_b. uid_below a b (listed_back a in_a) (listed_back b in_b))
-        (later_filter IsKeyBelow (is_listed rows identity day) (schedules_in rows) (keys_ascend rows (later_of row_cmp rows are.ascending))));
-    members = λ train. (listed_back train, listed_forth train);
+    ascending = ascending_of _ _ (later_weaker _ _ _ (λ a b in_a in_b. uid_below _ _ (listed_back _ in_a) (listed_back _ in_b))
+        (later_filter _ _ _ (keys_ascend _ (later_of _ _ are.ascending))));
+    members = λ train. (listed_back _, listed_forth _);
   }
 
   -- the lines of all live rows are the list of the trains
   pub is_trains_text : IsTrainsText live identity day (flat_map (row_line rows identity day) rows)
-  is_trains_text = record {
-    trains = listed_in rows identity day rows;
-    are = are_listed;
-    text_is = lines_are rows identity day rows;
-  }
-
--- ---- one list
+  is_trains_text = search (rules, are_listed, lines_are)
 
 uid_total : IsTotalOrder (on (λ (train : Train). train.key.uid) bytes_cmp)
 uid_total = on_total (λ (train : Train). train.key.uid) nat_list_cmp_total
@@ -200,11 +174,8 @@ uid_total = on_total (λ (train : Train). train.key.uid) nat_list_cmp_total
 -- a table has at most one list of the trains that have an identity and start on a day
 pub one_list : (live : Table) (identity : List ℕ) (day : ℕ) (text other : List ℕ) → IsTrainsText live identity day text
     → IsTrainsText live identity day other → text ≡ other
-one_list live identity day text other one two =
-    one.text_is
-    ∙ ap (trains_text day)
-    (same_list uid_total one.trains two.trains one.are.ascending two.are.ascending
-    (λ train. (
+one_list live identity day text other one two = one.text_is
+    ∙ ap (trains_text day) (same_list uid_total _ _ one.are.ascending two.are.ascending (λ train. (
       λ among. (two.are.members train).1 ((one.are.members train).0 among),
       λ among. (one.are.members train).1 ((two.are.members train).0 among),
     )))
@@ -228,8 +199,8 @@ module _ (horizon : ℕ) (bound : horizon ≤ no_end_number) (live : Table) (ide
       are = record {
         ascending = is.are.ascending;
         members = λ train. (
-          λ among. (listed_iff train).0 ((is.are.members train).0 among),
-          λ listed. (is.are.members train).1 ((listed_iff train).1 listed),
+          λ among. (listed_iff _).0 ((is.are.members train).0 among),
+          λ listed. (is.are.members train).1 ((listed_iff _).1 listed),
         );
       };
       text_is = is.text_is;
@@ -239,8 +210,8 @@ module _ (horizon : ℕ) (bound : horizon ≤ no_end_number) (live : Table) (ide
       are = record {
         ascending = is.are.ascending;
         members = λ train. (
-          λ among. (listed_iff train).1 ((is.are.members train).0 among),
-          λ listed. (is.are.members train).1 ((listed_iff train).0 listed),
+          λ among. (listed_iff _).1 ((is.are.members train).0 among),
+          λ listed. (is.are.members train).1 ((listed_iff _).0 listed),
         );
       };
       text_is = is.text_is;
@@ -252,15 +223,13 @@ module _ (horizon : ℕ) (bound : horizon ≤ no_end_number) (live : Table) (ide
 pub list_is_plain : (files : List (List (List ℕ))) (horizon : ℕ) (state : State) (table : Table) (identity : List ℕ) (day : ℕ) (text : List ℕ)
     → IsSummary files horizon state → IsPlainTable files table → IsDay horizon → horizon ≤ day
     → IsTrainsText (live_table state) identity day text → IsTrainsText table identity day text
-list_is_plain files horizon state table identity day text is plain is_day from told =
-    (list_lapsed horizon (day_bound horizon is_day) table identity day from text).1
-    (subst (λ (live : Table). IsTrainsText live identity day text) (live_is_lapsed_plain files horizon state table is plain) told)
+list_is_plain files horizon state table identity day text is plain is_day from told = (list_lapsed _ (day_bound _ is_day) table identity day from text).1
+    (subst (λ (live : Table). IsTrainsText live identity day text) (live_is_lapsed_plain _ _ _ _ is plain) told)
 
 list_stays : (horizon : ℕ) (state : State) (identity : List ℕ) (day : ℕ) (text : List ℕ) → IsDay horizon → horizon ≤ day
     → IsTrainsText (live_table state) identity day text → IsTrainsText (live_table (lapse_state horizon state)) identity day text
-list_stays horizon state identity day text is_day from told =
-    subst (λ (live : Table). IsTrainsText live identity day text) (sym (live_lapsed horizon state))
-    ((list_lapsed horizon (day_bound horizon is_day) (live_table state) identity day from text).0 told)
+list_stays horizon state identity day text is_day from told = subst (λ (live : Table). IsTrainsText live identity day text) (sym (live_lapsed _ state))
+    ((list_lapsed _ (day_bound horizon is_day) (live_table state) identity day from text).0 told)
 
 -- two summaries of the same files have the same list of trains for each day that isn't before
 -- either horizon

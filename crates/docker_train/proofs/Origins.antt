@@ -1,16 +1,17 @@
 -- The schedule found for a UID and a day is unique. The schedule came from one of the state's
 -- files. Each train on a docker's lines, or on a list of trains, runs according to the schedule
 -- found for it.
-use Rattle.std.proofs.Common.{◌≡◌, ℕ, ◌+◌, ◌<◌, ◌≤◌, List, Bool, true, false, cond, refl, ap, sym, ◌∙◌, subst, inl, inr, ◌⊎◌, Some, None, Contains, arith}
-use Rattle.std.specs.Prelude.{Option, option_map, IsTrue, ◌&&◌, nat_le, nat_lt}
+use Rattle.std.proofs.Common.{◌≡◌, ℕ, ◌+◌, ◌≤◌, List, ap, sym, ◌∙◌, subst, Some, None, Contains}
+use Rattle.std.proofs.Common.{rules}
+use Rattle.std.specs.Prelude.{Option, option_map, IsTrue}
 use Rattle.std.proofs.lemmas.Bool.{cases_lt, leb-true}
 use Rattle.docker_model.specs.records.Record.{columns}
-use Rattle.docker_model.specs.records.Date.{IsDay, date_number, end_number, is_end_date, no_end_number, runs_on_weekday, weekday_of}
+use Rattle.docker_model.specs.records.Date.{IsDay, end_number, no_end_number}
 use Rattle.docker_model.specs.file.File.{first_record}
-use Rattle.docker_model.specs.file.Change.{Body, Act, Change, ScheduleKey, changes, schedule_key, schedule_body, delete, put}
+use Rattle.docker_model.specs.file.Change.{Body, Act, Change, ScheduleKey, changes, schedule_key, schedule_body, put}
 use Rattle.docker_model.specs.state.Stamp.{Stamp, file_stamp_of}
-use Rattle.docker_model.specs.state.Op.{Op, deleted, lapsed, put_with, Entry, op_of, body_end, readable_end}
-use Rattle.docker_model.specs.state.State.{State, IsValid, entry_at, live_table}
+use Rattle.docker_model.specs.state.Op.{Op, put_with, Entry, op_of, readable_end}
+use Rattle.docker_model.specs.state.State.{State, IsValid, live_table}
 use Rattle.docker_model.specs.state.Lapse.{IsDayRefused, lapse, lapse_entry, lapse_table}
 use Rattle.docker_model.specs.state.Table.{Table, IsPlainTable}
 use Rattle.docker_model.specs.state.Summary.{IsSummary, IsGreatestEntryOf}
@@ -28,7 +29,7 @@ use Rattle.docker_laws.proofs.dockers.PrintedDocker.{day_bound}
 use Rattle.state_laws.proofs.states.GoodBodies.{good_bodies}
 use Rattle.docker_laws.proofs.dockers.NearStarts.{event_near, association_near}
 use Rattle.train_choice.specs.Along.{IsLiveTrain}
-use Rattle.docker_model.specs.lists.TrainText.{Stamped, IsFoundFor, IsStampOf, IsTrainText, train_text}
+use Rattle.docker_model.specs.lists.TrainText.{Stamped, IsFoundFor, IsStampOf, IsTrainText}
 use Rattle.docker_train.specs.Origin.{CameFrom, IsFoundToRun, change_of}
 use Rattle.docker_model.specs.lists.TrainsText.{IsListed}
 use Rattle.docker_train.proofs.Found.{stamp_is, entry_there}
@@ -41,41 +42,26 @@ stamp_in other (Some entry) = entry.stamp
 
 one_stamp : (state : State) (train other : Train) (stamp its : Stamp) → train ≡ other → IsStampOf state train stamp → IsStampOf state other its → stamp ≡ its
 unfolding stamp_in
-one_stamp state train other stamp its same one two =
-    ap (stamp_in stamp) (sym (subst (λ (t : Train). IsStampOf state t stamp) same one) ∙ two)
+one_stamp = search (rules, stamp_in)
 
 some_same : {A : Type 0} (a b : A) → Some a ≡ Some b → a ≡ b
 some_same a b h = cc
 
 -- in a state, at most one schedule with its stamp is found for a UID and a day
 pub one_found : (state : State) (uid : List ℕ) (day : ℕ) (a b : Option Stamped) → IsFoundFor state uid day a → IsFoundFor state uid day b → a ≡ b
-one_found state uid day None None one two = refl
-one_found state uid day None (Some b) one (two, stamp) = absurd (one b.schedule.key b.schedule.lines two.running)
-one_found state uid day (Some a) None (one, stamp) two = absurd (two a.schedule.key a.schedule.lines one.running)
-one_found state uid day (Some a) (Some b) (one, stamp) (two, its) =
-    let same = some_same a.schedule b.schedule (one_answer (live_table state) uid day (Some a.schedule) (Some b.schedule) one two) in
-    let stamps = one_stamp state a.schedule b.schedule a.stamp b.stamp same stamp its in
-    λ i. Some (record { schedule = same i; stamp = stamps i })
+one_found = search (rules, some_same, one_answer, one_stamp)
 
 -- a state has at most one train text for a UID and a day
 pub one_text : (state : State) (uid : List ℕ) (day : ℕ) (text other : List ℕ) → IsTrainText state uid day text → IsTrainText state uid day other → text ≡ other
-one_text state uid day text other (found, is, text_is) (second, its, other_is) =
-    text_is ∙ ap (train_text uid day) (one_found state uid day found second is its) ∙ sym other_is
+one_text = search (rules, one_found)
 
 -- ---- the extract that a schedule came from
 
 put_under : (horizon : ℕ) (op : Op) (body : Body) → lapse horizon op ≡ put_with body → op ≡ put_with body
-put_under horizon deleted body is = cc
-put_under horizon lapsed body is = cc
-put_under horizon (put_with own) body is = by (nat_lt (body_end own) horizon) is
-  where
-    by : (b : Bool) → cond b lapsed (put_with own) ≡ put_with body → put_with own ≡ put_with body
-    by true h = cc
-    by false h = h
+put_under = search rules
 
 act_of_put : (act : Act) (body : Body) → op_of act ≡ put_with body → act ≡ put body
-act_of_put delete body is = cc
-act_of_put (put own) body is = cc
+act_of_put = search rules
 
 -- a schedule that is found in the summary of a set of files came from one of these files
 pub came_from : (files : List (List (List ℕ))) (horizon : ℕ) (state : State) (uid : List ℕ) (day : ℕ) (found : Stamped) → IsSummary files horizon state
@@ -83,7 +69,7 @@ pub came_from : (files : List (List (List ℕ))) (horizon : ℕ) (state : State)
 came_from files horizon state uid day found is (chosen, at) =
     let key = schedule_key found.schedule.key in
     let entry : Entry = record { stamp = found.stamp; op = put_with (schedule_body found.schedule.lines) } in
-    let made = (is.entries key entry).0 ((entry_at_iff state is.entries_ascend key entry).0 at) in
+    let made = (is.entries key entry).0 ((entry_at_iff state is.entries_ascend _ entry).0 at) in
     by made.0 made.1 made.2
   where
     by : (greatest : Entry) → IsGreatestEntryOf files is.floor (schedule_key found.schedule.key) greatest
@@ -99,10 +85,8 @@ came_from files horizon state uid day found is (chosen, at) =
         stamps = ap (λ (e : Entry). e.stamp) made.is.entry_is ∙ ap (λ (e : Entry). e.stamp) lapses
 
         act_is : made.is.change.act ≡ put (schedule_body found.schedule.lines)
-        act_is =
-            act_of_put made.is.change.act (schedule_body found.schedule.lines)
-            (ap (λ (e : Entry). e.op) made.is.entry_is
-            ∙ put_under horizon greatest.op (schedule_body found.schedule.lines) (ap (λ (e : Entry). e.op) lapses))
+        act_is = act_of_put _ (schedule_body found.schedule.lines) (ap (λ (e : Entry). e.op) made.is.entry_is
+            ∙ put_under _ greatest.op _ (ap (λ (e : Entry). e.op) lapses))
 
         change_is : made.is.change ≡ change_of found
         change_is = λ i. record { number = (stamps i).number; key = made.is.key_is i; act = act_is i }
@@ -110,16 +94,10 @@ came_from files horizon state uid day found is (chosen, at) =
 -- ---- the plain table
 
 within_end : (first last days : List ℕ) (day : ℕ) → IsTrue (runs_within first last days day) → day ≤ end_number last
-within_end first last days day runs =
-    let dates = (both (nat_le (date_number first) day && nat_le day (end_number last)) (runs_on_weekday days (weekday_of day)) runs).0 in
-    leb-true day (end_number last) (both (nat_le (date_number first) day) (nat_le day (end_number last)) dates).1
+within_end = search (rules, both, leb-true)
 
 end_reached : (horizon day : ℕ) (last : List ℕ) → horizon ≤ no_end_number → horizon ≤ day → day ≤ end_number last → horizon ≤ readable_end last
-end_reached horizon day last bound from to = by (is_end_date last)
-  where
-    by : (b : Bool) → horizon ≤ cond b (end_number last) no_end_number
-    by true = omega arith
-    by false = bound
+end_reached = search rules
 
 still_runs : (horizon : ℕ) (table : Table) (uid : List ℕ) (day : ℕ) (key : ScheduleKey) (lines : List (List ℕ)) → horizon ≤ no_end_number → horizon ≤ day
     → IsRunning table uid day key lines → IsRunning (lapse_table horizon table) uid day key lines
@@ -140,8 +118,7 @@ chosen_unlapsed horizon table uid day (Some train) bound from is = (chosen_iff h
 
 schedules_are : (state : State) (uid : List ℕ) (day : ℕ) (found : Option Stamped) → IsFoundFor state uid day found
     → IsChosenOn (live_table state) uid day (option_map (λ (it : Stamped). it.schedule) found)
-schedules_are state uid day None is = is
-schedules_are state uid day (Some found) (is, stamp) = is
+schedules_are = search rules
 
 -- on a day that isn't before the horizon, the schedule found in the summary of a set of files is
 -- the schedule chosen from the files' plain table
@@ -150,26 +127,16 @@ pub found_is_plain : (files : List (List (List ℕ))) (horizon : ℕ) (state : S
     → IsChosenOn table uid day (option_map (λ (it : Stamped). it.schedule) found)
 found_is_plain files horizon state table uid day found is plain is_day from found_is =
     let there = option_map (λ (it : Stamped). it.schedule) found in
-    chosen_unlapsed horizon table uid day there (day_bound horizon is_day) from
-    (subst (λ (live : Table). IsChosenOn live uid day there) (live_is_lapsed_plain files horizon state table is plain)
-    (schedules_are state uid day found found_is))
+    chosen_unlapsed horizon _ uid _ there (day_bound _ is_day) from
+    (subst (λ (live : Table). IsChosenOn live uid day there) (live_is_lapsed_plain files _ state _ is plain) (schedules_are state _ day _ found_is))
 
 -- ---- the trains of a docker or a list
 
 live_has_stamp : (state : State) (train : Train) → IsLiveTrain (live_table state) train → (stamp : Stamp) × IsStampOf state train stamp
-live_has_stamp state train live = by (entry_at state (schedule_key train.key)) refl
-  where
-    by : (at : Option Entry) → entry_at state (schedule_key train.key) ≡ at → (stamp : Stamp) × IsStampOf state train stamp
-    by None h = absurd (entry_there state train live (sym h))
-    by (Some entry) h = (entry.stamp, stamp_is state train entry live (sym h))
+live_has_stamp = search (rules, entry_there, stamp_is)
 
 answered_from : (horizon start day : ℕ) → ¬ IsDayRefused horizon day → day ≤ start + 2 → horizon ≤ start
-answered_from horizon start day open_day near = by (cases_lt 0 horizon) (cases_lt day (horizon + 3))
-  where
-    by : (0 < horizon) ⊎ (horizon ≤ 0) → (day < horizon + 3) ⊎ (horizon + 3 ≤ day) → horizon ≤ start
-    by (inl some) (inl before) = absurd (open_day (some, before))
-    by (inr none) early = omega arith
-    by (inl some) (inr late) = omega arith
+answered_from = search (rules, cases_lt)
 
 found_to_run : (state : State) (start day : ℕ) (key : ScheduleKey) (lines : List (List ℕ)) → ¬ IsDayRefused state.horizon day → day ≤ start + 2
     → TrainRuns (live_table state) key.uid start key lines → IsFoundToRun state key.uid start (record { key = key; lines = lines })
@@ -185,13 +152,7 @@ found_to_run state start day key lines open_day near runs =
 -- the train's UID on the day
 pub listed_found : (state : State) (identity : List ℕ) (day : ℕ) (train : Train) → state.horizon ≤ day
     → IsListed (live_table state) identity day train → IsFoundToRun state train.key.uid day train
-listed_found state identity day train from is =
-    let stamped = live_has_stamp state train is.runs.chosen.running.is_live in record {
-      answered = from;
-      stamp = stamped.0;
-      found = (is.runs.chosen, stamped.1);
-      runs = is.runs.no_cancellation;
-    }
+listed_found = search (rules, live_has_stamp)
 
 -- for each event on a docker, the schedule of the event's train is the schedule found for the
 -- train's UID and start day

@@ -1,5 +1,6 @@
 -- A list of trains is written row by row, by a walk over all live rows.
-use Rattle.std.proofs.Common.{◌≡◌, ◌∙◌, ℕ, List, [], ◌∷◌, cond, refl, ap, sym, subst, Some, None, append-nil, Contains}
+use Rattle.std.proofs.Common.{◌≡◌, ℕ, List, [], ◌∷◌, sym, subst, Some, append-nil, Contains, arith, rules}
+use Rattle.std.proofs.lemmas.Grind.{common_steps}
 use Rattle.std.specs.Prelude.{Option, ◌↔◌, Bool, true, false}
 use Rattle.std.specs.List.{flat_map}
 use Rattle.cif_device.specs.Device.{Takes, TakesPart}
@@ -20,8 +21,7 @@ use Rattle.docker_train.proofs.ListedTrains.{is_trains_text}
 
 -- before the first row, writing all rows completes the text
 pub rows_first : (bytes : Row → List ℕ) (rows rest : List Row) (first : Option (List ℕ)) → rest ≡ rows → Leads bytes rows rest first first
-rows_first bytes rows rest first same =
-    subst (λ (left : List Row). Leads bytes rows left first first) (sym same) (record { whole = λ last taken. taken; part = λ last taken. taken })
+rows_first = search rules
 
 -- after a row is written, writing the later rows completes the text
 pub rows_on : (bytes : Row → List ℕ) (rows rest : List Row) (row : Row) (more : List Row) (first now next : Option (List ℕ)) → rest ≡ row ∷ more
@@ -38,18 +38,12 @@ rows_on bytes rows rest row more first now next is leads taken = record {
 -- text
 pub rows_part : (bytes : Row → List ℕ) (rows rest : List Row) (row : Row) (more : List Row) (first now next : Option (List ℕ)) → rest ≡ row ∷ more
     → Leads bytes rows rest first now → TakesPart now (bytes row) next → TakesPart first (flat_map bytes rows) next
-rows_part bytes rows rest row more first now next is leads part =
-    (subst (λ (left : List Row). Leads bytes rows left first now) is leads).part next
-    (part_of_front now next (bytes row) (flat_map bytes more) part)
+rows_part = grind (common_steps, arith, part_of_front)
 
 -- after the last row, the whole text is written
 pub rows_last : (bytes : Row → List ℕ) (rows rest : List Row) (first now : Option (List ℕ)) → rest ≡ [] → Leads bytes rows rest first now
     → Takes first (flat_map bytes rows) now
-rows_last bytes rows rest first now none leads = (subst (λ (left : List Row). Leads bytes rows left first now) none leads).whole now (nothing now)
-  where
-    nothing : (sink : Option (List ℕ)) → Takes sink [] sink
-    nothing None = refl
-    nothing (Some taken) = ap Some (sym (append-nil taken))
+rows_last = search (rules, append-nil)
 
 -- the rows of a live table are live, and their bodies are well formed
 pub rows_live : (live : Table) (rows : List Row) → ((key : Key) (body : Body) → Contains rows (key, body) → live key ≡ Some body) → AreLive live rows
@@ -87,25 +81,15 @@ live_told state identity day listing key body same is = subst (λ (it : Listing)
 pub line_told : (rows : List Row) (identity : List ℕ) (day : ℕ) (train : Train) (told : ℕ) (key : ScheduleKey) (answer : Bool) (bytes : List ℕ) → told ≡ day
     → key ≡ train.key → answer ≡ is_listed rows identity day train → answer ≡ true → bytes ≡ ended (train_columns told key)
     → bytes ≡ schedule_line rows identity day (Some train)
-line_told rows identity day train told key answer bytes days keys answered holds is =
-    is ∙ (λ i. ended (train_columns (days i) (keys i)))
-    ∙ (λ i. cond ((sym holds ∙ answered) i) (ended (train_columns day train.key)) [])
+line_told = search rules
 
 -- if a sink gains the lines of all live rows, it gains the list of trains
 pub list_taken : (state : State) (rows : List Row) → AreRowsOf (live_table state) rows → (identity : List ℕ) (day : ℕ) (old new : Option (List ℕ))
     → Takes old (flat_map (row_line rows identity day) rows) new → ListsTrains (live_table state) identity day old new
-list_taken state rows are identity day old new taken = record {
-  text = flat_map (row_line rows identity day) rows;
-  is = is_trains_text (live_table state) rows are identity day;
-  gained = taken;
-}
+list_taken = search (rules, is_trains_text)
 
 -- if a sink gains a proper prefix of the lines of all live rows, it gains a proper prefix of the
 -- list of trains
 pub list_begun : (state : State) (rows : List Row) → AreRowsOf (live_table state) rows → (identity : List ℕ) (day : ℕ) (old new : Option (List ℕ))
     → TakesPart old (flat_map (row_line rows identity day) rows) new → ListsPart (live_table state) identity day old new
-list_begun state rows are identity day old new part = record {
-  text = flat_map (row_line rows identity day) rows;
-  is = is_trains_text (live_table state) rows are identity day;
-  gained = part;
-}
+list_begun = search (rules, is_trains_text)

@@ -2,15 +2,12 @@ use Rattle.std.proofs.Common.{ap, sym, ◌∙◌, subst}
 use Rattle.docker_model.specs.file.Change.{ScheduleKey, schedule_key}
 use Rattle.docker_model.specs.state.State.{entry_at}
 use Rattle.docker_join.specs.Meaning.{entry_meant}
-use Rattle.cif_change.specs.Meaning.{schedule_key_meant}
 use Rattle.docker_model.specs.lists.TrainText.{Stamped, IsStampOf}
 use Rattle.docker_train.proofs.Found.{stamp_is, minute_of_day}
 use Rattle.docker_train.proofs.finding.stamped.Goals as goal
 
 pub of-requires : goal.of-requires
-of-requires c =
-    minute_of_day c.args.state.now (schedule_key (schedule_key_meant c.key.result.now)) (entry_meant c.in-Some.entry.now) c.get.ensures.valid
-    (sym c.in-Some.ensures.entry)
+of-requires c = minute_of_day _ _ _ c.get.ensures.valid (sym c.in-Some.ensures.entry)
 
 pub returns-clause-stamp : goal.returns-clause-stamp
 returns-clause-stamp c =

@@ -15,15 +15,13 @@ pub loop-key-init : goal.loop-key-init
 loop-key-init g c =
     let state = c.args.state.now in
     let same = c.into_iter-key-iterator.ensures.into_iter_gives ∙ c.live-key-items.ensures.rows in
-    let are = walk_is (live_table state) c.live-key-items.result c.into_iter-key-iterator.result (sym c.into_iter-key-iterator.ensures.into_iter_gives)
-    c.live-key-items.ensures.ascending c.live-key-items.ensures.table in
-    let live = rows_live (live_table state) c.into_iter-key-iterator.result (λ key body. (are.members key body).0) in
+    let are = walk_is _ _ _ (sym c.into_iter-key-iterator.ensures.into_iter_gives) c.live-key-items.ensures.ascending c.live-key-items.ensures.table in
+    let live = rows_live _ _ (λ key body. (are.members key body).0) in
     record {
       same = c.of-listing.ensures;
-      good = rows_good (live_table state) c.into_iter-key-iterator.result (good_bodies state c.entries-entries.ensures.valid) live;
+      good = rows_good _ _ (good_bodies _ c.entries-entries.ensures.valid) live;
       live = live;
-      leads = rows_first (row_line (live_rows state.entries) c.args.identity.now c.args.day) (live_rows state.entries) c.into_iter-key-iterator.result
-          (g.K.Sink.taken c.args.sink.now) same;
+      leads = rows_first _ _ _ _ same;
       no_failure = refl;
     }
 
@@ -31,8 +29,7 @@ pub write_row-requires-clause-good : goal.write_row-requires-clause-good
 write_row-requires-clause-good g c = (subst AreGoodRows c.in-Some.ensures.steps c.loop-key.invariant.good).0
 
 pub write_row-requires-clause-live : goal.write_row-requires-clause-live
-write_row-requires-clause-live g c =
-    live_told c.args.state.now c.args.identity.now c.args.day c.loop-key.listing (key_meant c.in-Some.key.now) (body_meant c.in-Some.body.now)
+write_row-requires-clause-live g c = live_told _ _ _ _ _ _
     c.loop-key.invariant.same (subst (AreLive (live_table c.args.state.now)) c.in-Some.ensures.steps c.loop-key.invariant.live).0
 
 pub loop-key-preserved : goal.loop-key-preserved
@@ -70,8 +67,7 @@ returns-in_err-write_row-clause-part g c =
     c.in_err-write_row.ensures.part)))
 
 pub returns-in_err-write_row-clause-failures : goal.returns-in_err-write_row-clause-failures
-returns-in_err-write_row-clause-failures g c =
-    one_failed _ c.from_residual.result (g.K.Sink.failures c.args.sink.now) (g.K.Sink.failures c.write_row.new.sink) c.from_residual.ensures.1
+returns-in_err-write_row-clause-failures g c = one_failed _ _ _ _ c.from_residual.ensures.1
     (c.in_err-write_row.ensures.counted ∙ ap (λ n. n + 1) c.loop-key.invariant.no_failure)
 
 pub returns-clause-whole : goal.returns-clause-whole
@@ -85,5 +81,4 @@ returns-clause-whole g c =
     c.in-None.ensures.steps.0 c.loop-key.invariant.leads)
 
 pub returns-clause-failures : goal.returns-clause-failures
-returns-clause-failures g c =
-    none_failed (g.K.Sink.failures c.args.sink.now) (g.K.Sink.failures c.loop-key.sink) c.loop-key.invariant.no_failure
+returns-clause-failures g c = none_failed _ _ c.loop-key.invariant.no_failure
