@@ -1,6 +1,6 @@
 -- A walk over the records of a schedule finds the record of each event, and the change en route that
 -- is in force there.
-use Rattle.std.proofs.Common.{◌≡◌, ℕ, ◌+◌, ◌<◌, ◌≤◌, cond, List, [], ◌∷◌, ◌++◌, length, take, refl, ap, sym, ◌∙◌, subst}
+use Rattle.std.proofs.Common.{◌≡◌, ℕ, ◌+◌, ◌<◌, ◌≤◌, cond, List, [], ◌∷◌, ◌++◌, length, take, refl, ap, sym, ◌∙◌, subst, rules}
 use Rattle.std.proofs.Common.{inl, inr, ◌⊎◌, Some, Contains, append_assoc, length-append, arith}
 use Rattle.std.specs.Prelude.{Option, nat_le}
 use Rattle.std.proofs.lemmas.Bool.{le-leb, lt-leb}
@@ -10,10 +10,10 @@ use Rattle.docker_model.specs.file.File.{first_record}
 use Rattle.docker_model.specs.file.Journey.{Occasion, times_of}
 use Rattle.docker_model.specs.docker.Event.{Event, events_of, event_line}
 use Rattle.docker_model.specs.docker.DetailedText.{origin_text, change_at, extra_record}
-use Rattle.cif_laws.proofs.lists.Membership.{Contains-cons, nil-Contains}
+use Rattle.cif_laws.proofs.lists.Membership.{nil-Contains}
 use Rattle.docker_laws.specs.EventWalk.{events_here, events_from, last_change}
 use Rattle.docker_laws.proofs.dockers.EventWalk.{events_walked, line_here, change_more}
-use Rattle.docker_detail.specs.Records.{EventRecords, Place, change_after, first_of, place_from, place_in, records_of}
+use Rattle.docker_detail.specs.Records.{Place, change_after, first_of, place_from, place_in, records_of}
 use Rattle.docker_detail.specs.OriginText.{found_text}
 
 -- ---- the numbers of the events
@@ -27,33 +27,16 @@ record IsHere (n p long : ℕ) (event : Event) : Type 0 where
 
 here_is : (n p : ℕ) (times : List (Occasion × ℕ)) (event : Event) → Contains (events_here n p times) event → IsHere n p (length times) event
 here_is n p [] event among = absurd (nil-Contains event among)
-here_is n p (time ∷ times) event among =
-    by (here_is (n + 1) p times event) (Contains-cons first (events_here (n + 1) p times) event among)
-  where
-    first : Event
-    first = record { number = n; place = p; occasion = time.0; time = time.1 }
-
-    by : (Contains (events_here (n + 1) p times) event → IsHere (n + 1) p (length times) event)
-        → (first ≡ event) ⊎ Contains (events_here (n + 1) p times) event → IsHere n p (length (time ∷ times)) event
-    by rest (inl e) =
-        let number : n ≡ event.number = ap (λ (v : Event). v.number) e in
-        record { low = omega arith; below = omega arith; at = sym (ap (λ (v : Event). v.place) e) }
-    by rest (inr inside) =
-        let found = rest inside in
-        let low = found.low in
-        let below = found.below in
-        record { low = omega arith; below = omega arith; at = found.at }
+here_is n p (time ∷ times) event among = grind (arith, (here_is (n + 1) p times event))
 
 from_low : (n p : ℕ) (lines : List (List ℕ)) (event : Event) → Contains (events_from n p lines) event → n ≤ event.number
-from_low n p [] event among = absurd (nil-Contains event among)
-from_low n p (line ∷ lines) event among =
-    by (from_low (n + length (times_of line)) (p + 1) lines event)
+from_low n p [] event among = absurd (nil-Contains _ among)
+from_low n p (line ∷ lines) event among = by (from_low (n + length (times_of line)) _ lines _)
     (Contains-append_cases (events_here n p (times_of line)) (events_from (n + length (times_of line)) (p + 1) lines) event among)
   where
     by : (Contains (events_from (n + length (times_of line)) (p + 1) lines) event → n + length (times_of line) ≤ event.number)
-        → Contains (events_here n p (times_of line)) event ⊎ Contains (events_from (n + length (times_of line)) (p + 1) lines) event
-        → n ≤ event.number
-    by rest (inl inside) = (here_is n p (times_of line) event inside).low
+        → Contains (events_here n p (times_of line)) event ⊎ Contains (events_from (n + length (times_of line)) (p + 1) lines) event → n ≤ event.number
+    by rest (inl inside) = (here_is n _ (times_of line) _ inside).low
     by rest (inr later) = let low = rest later in omega arith
 
 -- ---- the place of an event
@@ -116,8 +99,7 @@ place_is lines event among = found lines [] lines 0 event refl (subst (λ (event
 
 -- a schedule that has an event has a first record
 pub first_is : (lines : List (List ℕ)) (event : Event) → Contains (events_of lines) event → first_of lines ≡ Some (first_record lines)
-first_is [] event among = absurd (nil-Contains event among)
-first_is (line ∷ lines) event among = refl
+first_is = search (rules, nil-Contains)
 
 -- ---- the text of an event's origin
 
@@ -135,18 +117,4 @@ with_records start lines event association = refl
 -- event's origin
 pub origin_is : (start : ℕ) (lines : List (List ℕ)) (event : Event) (association : Option (List ℕ)) → Contains (events_of lines) event
     → found_text start event.number (records_of lines event.number) association ≡ origin_text start lines event association
-origin_is start lines event association among =
-    sym (with_records start lines event association ∙ ap (λ (records : EventRecords). found_text start event.number records association) records_are)
-  where
-    records_are : record {
-      basic = Some (first_record lines);
-      extra = extra_record lines;
-      change = change_at lines event;
-      location = Some (event_line lines event);
-    } ≡ records_of lines event.number
-    records_are = λ i. record {
-      basic = sym (first_is lines event among) i;
-      extra = extra_record lines;
-      change = sym (ap (λ (p : Place). p.change) (place_is lines event among)) i;
-      location = sym (ap (λ (p : Place). p.location) (place_is lines event among)) i;
-    }
+origin_is = search (rules, with_records, first_is, place_is)

@@ -1,5 +1,5 @@
 -- What is found for a line of a docker is the line's origin.
-use Rattle.std.proofs.Common.{◌≡◌, ℕ, List, ap, sym, ◌∙◌, inl, inr, Some, None, Contains}
+use Rattle.std.proofs.Common.{◌≡◌, ℕ, List, ap, sym, ◌∙◌, Some, None, Contains, rules}
 use Rattle.std.specs.Prelude.{Option, option_map}
 use Rattle.docker_model.specs.records.Record.{column, columns}
 use Rattle.docker_model.specs.state.Row.{Row, AreRowsOf}
@@ -24,36 +24,31 @@ module _ (live : Table) (place : List ℕ) (day : ℕ) (rows : List Row) (are : 
   -- what is found for the line of an event is its origin
   event_origin : (made : IsEventLine live place day line)
       → origin_by (train_in rows) (link_in rows) place line ≡ origin_text made.start made.schedule made.event None
-  event_origin made =
-      ap (origin_by (train_in rows) (link_in rows) place) made.is
+  event_origin made = ap (origin_by (train_in rows) (link_in rows) place) made.is
       ∙ ap (λ (t : Option Train). found_text made.start made.event.number (records_of (records_of_train t) made.event.number) None) train
-      ∙ origin_is made.start made.schedule made.event None made.among
+      ∙ origin_is _ _ _ _ made.among
     where
       train : train_in rows made.key.uid made.start ≡ Some (record { key = made.key; lines = made.schedule })
-      train = one_train_answer live made.key.uid made.start (train_in rows made.key.uid made.start) (Some (record { key = made.key; lines = made.schedule }))
-          (trains_tell live rows are made.key.uid made.start) made.train_runs
+      train = one_train_answer _ _ _ _ _ (trains_tell _ _ are made.key.uid made.start) made.train_runs
 
   -- what is found for the line of an association is its origin
   association_origin : (made : IsAssociationLine live place day line)
       → origin_by (train_in rows) (link_in rows) place line ≡ origin_text made.start made.base made.event (Some made.association)
-  association_origin made =
-      ap (origin_by (train_in rows) (link_in rows) place) made.is
+  association_origin made = ap (origin_by (train_in rows) (link_in rows) place) made.is
       ∙ (λ i. found_text made.start made.event.number (records_of (records_of_train (train i)) made.event.number)
       (option_map (λ (l : Link). l.line) (link i)))
-      ∙ origin_is made.start made.base made.event (Some made.association) first.0
+      ∙ origin_is _ _ _ _ first.0
     where
       uid : made.base_key.uid ≡ made.key.base
       uid = made.base_runs.chosen.running.uid_is
 
       first : Contains (events_of made.base) made.event × (column 10 (event_line made.base made.event) ≡ made.key.suffix)
           × (columns 3 9 (event_line made.base made.event) ≡ made.key.location)
-      first = first_event_is made.base made.key.location made.key.suffix made.event made.first_there
+      first = first_event_is _ _ _ _ made.first_there
 
       train : train_in rows made.base_key.uid made.start ≡ Some (record { key = made.base_key; lines = made.base })
-      train =
-          ap (λ (u : List ℕ). train_in rows u made.start) uid
-          ∙ one_train_answer live made.key.base made.start (train_in rows made.key.base made.start)
-          (Some (record { key = made.base_key; lines = made.base })) (trains_tell live rows are made.key.base made.start) made.base_runs
+      train = ap (λ (u : List ℕ). train_in rows u made.start) uid
+          ∙ one_train_answer _ _ _ _ _ (trains_tell _ _ are made.key.base made.start) made.base_runs
 
       group : record {
         base = made.base_key.uid;
@@ -74,12 +69,9 @@ module _ (live : Table) (place : List ℕ) (day : ℕ) (rows : List Row) (are : 
         location = place;
         suffix = column 10 (event_line made.base made.event);
       }) made.start ≡ Some (record { key = made.key; line = made.association })
-      link =
-          ap (λ (g : Group). link_in rows g made.start) group
-          ∙ one_link_answer live (group_of made.key) made.start (link_in rows (group_of made.key) made.start)
-          (Some (record { key = made.key; line = made.association })) (links_tell live rows are (group_of made.key) made.start) made.chosen
+      link = ap (λ (g : Group). link_in rows g made.start) group
+          ∙ one_link_answer _ _ _ _ _ (links_tell _ _ are (group_of made.key) made.start) made.chosen
 
   -- what is found for a docker line is its origin
   pub found_is_origin : (text : List ℕ) → IsDockerLine live place day line → IsLineFound live place (line, text) → IsOrigin live place day line text
-  found_is_origin text (inl made) found = inl (record { line_is = made; origin_is = found rows are ∙ event_origin made })
-  found_is_origin text (inr made) found = inr (record { line_is = made; origin_is = found rows are ∙ association_origin made })
+  found_is_origin = search (rules, origin_is, event_origin, association_origin)

@@ -1,5 +1,5 @@
 -- A docker's lines, each with its origin, are the detailed docker.
-use Rattle.std.proofs.Common.{◌≡◌, ℕ, List, [], ◌∷◌, ◌++◌, ◌+◌, ◌<◌, length, ap, sym, ◌∙◌, subst, append_assoc, arith}
+use Rattle.std.proofs.Common.{◌≡◌, ℕ, List, [], ◌∷◌, ◌++◌, ◌+◌, ◌<◌, length, sym, ◌∙◌, subst, append_assoc, arith, rules}
 use Rattle.std.specs.Prelude.{All}
 use Rattle.std.specs.List.{AllByRecursion}
 use Rattle.std.specs.List.Sorted.{IsPermutation, IsSorted}
@@ -9,7 +9,6 @@ use Rattle.std.specs.Ordering.{is_lt}
 use Rattle.docker_model.specs.state.Order.{IsBelow, IsStrictlyAscending}
 use Rattle.docker_model.specs.state.Row.{Row, AreRowsOf}
 use Rattle.docker_model.specs.state.Table.{Table}
-use Rattle.docker_model.specs.docker.DetailedText.{IsOrigin}
 use Rattle.docker_model.specs.docker.DockerLine.{DockerLine, docker_line_cmp}
 use Rattle.cif_laws.proofs.lists.Membership.{all_members, map-Contains, member_of}
 use Rattle.cif_laws.proofs.lists.Sorted.{AreApart, sort_ascends}
@@ -35,25 +34,23 @@ pub detailed_is : (live : Table) (place : List ℕ) (day : ℕ) (rows : List Row
     → IsDockerOf live place day docker → AreFound live docker.place docker.lines detailed → (result : DetailedDocker)
     → result ≡ record { place = docker.place; day = docker.day; description = docker.description; lines = detailed }
     → IsDetailedOf live place day result
-detailed_is live place day rows docker detailed are is made result told =
-    subst (IsDetailedOf live place day) (sym told) (record {
-      place_is = is.place_is;
-      day_is = is.day_is;
-      described = is.described;
-      list = record {
-        ascending = sort_ascends docker_line_total docker.lines (firsts detailed) (ascending_apart docker.lines is.list.ascending) made.same made.sorted;
-        members = λ line. (
-          λ among. (is.list.members line).0
-              (Contains-permutation (firsts detailed) docker.lines line (IsPermutation-sym docker.lines (firsts detailed) made.same) among),
-          λ meant. Contains-permutation docker.lines (firsts detailed) line made.same ((is.list.members line).1 meant),
-        );
-      };
-      origins = all_members (λ (line : Detailed). IsOrigin live place day line.0 line.1) detailed (λ line among.
-          found_is_origin live place day rows are line.0 line.1
-          ((is.list.members line.0).0 (Contains-permutation (firsts detailed) docker.lines line.0 (IsPermutation-sym docker.lines (firsts detailed) made.same)
-          (map-Contains (λ (l : Detailed). l.0) detailed line among)))
-          (subst (λ (p : List ℕ). IsLineFound live p line) is.place_is (member_of (IsLineFound live docker.place) detailed line made.found among)));
-    })
+detailed_is live place day rows docker detailed are is made result told = subst (IsDetailedOf live place day) (sym told) (record {
+  place_is = is.place_is;
+  day_is = is.day_is;
+  described = is.described;
+  list = record {
+    ascending = sort_ascends docker_line_total docker.lines _ (ascending_apart docker.lines is.list.ascending) made.same made.sorted;
+    members = λ line. (
+      λ among. (is.list.members line).0
+          (Contains-permutation (firsts detailed) docker.lines line (IsPermutation-sym docker.lines (firsts detailed) made.same) among),
+      λ meant. Contains-permutation docker.lines (firsts detailed) line made.same ((is.list.members line).1 meant),
+    );
+  };
+  origins = all_members _ detailed (λ line among. found_is_origin _ place _ rows are _ line.1
+      ((is.list.members line.0).0 (Contains-permutation (firsts detailed) docker.lines line.0 (IsPermutation-sym docker.lines (firsts detailed) made.same)
+      (map-Contains _ detailed _ among)))
+      (subst (λ (p : List ℕ). IsLineFound live p line) is.place_is (member_of (IsLineFound live docker.place) _ line made.found among)));
+})
 
 -- the lines that were looked up, in the order of a docker, are what is found for the lines
 pub found_in_order : (live : Table) (place : List ℕ) (lines ordered : List DockerLine) (each sorted : List Detailed) → IsPermutation lines ordered
@@ -79,11 +76,7 @@ firsts_sorted lines sorted k d low below =
 -- one more line is looked up
 pub one_more : (items : List Detailed) (more : Detailed) (line : DockerLine) (before rest lines : List DockerLine) → before ≡ line ∷ rest → more.0 ≡ line
     → firsts items ++ before ≡ lines → firsts (items ++ more ∷ []) ++ rest ≡ lines
-one_more items more line before rest lines is same all =
-    ap (λ (front : List DockerLine). front ++ rest) (map-append (λ (l : Detailed). l.0) items (more ∷ []))
-    ∙ append_assoc (firsts items) (more.0 ∷ []) rest
-    ∙ (λ i. firsts items ++ (same i ∷ rest))
-    ∙ ap (λ (back : List DockerLine). firsts items ++ back) (sym is) ∙ all
+one_more = search (rules, map-append, append_assoc)
 
 -- the docker that the code makes is the detailed docker of the definitions
 pub detailed_made : (live : Table) (place : List ℕ) (day : ℕ) (rows : List Row) (docker : Docker) (detailed : List Detailed) (own : List ℕ) (told : ℕ)
@@ -92,6 +85,5 @@ pub detailed_made : (live : Table) (place : List ℕ) (day : ℕ) (rows : List R
     → result ≡ record { place = own; day = told; description = described; lines = detailed } → IsDockerOf live place day docker
     → IsDetailedOf live place day result
 detailed_made live place day rows docker detailed own told described lines result are own_is told_is described_is lines_are found is made =
-    detailed_is live place day rows docker detailed are made
-    (subst (λ (v : List ℕ × List DockerLine). AreFound live v.0 v.1 detailed) (λ i. (own_is i, lines_are i)) found) result
+    detailed_is _ _ _ _ _ _ are made (subst (λ (v : List ℕ × List DockerLine). AreFound live v.0 v.1 detailed) (λ i. (own_is i, lines_are i)) found) _
     (is ∙ (λ i. record { place = own_is i; day = told_is i; description = described_is i; lines = detailed }))

@@ -1,5 +1,5 @@
 -- A text is put together piece by piece.
-use Rattle.std.proofs.Common.{◌≡◌, ℕ, List, [], ◌∷◌, ◌++◌, length, take, ap, sym, ◌∙◌, append_assoc, length-append, arith}
+use Rattle.std.proofs.Common.{◌≡◌, ℕ, List, [], ◌∷◌, ◌++◌, length, take, ap, ◌∙◌, append_assoc, length-append, arith, rules}
 use Rattle.std.specs.Prelude.{Option}
 use Rattle.std.proofs.Math.Seq.{take-append_seam}
 use Rattle.docker_model.specs.records.PrintedNumber.{number_text}
@@ -24,8 +24,7 @@ joined old front piece before after was is = is ∙ ap (λ (text : List ℕ). te
 -- a space and one more piece are appended to a text
 joined_apart : (old front piece before after : List ℕ) → before ≡ old ++ front → after ≡ before ++ (spaces 1 ++ piece)
     → after ≡ old ++ (front ++ spaces 1 ++ piece)
-joined_apart old front piece before after was is =
-    joined old front (spaces 1 ++ piece) before after was is ∙ ap (λ (more : List ℕ). old ++ more) (sym (append_assoc front (spaces 1) piece))
+joined_apart = search (rules, joined, append_assoc)
 
 -- the pieces of an origin's text make up the text
 pub origin_put : (start number : ℕ) (records : EventRecords) (association : Option (List ℕ)) (day : List ℕ) (old t1 t2 t3 t4 t5 t6 t7 t8 t9 : List ℕ)
@@ -47,5 +46,4 @@ origin_put start number records association day old t1 t2 t3 t4 t5 t6 t7 t8 t9 p
 -- the columns of a docker line, its origin and a line feed make up the line's text
 pub line_put : (columns text shown origin t0 t1 t2 t3 : List ℕ) → t0 ≡ [] → t1 ≡ t0 ++ shown → shown ≡ columns → t2 ≡ t1 ++ origin → origin ≡ text
     → t3 ≡ t2 ++ 10 ∷ [] → t3 ≡ ended (columns ++ text)
-line_put columns text shown origin t0 t1 t2 t3 none first shown_is second origin_is third =
-    third ∙ ap (λ (t : List ℕ). t ++ 10 ∷ []) (second ∙ (λ i. (first ∙ (λ j. none j ++ shown_is j)) i ++ origin_is i))
+line_put = search rules

@@ -14,8 +14,7 @@ loop-line-preserved c =
     let items : c.push.new.self.items ≡ c.loop-line.detailed.items ++ more ∷ [] = c.in_ok-push.ensures.items in
     record {
       lines = ap (λ (all : List Detailed). firsts all ++ into_iter_items c.next.new.self) items
-          ∙ one_more c.loop-line.detailed.items more c.in-Some.line (into_iter_items c.loop-line.line-iterator) (into_iter_items c.next.new.self)
-          c.args.lines.items c.in-Some.ensures.steps.0 c.in_ok-detailed-2.ensures.line c.loop-line.invariant.lines;
+          ∙ one_more _ _ _ _ _ _ c.in-Some.ensures.steps.0 c.in_ok-detailed-2.ensures.line c.loop-line.invariant.lines;
       found = subst (All (IsLineFound (live_in c.args.finder.timetable) c.args.finder.place)) (sym items)
           (All-push (IsLineFound (live_in c.args.finder.timetable) c.args.finder.place) c.loop-line.detailed.items more c.loop-line.invariant.found
           (subst (λ (there : AtPlace). IsLineFound (live_in there.timetable) there.place more) c.loop-line.invariant.same c.in_ok-detailed-2.ensures.found));

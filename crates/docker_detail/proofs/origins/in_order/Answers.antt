@@ -9,7 +9,6 @@ use Rattle.docker_detail.proofs.InOrder.{firsts_sorted}
 use Rattle.docker_detail.proofs.origins.in_order.Goals as goal
 
 pub returns-clause-sorted : goal.returns-clause-sorted
-returns-clause-sorted c =
-    firsts_sorted c.sort_unstable_by.new.self.items
+returns-clause-sorted c = firsts_sorted _
     (c.sort_unstable_by.ensures.sorted (λ (a b : Detailed). is_lt (docker_line_cmp a.0 b.0)) (ranks_by docker_line_total (λ (line : Detailed). line.0))
     (answers_always _ _ _ (λ f a r g told. search rules)))

@@ -7,9 +7,6 @@ use Rattle.docker_detail.proofs.InOrder.{found_in_order}
 use Rattle.docker_detail.proofs.origins.with_origins.Goals as goal
 
 pub returns : goal.returns
-returns c =
-    found_in_order (live_in c.args.timetable.now) c.args.place.now c.args.lines.items c.by_train.result.items c.in_ok-detailed.detailed.items
-    c.in_order.result.items c.by_train.ensures c.in_ok-detailed.ensures.lines
+returns c = found_in_order _ _ _ _ _ _ c.by_train.ensures c.in_ok-detailed.ensures.lines
     (subst (λ (there : AtPlace). All (IsLineFound (live_in there.timetable) there.place) c.in_ok-detailed.detailed.items) c.at.ensures
-    c.in_ok-detailed.ensures.found)
-    c.in_order.ensures.same c.in_order.ensures.sorted
+    c.in_ok-detailed.ensures.found) c.in_order.ensures.same c.in_order.ensures.sorted

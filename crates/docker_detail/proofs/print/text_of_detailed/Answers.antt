@@ -1,14 +1,12 @@
 use Rattle.std.proofs.Common.{ap, ◌∙◌}
 use Rattle.docker_model.specs.docker.DockerLine.{DockerLine}
 use Rattle.docker_model.specs.docker.DockerText.{ended, line_text}
-use Rattle.docker_detail.specs.Meaning.{origin_meant}
 use Rattle.docker_detail.proofs.PutTexts.{line_put}
 use Rattle.docker_detail.proofs.print.text_of_detailed.Goals as goal
 
 pub returns : goal.returns
 returns c =
     let line = c.args.line.now in
-    line_put (line_text line.0) line.1 c.columns_of.result.now (origin_meant c.origin.result.now) c.new-text.result.items c.put.new.text.items
-    c.put_origin.new.text.items c.put-2.new.text.items c.new-text.ensures c.put.ensures.items
+    line_put _ _ _ _ _ _ _ _ c.new-text.ensures c.put.ensures.items
     (c.columns_of.ensures.columns (line_text line.0) (c.text_of_line.ensures ∙ ap (λ (l : DockerLine). ended (line_text l)) c.line.ensures))
     c.put_origin.ensures.items c.origin.ensures c.put-2.ensures.items

@@ -13,30 +13,21 @@ loop-line-init g c = record {
 
 pub loop-line-preserved : goal.loop-line-preserved
 loop-line-preserved g c = record {
-  leads = leads_on (λ (line : Detailed). ended (detailed_line line)) c.args.lines.now c.loop-line.line-index c.line-item.result c.as_slice.result.now
-      (g.K.Sink.taken c.args.sink.now) (g.K.Sink.taken c.loop-line.sink) (g.K.Sink.taken c.write_all.new.sink)
+  leads = leads_on _ _ _ _ _ _ _ _
       c.loop-line-test.true c.line-item.is (c.as_slice.ensures.value ∙ c.text_of_detailed.ensures) c.loop-line.invariant.leads c.in_ok-write_all.ensures.whole;
   no_failure = c.in_ok-write_all.ensures.no_failure ∙ c.loop-line.invariant.no_failure;
 }
 
 pub returns-in_err-write_all-clause-part : goal.returns-in_err-write_all-clause-part
-returns-in_err-write_all-clause-part g c =
-    on_any_err c.from_residual.result
-    (leads_part (λ (line : Detailed). ended (detailed_line line)) c.args.lines.now c.loop-line.line-index c.line-item.result c.as_slice.result.now
-    (g.K.Sink.taken c.args.sink.now) (g.K.Sink.taken c.loop-line.sink) (g.K.Sink.taken c.write_all.new.sink)
+returns-in_err-write_all-clause-part g c = on_any_err _ (leads_part _ _ _ _ _ _ _ _
     c.loop-line-test.true c.line-item.is (c.as_slice.ensures.value ∙ c.text_of_detailed.ensures) c.loop-line.invariant.leads c.in_err-write_all.ensures.part)
 
 pub returns-clause-whole : goal.returns-clause-whole
-returns-clause-whole g c =
-    leads_last (λ (line : Detailed). ended (detailed_line line)) c.args.lines.now c.loop-line.line-index (g.K.Sink.taken c.args.sink.now)
-    (g.K.Sink.taken c.loop-line.sink)
-    c.loop-line-test.false c.loop-line.invariant.leads
+returns-clause-whole g c = leads_last _ _ _ _ _ c.loop-line-test.false c.loop-line.invariant.leads
 
 pub returns-in_err-write_all-clause-failures : goal.returns-in_err-write_all-clause-failures
-returns-in_err-write_all-clause-failures g c =
-    one_failed _ c.from_residual.result (g.K.Sink.failures c.args.sink.now) (g.K.Sink.failures c.write_all.new.sink) c.from_residual.ensures.1
+returns-in_err-write_all-clause-failures g c = one_failed _ _ _ _ c.from_residual.ensures.1
     (c.in_err-write_all.ensures.counted ∙ ap (λ n. n + 1) c.loop-line.invariant.no_failure)
 
 pub returns-clause-failures : goal.returns-clause-failures
-returns-clause-failures g c =
-    none_failed (g.K.Sink.failures c.args.sink.now) (g.K.Sink.failures c.loop-line.sink) c.loop-line.invariant.no_failure
+returns-clause-failures g c = none_failed _ _ c.loop-line.invariant.no_failure

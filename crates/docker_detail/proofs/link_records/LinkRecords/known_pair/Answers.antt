@@ -1,11 +1,8 @@
 use Rattle.std.proofs.Common.{subst}
-use Rattle.std.specs.Option.{option_copied}
 use Rattle.docker_detail.specs.Known.{MayBeKnownLinks}
 use Rattle.docker_detail.proofs.KnownPairs.{pair_known}
 use Rattle.docker_detail.proofs.link_records.LinkRecords.known_pair.Goals as goal
 
 pub returns-in-Some : goal.returns-in-Some
-returns-in-Some c =
-    pair_known (λ found. option_copied found) c.self.inside.timetable c.self.inside.place c.args.self.now c.in-Some.known.links c.in-Some.known.day
-    c.args.start c.args.base.now c.args.associated.now c.args.suffix c.asked.result c.self.view_is
+returns-in-Some c = pair_known _ _ _ _ _ _ _ _ _ _ _ c.self.view_is
     (subst (MayBeKnownLinks c.self.inside.timetable c.self.inside.place) c.in-Some.is c.self.invariant) c.asked.ensures

@@ -1,5 +1,4 @@
 use Rattle.std.proofs.Common.{◌≡◌, suc, length, ap, ◌∙◌, arith}
-use Rattle.std.specs.Option.{option_copied}
 use Rattle.docker_detail.proofs.WalkOn.{next_good, past, rest_good}
 use Rattle.docker_detail.proofs.record_walk.RecordWalk.walk_to.Goals as goal
 
@@ -14,11 +13,10 @@ loop-line-preserved c =
     let room = c.loop-line.invariant.can.room in
     let few = c.event_count.ensures.few in
     record {
-      ahead = λ later low. past c.loop-line.self.passed c.event_count.result c.args.number later (option_copied c.loop-line.self.change)
-          (option_copied c.change_after-self.result) c.loop-line.self.rest.now c.in-Some.line.now c.in-Some.rest.now c.in-Some.ensures.cases.0
+      ahead = λ later low. past _ _ _ _ _ _ _ _ _ c.in-Some.ensures.cases.0
           c.event_count.ensures.count c.change_after-self.ensures c.if-number-passed.false low ∙ c.loop-line.invariant.ahead later low;
       can = record {
-        good = rest_good c.loop-line.self.rest.now c.in-Some.line.now c.in-Some.rest.now c.in-Some.ensures.cases.0 c.loop-line.invariant.can.good;
+        good = rest_good _ _ _ c.in-Some.ensures.cases.0 c.loop-line.invariant.can.good;
         room = omega arith;
       };
     }
