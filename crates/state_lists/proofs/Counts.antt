@@ -1,22 +1,22 @@
 -- The number of schedules that call at a place equals the number of live rows that pass the test
 -- `is_call_at` for that place.
-use Rattle.std.proofs.Common.{◌≡◌, ℕ, List, [], ◌∷◌, length, refl, ap, sym, ◌∙◌, subst, inl, inr, ◌⊎◌, Bool, true, false, Contains, Some}
-use Rattle.std.specs.Prelude.{filter, map, ◌&&◌, ◌||◌, if◌then◌else◌}
+use Rattle.std.proofs.Common.{◌≡◌, ℕ, List, [], ◌∷◌, length, refl, ap, sym, ◌∙◌, subst, Bool, true, Contains, Some, arith}
+use Rattle.std.proofs.Common.{rules}
+use Rattle.std.specs.Prelude.{filter, map, ◌&&◌}
 use Rattle.std.specs.List.{list_any}
 use Rattle.std.specs.Str.{bytes_eq}
 use Rattle.std.specs.Ordering.{on}
 use Rattle.std.specs.Cmp.{IsTotalOrder, on_total}
 use Rattle.std.proofs.lemmas.Map.Views.{Contains-from_any}
 use Rattle.std.proofs.lemmas.Slice.Eq.{bytes_eq-Decides}
-use Rattle.docker_model.specs.records.Record.{columns, is_location, kind_of}
+use Rattle.docker_model.specs.records.Record.{columns}
 use Rattle.docker_model.specs.file.Change.{Key, association_key, schedule_key, tiploc_key, Body, association_body, schedule_body, tiploc_body}
 use Rattle.docker_model.specs.state.Op.{key_cmp, put_with}
-use Rattle.docker_model.specs.state.Order.{IsBelow}
 use Rattle.docker_model.specs.state.State.{State, IsValid, live_table}
 use Rattle.docker_model.specs.state.Table.{Table}
 use Rattle.cif_laws.proofs.lists.FilteredMembers.{filter_back, filter_forth}
 use Rattle.cif_laws.proofs.lists.Later.{later_filter}
-use Rattle.cif_laws.proofs.lists.Membership.{Contains-cons, nil-Contains}
+use Rattle.cif_laws.proofs.lists.Membership.{nil-Contains}
 use Rattle.cif_laws.proofs.orders.Ascending.{same_list, ascending_of, later_of}
 use Rattle.cif_laws.proofs.orders.Orders.{key_total}
 use Rattle.state_index.specs.NamedPlaces.{call_places}
@@ -37,31 +37,19 @@ rows_total = on_total (λ (row : Row). row.0) key_total
 
 -- two lists that have exactly the rows of one table, in order, are equal
 pub one_rows : (live : Table) (rows others : List Row) → AreRowsOf live rows → AreRowsOf live others → rows ≡ others
-one_rows live rows others one two =
-    same_list rows_total rows others one.ascending two.ascending
-    (λ row. (
-      λ among. (two.members row.0 row.1).1 ((one.members row.0 row.1).0 among),
-      λ among. (one.members row.0 row.1).1 ((two.members row.0 row.1).0 among),
-    ))
+one_rows live rows others one two = same_list rows_total _ _ one.ascending two.ascending (λ row. (
+  λ among. (two.members row.0 row.1).1 ((one.members row.0 row.1).0 among),
+  λ among. (one.members row.0 row.1).1 ((two.members row.0 row.1).0 among),
+))
 
 -- if a list of places contains this place, `list_any` finds it
 has_place : (place : List ℕ) (places : List (List ℕ)) → Contains places place → list_any (bytes_eq place) places ≡ true
 has_place place [] among = absurd (nil-Contains place among)
-has_place place (other ∷ places) among = by (has_place place places) (Contains-cons other places place among)
-  where
-    either : (b : Bool) → b || true ≡ true
-    either true = refl
-    either false = refl
-
-    by : (Contains places place → list_any (bytes_eq place) places ≡ true) → (other ≡ place) ⊎ Contains places place
-        → bytes_eq place other || list_any (bytes_eq place) places ≡ true
-    by rest (inl same) = ap (λ b. b || list_any (bytes_eq place) places) ((bytes_eq-Decides place other).1 (sym same))
-    by rest (inr inside) = ap (λ b. bytes_eq place other || b) (rest inside) ∙ either (bytes_eq place other)
+has_place place (other ∷ places) among = grind (arith, bytes_eq-Decides, (has_place place places))
 
 -- each live row that passes the test `names place` is a schedule that calls at the place
 passes_back : (place : List ℕ) (key : Key) (body : Body) → names place (key, body) ≡ true → Calls key (put_with body) place
-passes_back place key body passes =
-    call_back key (put_with body) place
+passes_back place key body passes = call_back _ _ _
     (Contains-from_any {eq = bytes_eq} (λ x y same. (bytes_eq-Decides x y).0 same) place (call_places key (put_with body)) passes)
 
 put_is : (body other : Body) → put_with body ≡ put_with other → body ≡ other
@@ -69,29 +57,24 @@ put_is body other same = cc
 
 module _ (live : Table) (rows : List Row) (are : AreRowsOf live rows) (place : List ℕ) where
   passing_ascend : AreInKeyOrder (filter (names place) rows)
-  passing_ascend =
-      ascending_of (on (λ (row : Row). row.0) key_cmp) (filter (names place) rows)
-      (later_filter (IsBelow (on (λ (row : Row). row.0) key_cmp)) (names place) rows
-      (later_of (on (λ (row : Row). row.0) key_cmp) rows are.ascending))
+  passing_ascend = search (rules, ascending_of, later_filter, later_of)
 
   -- the schedules that call at the place are exactly the live rows that pass the test `names place`
   calling_are : (calling : List Row) → AreCalling live place calling → calling ≡ filter (names place) rows
-  calling_are calling is = same_list rows_total calling (filter (names place) rows) is.ascending passing_ascend (λ row. (forth row, back row))
+  calling_are calling is = same_list rows_total _ (filter (names place) rows) is.ascending passing_ascend (λ row. (forth row, back row))
     where
       forth : (row : Row) → Contains calling row → Contains (filter (names place) rows) row
       forth row among =
           let told = (is.members row.0 row.1).0 among in
-          filter_forth (names place) rows row
-          ((are.members row.0 row.1).1 (ap live told.2 ∙ told.4.is_live ∙ sym (ap Some told.3)))
-          (has_place place (call_places row.0 (put_with row.1))
+          filter_forth _ rows _ ((are.members row.0 row.1).1 (ap live told.2 ∙ told.4.is_live ∙ sym (ap Some told.3))) (has_place place _
           (subst (λ (it : Row). Contains (call_places it.0 (put_with it.1)) place) (λ i. (sym told.2 i, sym told.3 i))
-          (call_forth told.0 told.1 place told.4.calls)))
+          (call_forth told.0 _ place told.4.calls)))
 
       back : (row : Row) → Contains (filter (names place) rows) row → Contains calling row
       back row among =
-          let passed = filter_back (names place) rows row among in
-          let calls = passes_back place row.0 row.1 passed.1 in
-          let body_is = put_is row.1 (schedule_body calls.1) calls.3 in
+          let passed = filter_back _ rows _ among in
+          let calls = passes_back place _ row.1 passed.1 in
+          let body_is = put_is _ (schedule_body calls.1) calls.3 in
           (is.members row.0 row.1).1 (
             calls.0,
             calls.1,
@@ -105,31 +88,17 @@ module _ (live : Table) (rows : List Row) (are : AreRowsOf live rows) (place : L
 
 -- the live rows of a state's entries are the rows of its live table
 pub rows_are : (state : State) → IsValid state → AreRowsOf (live_table state) (live_rows state.entries)
-rows_are state valid = record {
-  ascending = live_ascends state valid (live_rows state.entries) refl;
-  members = live_walks state valid (live_rows state.entries) refl;
-}
+rows_are = search (rules, live_ascends, live_walks)
 
 -- a test of the kept and converted elements is a test of the elements
 any_kept : {A B : Type 0} (p : A → Bool) (f : A → B) (q r : B → Bool) → ((y : B) → q y ≡ r y) → (xs : List A)
     → list_any q (map f (filter p xs)) ≡ list_any (λ x. p x && r (f x)) xs
 any_kept p f q r same [] = refl
-any_kept p f q r same (x ∷ xs) = by (p x) (any_kept p f q r same xs)
-  where
-    by : (b : Bool) → list_any q (map f (filter p xs)) ≡ list_any (λ x. p x && r (f x)) xs
-        → list_any q (map f (if b then x ∷ filter p xs else filter p xs)) ≡ (b && r (f x)) || list_any (λ x. p x && r (f x)) xs
-    by true rest = ap (λ c. c || list_any q (map f (filter p xs))) (same (f x)) ∙ ap (λ c. r (f x) || c) rest
-    by false rest = rest
+any_kept p f q r same (x ∷ xs) = grind (arith, (any_kept p f q r same xs))
 
 -- the order of the texts that are compared doesn't matter
 either_way : (a b : List ℕ) → bytes_eq a b ≡ bytes_eq b a
-either_way a b = by (bytes_eq a b) (bytes_eq b a) refl refl
-  where
-    by : (one two : Bool) → bytes_eq a b ≡ one → bytes_eq b a ≡ two → one ≡ two
-    by true true _ _ = refl
-    by false false _ _ = refl
-    by true false is not = sym ((bytes_eq-Decides b a).1 (sym ((bytes_eq-Decides a b).0 is))) ∙ not
-    by false true not is = sym not ∙ (bytes_eq-Decides a b).1 (sym ((bytes_eq-Decides b a).0 is))
+either_way = search (rules, bytes_eq-Decides)
 
 -- the index names a place for a row exactly if the row is a schedule that calls there
 named_is_call : (place : List ℕ) (key : Key) (body : Body) → names place (key, body) ≡ is_call_at place key body
@@ -137,15 +106,11 @@ named_is_call place (tiploc_key code) body = refl
 named_is_call place (association_key key) body = refl
 named_is_call place (schedule_key key) (tiploc_body bytes) = refl
 named_is_call place (schedule_key key) (association_body line) = refl
-named_is_call place (schedule_key key) (schedule_body lines) =
-    any_kept (λ line. is_location (kind_of line)) (columns 3 9) (bytes_eq place) (λ code. bytes_eq code place) (either_way place) lines
+named_is_call place (schedule_key key) (schedule_body lines) = any_kept _ (columns 3 9) _ (λ code. bytes_eq code place) (either_way _) lines
 
 -- two tests with the same results keep the same rows
 kept_same : (p q : Row → Bool) → ((row : Row) → p row ≡ q row) → (rows : List Row) → filter p rows ≡ filter q rows
-kept_same p q same [] = refl
-kept_same p q same (row ∷ rows) =
-    ap (λ b. if b then row ∷ filter p rows else filter p rows) (same row)
-    ∙ ap (λ kept. if q row then row ∷ kept else kept) (kept_same p q same rows)
+kept_same = search rules
 
 -- the number of schedules that call at a place equals the number of live rows that pass the test `is_call_at`
 pub count_is : (state : State) → IsValid state → (place : List ℕ) (count : ℕ) → IsCallingCount (live_table state) place count

@@ -1,15 +1,14 @@
 -- The text that the code writes equals the text that lists what an office knows.
-use Rattle.std.proofs.Common.{◌≡◌, ℕ, ◌<◌, List, ◌++◌, ap, ◌∙◌, subst, Some, None}
-use Rattle.std.specs.Prelude.{Option, IfSome, codes, option_map}
-use Rattle.std.proofs.lemmas.List.Elements.{All-contains}
+use Rattle.std.proofs.Common.{◌≡◌, ℕ, ◌<◌, List, subst, rules}
+use Rattle.std.specs.Prelude.{Option, IfSome, option_map}
 use Rattle.docker_model.specs.file.Change as model
 use Rattle.docker_model.specs.state.Op as ops
 use Rattle.docker_model.specs.state.Stamp.{FileStamp, IsFloor}
-use Rattle.docker_model.specs.state.State.{State, IsGoodItem, IsValid}
+use Rattle.docker_model.specs.state.State.{State, IsValid}
 use Rattle.docker_join.specs.declared.stamp.FileStamp as stamps
 use Rattle.docker_join.specs.Meaning.{file_stamp_meant}
 use Rattle.docker_state.specs.Live.{live_rows}
-use Rattle.docker_model.specs.lists.KnownText.{IsKnownText, count_line, full_line, horizon_line, last_day_line}
+use Rattle.docker_model.specs.lists.KnownText.{IsKnownText}
 use Rattle.state_lists.specs.Tallies.{IsTallyOf, known_lines}
 use Rattle.state_lists.specs.declared.tally.Tally.{Tally}
 use Rattle.state_lists.proofs.Counts.{rows_are}
@@ -17,10 +16,7 @@ use Rattle.state_lists.proofs.Counts.{rows_are}
 -- the minute in the stamp of a valid state's newest full extract is below 1440
 pub minute_of_full : (state : State) → IsValid state → (full : Option stamps.FileStamp) → IsFloor state.ledger (option_map file_stamp_meant full)
     → IfSome full (λ stamp. stamp.minute < 1440)
-minute_of_full state valid None is = tt
-minute_of_full state valid (Some stamp) is =
-    let good = All-contains IsGoodItem state.ledger is.full valid.ledger.each is.among in
-    subst (λ minute. minute < 1440) (ap (λ (it : FileStamp). it.moment.minute) is.stamped) good.minute
+minute_of_full = search rules
 
 module _ (state : State) (valid : IsValid state) (entries : List (model.Key × ops.Entry)) (are : entries ≡ state.entries) (horizon : ℕ)
     (horizon_is : horizon ≡ state.horizon) (full : Option FileStamp) (is_full : IsFloor state.ledger full) (tally : Tally)
@@ -30,13 +26,4 @@ module _ (state : State) (valid : IsValid state) (entries : List (model.Key × o
 
   -- the lines made from a tally of all live rows form the text that lists what the office knows
   pub is_known : IsKnownText state bytes
-  is_known = record {
-    full = full;
-    is_full = is_full;
-    rows = live_rows state.entries;
-    are = rows_are state valid;
-    last = tally.last;
-    is_last = of_all.last;
-    text_is = is ∙ (λ i. horizon_line (horizon_is i) ++ full_line full ++ last_day_line tally.last ++ count_line (codes "SCHEDULES   ") (of_all.schedules i)
-        ++ count_line (codes "ASSOCIATIONS") (of_all.associations i) ++ count_line (codes "PLACES      ") (of_all.places i));
-  }
+  is_known = search (rules, rows_are, of_all)

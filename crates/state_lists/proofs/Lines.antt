@@ -1,11 +1,11 @@
 -- The list of a state's timing points is the concatenation of the lines of all entries.
-use Rattle.std.proofs.Common.{◌≡◌, List, ℕ, [], ◌∷◌, ◌++◌, map, refl, ap, sym, ◌∙◌}
+use Rattle.std.proofs.Common.{◌≡◌, List, ℕ, [], ◌∷◌, map, refl, ap, sym, ◌∙◌, arith, rules}
 use Rattle.std.specs.Prelude.{Option}
 use Rattle.std.specs.List.{flat_map}
 use Rattle.std.proofs.lemmas.List.Folds.{flat_map-map}
 use Rattle.cif_device.specs.Device.{Takes, TakesPart}
 use Rattle.docker_model.specs.file.Change.{Key, tiploc_key, Body, tiploc_body}
-use Rattle.docker_model.specs.state.Op.{Op, deleted, lapsed, put_with, Entry}
+use Rattle.docker_model.specs.state.Op.{Entry}
 use Rattle.docker_model.specs.state.State.{State, IsValid, live_table}
 use Rattle.cif_change.specs.declared.key.Key.{Key as Kept}
 use Rattle.docker_join.specs.declared.entry.Entry.{Entry as Held}
@@ -13,10 +13,10 @@ use Rattle.docker_join.specs.Meaning.{row_meant}
 use Rattle.docker_model.specs.docker.DockerText.{ended}
 use Rattle.state_index.specs.Counts.{IsCallingCount}
 use Rattle.docker_model.specs.state.Row.{Row}
-use Rattle.docker_state.specs.Live.{put_before, live_rows}
+use Rattle.docker_state.specs.Live.{live_rows}
 use Rattle.state_lists.specs.Gained.{Gains, GainsPart}
 use Rattle.docker_model.specs.lists.PlacesText.{IsPlacesText, place_line, place_text, places_text}
-use Rattle.state_lists.specs.RowLines.{line_by, row_line}
+use Rattle.state_lists.specs.RowLines.{row_line}
 use Rattle.state_lists.proofs.Counts.{count_is, rows_are}
 
 -- the line for a row of the code's type. `rows` are all live rows
@@ -28,14 +28,7 @@ kept_line rows row = row_line rows (row_meant row)
 lines_are : (rows : List Row) (entries : List (Key × Entry))
     → flat_map (row_line rows) entries ≡ flat_map (λ (row : Row). place_line rows row.0 row.1) (live_rows entries)
 lines_are rows [] = refl
-lines_are rows (entry ∷ entries) = by entry.1.op (lines_are rows entries)
-  where
-    by : (op : Op) → flat_map (row_line rows) entries ≡ flat_map (λ (row : Row). place_line rows row.0 row.1) (live_rows entries)
-        → line_by rows entry.0 op ++ flat_map (row_line rows) entries
-        ≡ flat_map (λ (row : Row). place_line rows row.0 row.1) (put_before entry.0 op (live_rows entries))
-    by deleted rest = rest
-    by lapsed rest = rest
-    by (put_with body) rest = ap (λ bytes. place_line rows entry.0 body ++ bytes) rest
+lines_are rows (entry ∷ entries) = grind (arith, (lines_are rows entries))
 
 module _ (state : State) (valid : IsValid state) (rows : List (Kept × Held)) (are : map row_meant rows ≡ state.entries) where
   text_is : flat_map (kept_line (live_rows state.entries)) rows ≡ places_text (live_rows state.entries)
@@ -55,9 +48,8 @@ module _ (state : State) (valid : IsValid state) (rows : List (Kept × Held)) (a
   -- list of timing points
   pub list_begun : (old new : Option (List ℕ)) → TakesPart old (flat_map (kept_line (live_rows state.entries)) rows) new
       → GainsPart (IsPlacesText (live_table state)) old new
-  list_begun old new taken = record { text = flat_map (kept_line (live_rows state.entries)) rows; is = is_text; gained = taken }
+  list_begun = search (rules, is_text)
 
--- the line that is written for a timing point equals the result of `place_line` for the timing
 -- point's key and body
 pub line_is : (state : State) → IsValid state → (key : Key) (body : Body) (code details : List ℕ) (count : ℕ) (bytes : List ℕ)
     → key ≡ tiploc_key code → body ≡ tiploc_body details → IsCallingCount (live_table state) code count

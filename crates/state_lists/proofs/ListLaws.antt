@@ -1,7 +1,7 @@
 -- A live table has only one list of timing points. For each state there is only one text that lists what an office with this state knows.
 use Rattle.std.proofs.Common.{◌≡◌, ℕ, ◌≤◌, List, refl, ap, sym, ◌∙◌, subst, Contains, Some, None, arith}
 use Rattle.std.specs.Prelude.{Option}
-use Rattle.docker_model.specs.state.State.{State, live_table}
+use Rattle.docker_model.specs.state.State.{State}
 use Rattle.docker_model.specs.state.Table.{Table}
 use Rattle.cif_laws.proofs.lists.Membership.{nil-Contains}
 use Rattle.state_laws.proofs.states.OneJoin.{floor_unique}
@@ -11,8 +11,7 @@ use Rattle.docker_model.specs.lists.PlacesText.{IsPlacesText, places_text}
 use Rattle.state_lists.proofs.Counts.{one_rows}
 
 pub one_places : (live : Table) (text other : List ℕ) → IsPlacesText live text → IsPlacesText live other → text ≡ other
-one_places live text other one two =
-    one.text_is ∙ ap places_text (one_rows live one.rows two.rows one.are two.are) ∙ sym two.text_is
+one_places live text other one two = one.text_is ∙ ap places_text (one_rows _ _ _ one.are two.are) ∙ sym two.text_is
 
 -- a list of numbers has at most one greatest number
 one_greatest : (numbers : List ℕ) (first second : Option ℕ) → IsGreatest numbers first → IsGreatest numbers second → first ≡ second
@@ -26,15 +25,13 @@ one_greatest numbers (Some a) (Some b) one two =
     ap Some same
 
 pub one_known : (state : State) (text other : List ℕ) → IsKnownText state text → IsKnownText state other → text ≡ other
-one_known state text other one two =
-    one.text_is ∙ (λ i. known_text state.horizon (fulls i) (lasts i) (rows i)) ∙ sym two.text_is
+one_known state text other one two = one.text_is ∙ (λ i. known_text state.horizon (fulls i) (lasts i) (rows i)) ∙ sym two.text_is
   where
     fulls : one.full ≡ two.full
-    fulls = floor_unique state.ledger state.ledger (λ item. (λ among. among, λ among. among)) one.full two.full one.is_full two.is_full
+    fulls = floor_unique _ _ (λ item. (λ among. among, λ among. among)) _ _ one.is_full two.is_full
 
     rows : one.rows ≡ two.rows
-    rows = one_rows (live_table state) one.rows two.rows one.are two.are
+    rows = one_rows _ _ _ one.are two.are
 
     lasts : one.last ≡ two.last
-    lasts =
-        one_greatest (ends_of two.rows) one.last two.last (subst (λ (it : List Row). IsGreatest (ends_of it) one.last) rows one.is_last) two.is_last
+    lasts = one_greatest _ _ _ (subst (λ (it : List Row). IsGreatest (ends_of it) one.last) rows one.is_last) two.is_last

@@ -1,15 +1,15 @@
 -- How a tally changes with each row of a walk.
-use Rattle.std.proofs.Common.{◌≡◌, ℕ, suc, ◌+◌, ◌^◌, ◌<◌, ◌≤◌, List, [], ◌∷◌, ◌++◌, length, take, map, get_or, refl, ap, sym, ◌∙◌}
-use Rattle.std.proofs.Common.{subst, inl, inr, ◌⊎◌, Bool, true, false, cond, Contains, Some, None, arith, append-nil, length-append}
-use Rattle.std.specs.Prelude.{Option, filter, ◌==◌}
-use Rattle.std.specs.List.{cons_option}
+use Rattle.std.proofs.Common.{◌≡◌, ℕ, ◌+◌, ◌^◌, ◌<◌, ◌≤◌, List, [], ◌∷◌, ◌++◌, length, take, map, get_or, refl, ap, sym, ◌∙◌, rules}
+use Rattle.std.proofs.lemmas.Grind.{common_steps}
+use Rattle.std.proofs.Common.{subst, inl, inr, ◌⊎◌, cond, Contains, Some, None, arith, append-nil, length-append}
+use Rattle.std.specs.Prelude.{Option, ◌==◌}
 use Rattle.std.proofs.Math.ListN.{drop_of_length-le}
 use Rattle.std.proofs.Math.Seq.{take-suc}
 use Rattle.std.proofs.lemmas.List.{map-append, length-map, length-take, take-append-drop}
 use Rattle.std.proofs.lemmas.List.Sums.{length-filter, count_by-le-length}
 use Rattle.std.proofs.lemmas.List.Elements.{Contains-append_left, Contains-append_right, Contains-append_cases, filter-append, filter_map-append}
 use Rattle.docker_model.specs.file.Change.{Key, tiploc_key, association_key, schedule_key, Body}
-use Rattle.docker_model.specs.state.Op.{Op, deleted, lapsed, put_with, Entry, key_tag, body_end}
+use Rattle.docker_model.specs.state.Op.{Op, Entry, key_tag, body_end}
 use Rattle.cif_laws.proofs.lists.Membership.{cons-Contains-first, Contains-single}
 use Rattle.cif_change.specs.declared.key.Key.{Key as Kept}
 use Rattle.docker_join.specs.declared.entry.Entry.{Entry as Held}
@@ -26,27 +26,11 @@ use Rattle.state_lists.specs.declared.tally.Tally.{Tally}
 abbrev one_if : ℕ → Key → ℕ
 one_if tag key = cond (key_tag key == tag) 1 0
 
--- the list whose only row is this key with its body
-abbrev one_row : Key → Body → List Row
-one_row key body = (key, body) ∷ []
-
 count_more : (tag : ℕ) (rows : List Row) (key : Key) (body : Body) → count_of tag (rows ++ (key, body) ∷ []) ≡ count_of tag rows + one_if tag key
-count_more tag rows key body =
-    ap length (filter-append (λ (row : Row). key_tag row.0 == tag) rows (one_row key body))
-    ∙ length-append (filter (λ (row : Row). key_tag row.0 == tag) rows) (filter (λ (row : Row). key_tag row.0 == tag) (one_row key body))
-    ∙ ap (λ n. count_of tag rows + n) (by (key_tag key == tag))
-  where
-    by : (b : Bool) → ◌≡◌ {A = ℕ} (length (cond b (one_row key body) [])) (cond b 1 0)
-    by true = refl
-    by false = refl
+count_more = search (rules, filter-append, length-append)
 
 ends_more : (rows : List Row) (key : Key) (body : Body) → ends_of (rows ++ (key, body) ∷ []) ≡ with_day (ends_of rows) (end_of key body)
-ends_more rows key body =
-    filter_map-append (λ (row : Row). end_of row.0 row.1) rows (one_row key body) ∙ by (end_of key body)
-  where
-    by : (o : Option ℕ) → ends_of rows ++ cons_option o [] ≡ with_day (ends_of rows) o
-    by None = append-nil (ends_of rows)
-    by (Some day) = refl
+ends_more = search (rules, filter_map-append, append-nil)
 
 -- the lemmas for a correct tally of the rows `rows`, when one more row is counted
 module _ (rows : List Row) (tally : Tally) (body : Body) (is : IsTallyOf rows tally) where
@@ -57,25 +41,13 @@ module _ (rows : List Row) (tally : Tally) (body : Body) (is : IsTallyOf rows ta
   next_count tag count key told one = let more = count_more tag rows key body in omega arith
 
   pub with_place : (key : Key) → ◌≡◌ {A = ℕ} (key_tag key) 1 → IsTallyOf (rows ++ (key, body) ∷ []) (record tally { places = tally.places + 1 })
-  with_place (tiploc_key code) told = record {
-    schedules = same_count 3 tally.schedules (tiploc_key code) is.schedules refl;
-    associations = same_count 2 tally.associations (tiploc_key code) is.associations refl;
-    places = next_count 1 tally.places (tiploc_key code) is.places refl;
-    last = subst (λ days. IsGreatest days tally.last) (sym (ends_more rows (tiploc_key code) body)) is.last;
-  }
-  with_place (association_key key) told = absurd (omega (arith, told))
-  with_place (schedule_key key) told = absurd (omega (arith, told))
+  with_place (tiploc_key code) told = search (rules, same_count, next_count, ends_more)
+  with_place _ told = absurd (omega (arith, told))
 
   pub with_association : (key : Key) → ◌≡◌ {A = ℕ} (key_tag key) 2
       → IsTallyOf (rows ++ (key, body) ∷ []) (record tally { associations = tally.associations + 1 })
-  with_association (association_key key) told = record {
-    schedules = same_count 3 tally.schedules (association_key key) is.schedules refl;
-    associations = next_count 2 tally.associations (association_key key) is.associations refl;
-    places = same_count 1 tally.places (association_key key) is.places refl;
-    last = subst (λ days. IsGreatest days tally.last) (sym (ends_more rows (association_key key) body)) is.last;
-  }
-  with_association (tiploc_key code) told = absurd (omega (arith, told))
-  with_association (schedule_key key) told = absurd (omega (arith, told))
+  with_association (association_key key) told = search (rules, same_count, next_count, ends_more)
+  with_association _ told = absurd (omega (arith, told))
 
   pub with_schedule : (key : Key) → ◌≡◌ {A = ℕ} (key_tag key) 3 → (end last : Option ℕ) → end ≡ day_in (body_end body)
       → ((days : List ℕ) → IsGreatest days tally.last → IsGreatest (with_day days end) last)
@@ -88,9 +60,7 @@ module _ (rows : List Row) (tally : Tally) (body : Body) (is : IsTallyOf rows ta
         (later (ends_of rows) is.last);
   }
   with_schedule (tiploc_key code) told end last end_is later = absurd (omega (arith, told))
-  with_schedule (association_key key) told end last end_is later = absurd (omega (arith, told))
-
--- ---- the greater of two days
+  with_schedule (association_key key) told end last end_is later = cc
 
 -- the lemmas for a list of days whose greatest day is `one`, when the day `other` is added
 module _ (days : List ℕ) (one other : ℕ) (is : IsGreatest days (Some one)) where
@@ -103,12 +73,11 @@ module _ (days : List ℕ) (one other : ℕ) (is : IsGreatest days (Some one)) w
       by day (inr last) = let same : other ≡ day = Contains-single other day last in omega arith
 
   later_stays : other ≤ one → IsGreatest (days ++ other ∷ []) (Some one)
-  later_stays below =
-      (Contains-append_left days (other ∷ []) one is.0, λ day among. by day (Contains-append_cases days (other ∷ []) day among))
+  later_stays below = (Contains-append_left days (other ∷ []) one is.0, λ day among. by day (Contains-append_cases days (other ∷ []) day among))
     where
       by : (day : ℕ) → Contains days day ⊎ Contains (other ∷ []) day → day ≤ one
       by day (inl inside) = is.1 day inside
-      by day (inr last) = let same : other ≡ day = Contains-single other day last in omega arith
+      by day (inr last) = let same : other ≡ day = Contains-single _ _ last in omega arith
 
 -- if the day that is added isn't earlier than the greatest day of the list, the added day is the
 -- greatest
@@ -127,76 +96,38 @@ pub one_alone : (days : List ℕ) (first second : Option ℕ) (one : ℕ) → fi
 one_alone days first second one first_is second_is is =
     subst (λ o. IsGreatest (with_day days o) (Some one)) (sym second_is) (subst (IsGreatest days) first_is is)
 
--- if the list has no days yet, the day that is added, if any, is the greatest
-pub first_day : (days : List ℕ) (first second : Option ℕ) → first ≡ None → IsGreatest days first → IsGreatest (with_day days second) second
-first_day days first second first_is is = by second (subst (IsGreatest days) first_is is)
-  where
-    by : (second : Option ℕ) → days ≡ [] → IsGreatest (with_day days second) second
-    by None none = none
-    by (Some day) none =
-        subst (λ (before : List ℕ). IsGreatest (before ++ day ∷ []) (Some day)) (sym none)
-        (cons-Contains-first day [], λ other among. let same : day ≡ other = Contains-single day other among in omega arith)
-
 -- ---- the tally of a state's first rows
 
 live_append : (xs ys : List (Key × Entry)) → live_rows (xs ++ ys) ≡ live_rows xs ++ live_rows ys
 live_append [] ys = refl
-live_append (x ∷ xs) ys = by x.1.op (live_append xs ys)
-  where
-    by : (op : Op) → live_rows (xs ++ ys) ≡ live_rows xs ++ live_rows ys
-        → put_before x.0 op (live_rows (xs ++ ys)) ≡ put_before x.0 op (live_rows xs) ++ live_rows ys
-    by deleted rest = rest
-    by lapsed rest = rest
-    by (put_with body) rest = ap (λ (zs : List Row). (x.0, body) ∷ zs) rest
+live_append (x ∷ xs) ys = grind (arith, (live_append xs ys))
 
 live_few : (entries : List (Key × Entry)) → length (live_rows entries) ≤ length entries
 live_few [] = omega arith
-live_few (entry ∷ entries) = by entry.1.op (live_few entries)
-  where
-    by : (op : Op) → length (live_rows entries) ≤ length entries → length (put_before entry.0 op (live_rows entries)) ≤ suc (length entries)
-    by deleted rest = omega arith
-    by lapsed rest = omega arith
-    by (put_with body) rest = omega arith
+live_few (entry ∷ entries) = grind (arith, (live_few entries))
 
 -- the live rows among the first `i` rows
 abbrev pub live_up_to : ℕ → List (Kept × Held) → List Row
 live_up_to i rows = live_rows (map row_meant (take i rows))
 
 count_few : (tag i : ℕ) (rows : List (Kept × Held)) → count_of tag (live_up_to i rows) ≤ length rows
-count_few tag i rows =
-    let test : Row → Bool = λ row. key_tag row.0 == tag in
-    let passed = length-filter test (live_up_to i rows) in
-    let most = count_by-le-length test (live_up_to i rows) in
-    let live = live_few (map row_meant (take i rows)) in
-    let size = length-map (take i rows) row_meant in
-    let front = length-take i rows in
-    omega arith
+count_few = search (rules, length-filter, count_by-le-length, live_few, length-map, length-take)
 
 -- if there are fewer than 2^63 rows, each count in the tally of the first `i` rows is below 2^63
 pub are_few : (i : ℕ) (rows : List (Kept × Held)) (tally : Tally) → IsTallyOf (live_up_to i rows) tally → length rows < 2 ^ 63 → AreFew tally
-are_few i rows tally is short = record {
-  schedules = (let most = count_few 3 i rows in let told = is.schedules in omega arith);
-  associations = (let most = count_few 2 i rows in let told = is.associations in omega arith);
-  places = (let most = count_few 1 i rows in let told = is.places in omega arith);
-}
+are_few = search (rules, count_few)
 
 -- the live rows among the first `i + 1` rows are the live rows among the first `i` rows, followed
 -- by the next row if it is live
 pub live_more : (rows : List (Kept × Held)) (i : ℕ) (row : Kept × Held) → i < length rows → row ≡ get_or rows i row
     → live_up_to (i + 1) rows ≡ live_up_to i rows ++ live_rows (row_meant row ∷ [])
-live_more rows i row below at =
-    let following : suc i ≡ i + 1 = omega arith in
-    ap (λ n. live_up_to n rows) (sym following) ∙ ap (λ (front : List (Kept × Held)). live_rows (map row_meant front)) (take-suc rows i row below)
-    ∙ ap live_rows (map-append row_meant (take i rows) (get_or rows i row ∷ []))
-    ∙ live_append (map row_meant (take i rows)) (map row_meant (get_or rows i row ∷ []))
-    ∙ ap (λ (it : Kept × Held). live_up_to i rows ++ live_rows (row_meant it ∷ [])) (sym at)
+live_more = grind (common_steps, arith, take-suc, map-append, live_append)
 
 -- if a tally is correct after a row's key and op are counted, it is also correct after the row is
 -- counted
 pub with_op : (before : List Row) (row : Kept × Held) (op : Op) (tally : Tally) → op_meant row.1.op ≡ op
     → IsTallyOf (before ++ put_before (row_meant row).0 op []) tally → IsTallyOf (before ++ live_rows (row_meant row ∷ [])) tally
-with_op before row op tally is told =
-    subst (λ (o : Op). IsTallyOf (before ++ put_before (row_meant row).0 o []) tally) (sym is) told
+with_op = search rules
 
 pub with_none : (before : List Row) (tally : Tally) → IsTallyOf before tally → IsTallyOf (before ++ []) tally
 with_none before tally told = subst (λ (all : List Row). IsTallyOf all tally) (sym (append-nil before)) told
@@ -204,10 +135,7 @@ with_none before tally told = subst (λ (all : List Row). IsTallyOf all tally) (
 -- after the last row, the tally counts all rows
 pub tally_all : (rows : List (Kept × Held)) (i : ℕ) (tally : Tally) → length rows ≤ i → IsTallyOf (live_up_to i rows) tally
     → IsTallyOf (live_rows (map row_meant rows)) tally
-tally_all rows i tally end is = subst (λ (all : List (Kept × Held)). IsTallyOf (live_rows (map row_meant all)) tally) all is
-  where
-    all : take i rows ≡ rows
-    all = sym (append-nil (take i rows)) ∙ ap (λ (rest : List (Kept × Held)). take i rows ++ rest) (sym (drop_of_length-le rows end)) ∙ take-append-drop i rows
+tally_all = grind (common_steps, arith, append-nil, drop_of_length-le, take-append-drop)
 
 -- before the first row, the correct tally has only zeros and no last day
 pub no_rows : (rows : List (Kept × Held)) → IsTallyOf (live_up_to 0 rows) (record { schedules = 0; associations = 0; places = 0; last = None })

@@ -15,8 +15,7 @@ loop-row-init c = record { counted = no_rows c.args.rows.now }
 
 pub loop-row-preserved : goal.loop-row-preserved
 loop-row-preserved c = record {
-  counted = subst (λ (all : List Row). IsTallyOf all c.with_row-tally.result)
-      (sym (live_more c.args.rows.now c.loop-row.row-index c.row-item.result c.loop-row-test.true c.row-item.is))
+  counted = subst (λ (all : List Row). IsTallyOf all c.with_row-tally.result) (sym (live_more _ _ _ c.loop-row-test.true c.row-item.is))
       (c.with_row-tally.ensures (live_up_to c.loop-row.row-index c.args.rows.now) c.loop-row.invariant.counted);
 }
 
