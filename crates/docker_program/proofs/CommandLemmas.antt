@@ -1,11 +1,10 @@
 -- What the office of a command knows follows from what the command's sources held.
-use Rattle.std.proofs.Common.{◌≡◌, ◌≤◌, ◌<◌, ◌^◌, ℕ, List, [], ◌∷◌, Some, None, length, refl, sym, ◌∙◌, ap, subst, arith, append-nil}
-use Rattle.std.specs.Prelude.{max, Option}
+use Rattle.std.proofs.Common.{◌≡◌, ◌≤◌, ◌<◌, ◌^◌, ℕ, List, [], ◌∷◌, Some, None, length, refl, sym, ◌∙◌, subst, arith, append-nil, rules}
+use Rattle.std.specs.Prelude.{Option}
 use Rattle.std.proofs.lemmas.List.Elements.{All-cons, All-nil}
 use Rattle.cif_laws.proofs.lists.Membership.{nil-Contains}
 use Rattle.docker_model.specs.records.Date.{IsDay}
 use Rattle.docker_model.specs.file.File.{IsFile, most_records}
-use Rattle.docker_model.specs.file.Text.{lines_of}
 use Rattle.docker_model.specs.state.Lapse.{IsDayRefused}
 use Rattle.docker_model.specs.state.State.{State, IsJoin, raise_horizon}
 use Rattle.docker_model.specs.state.StateFault.{IsStateText}
@@ -56,8 +55,7 @@ one_sent format known sent state text good is told reads =
 -- if a source held the text of a summary, the state read from the source is that summary
 pub state_held : (format : Format) (known : Known) (bytes : Bytes) (state : State) → HoldsKnown format bytes known → ReadsState format most_bytes bytes state
     → IsStateOf known state
-state_held format known bytes state holds reads =
-    subst (IsStateOf known) (one_sent format known holds.2.is.0 state holds.0 holds.2.good holds.2.is.1 holds.2.is.2
+state_held format known bytes state holds reads = subst (IsStateOf known) (one_sent _ _ _ _ _ holds.2.good holds.2.is.1 holds.2.is.2
     (subst (λ (t : List ℕ). IsStateText format most_bytes t state) (sym same) reads.is)) holds.2.is.1
   where
     same : holds.0 ≡ reads.text
@@ -75,9 +73,7 @@ known_held known bytes state holds reads = record {
 -- the file that was read from a source is the file that the source held
 pub file_held : (bytes : Bytes) (file : List (List ℕ)) (old new : State) (holds : HoldsFile bytes file) (takes : TakesFile most_records bytes old new)
     → takes.file ≡ file
-file_held bytes file old new holds takes =
-    let same : holds.0 ≡ takes.text = subst (λ (b : Bytes). Held b takes.text) holds.1 takes.held in
-    sym takes.is_text.lines ∙ ap lines_of (sym same) ∙ holds.2.lines
+file_held = search rules
 
 -- ---- what is known after each step
 
@@ -91,11 +87,7 @@ known_joined old heard own other after first second join = record {
 
 -- after a horizon is set, the state is the summary of what was known before and of the horizon
 pub known_raised : (old : Known) (day : ℕ) (state : State) → IsDay day → IsKnown old state → IsKnown (united old (of_horizon day)) (raise_horizon day state)
-known_raised old day state is_day known = record {
-  good = united_good dks_2 old (of_horizon day) known.good (horizon_good dks_2 day is_day);
-  is = subst (λ fs. IsSummary fs (max old.horizon day) (raise_horizon day state)) (sym (append-nil old.files))
-      (raised_summary old.files old.horizon day state known.is);
-}
+known_raised = search (rules, united_good, horizon_good, append-nil, raised_summary)
 
 -- if an office's state is the summary of one file under the horizon 0, this file and this horizon
 -- are what the office knows
@@ -111,25 +103,11 @@ known_file file state is few summary = record {
 
 -- `no_state` is the summary of `nothing`: no files and no horizon
 pub known_nothing : IsKnown nothing no_state
-known_nothing = record {
-  good = nothing_good dks_2;
-  is = record {
-    horizon_is = refl;
-    floor = None;
-    is_floor = λ item among. absurd (nil-Contains item among);
-    ledger_ascends = tt;
-    ledger = λ item. (λ among. absurd (nil-Contains item among), λ told. absurd (nil-Contains told.0 told.1.among));
-    entries_ascend = tt;
-    entries = λ key entry. (λ among. absurd (nil-Contains (key, entry) among), λ told. absurd (nil-Contains told.1.is.file told.1.is.kept.among));
-  };
-}
+known_nothing = search (rules, nothing_good, nil-Contains)
 
 -- if a state is the summary of what is known, its text is the text of this summary
 pub known_text : (known : Known) (state : State) (text : List ℕ) → IsKnown known state → text ≡ state_text dks_2 state → IsKnownText dks_2 known text
-known_text known state text is same = record {
-  good = is.good;
-  is = (state, is.is, same);
-}
+known_text = search rules
 
 -- ---- what a command writes, given what it knows
 
@@ -137,19 +115,16 @@ known_text known state text is same = record {
 -- file
 taken_alone : (bytes : Bytes) (file : List (List ℕ)) (state : State) → HoldsFile bytes file → TakesFile most_records bytes no_state state
     → IsKnown (of_file file) state
-taken_alone bytes file state holds takes =
-    subst (λ (f : List (List ℕ)). IsKnown (of_file f) state) (file_held bytes file no_state state holds takes)
-    (known_joined nothing (of_file takes.file) no_state takes.own state known_nothing
-    (known_file takes.file takes.own takes.is_text.is takes.is_text.within takes.of_file) takes.joined)
+taken_alone bytes file state holds takes = subst (λ (f : List (List ℕ)). IsKnown (of_file f) state) (file_held bytes _ no_state _ holds takes)
+    (known_joined _ (of_file takes.file) _ takes.own _ known_nothing
+    (known_file takes.file _ takes.is_text.is takes.is_text.within takes.of_file) takes.joined)
 
 -- if an office takes a file, the office's state becomes the summary of what the office knew before
 -- and of that file
 pub taken_behind : (own : Known) (bytes : Bytes) (file : List (List ℕ)) (old new : State) → IsKnown own old → HoldsFile bytes file
     → TakesFile most_records bytes old new → IsKnown (united own (of_file file)) new
-taken_behind own bytes file old new is holds takes =
-    subst (λ (f : List (List ℕ)). IsKnown (united own (of_file f)) new) (file_held bytes file old new holds takes)
-    (known_joined own (of_file takes.file) old takes.own new is
-    (known_file takes.file takes.own takes.is_text.is takes.is_text.within takes.of_file) takes.joined)
+taken_behind own bytes file old new is holds takes = subst (λ (f : List (List ℕ)). IsKnown (united own (of_file f)) new) (file_held bytes _ old _ holds takes)
+    (known_joined _ (of_file takes.file) _ takes.own _ is (known_file takes.file _ takes.is_text.is takes.is_text.within takes.of_file) takes.joined)
 
 -- if a source held the text of a summary in the format `DKS1`, the state read from the source is
 -- that summary
@@ -164,13 +139,7 @@ known_older known bytes state holds reads = record {
 -- is known
 known_docker : (known : Known) (state : State) (place : List ℕ) (day : ℕ) (text : List ℕ) → IsKnown known state → ¬ IsDayRefused state.horizon day
     → IsOutputText (output_of (print_task place day)) (office_read state) text → PrintsKnown known place day text
-known_docker known state place day text is allowed text_is = record {
-  good = is.good;
-  allowed = subst (λ (h : ℕ). ¬ IsDayRefused h day) is.is.horizon_is allowed;
-  state = state;
-  is = is.is;
-  docker = text_is;
-}
+known_docker = search rules
 
 -- if a job writes a text from a state, this text is made from what the job's office knows. It is
 -- the text of the summary of this knowledge, a docker of this summary, or the list of the known
@@ -179,9 +148,7 @@ written_of_state : (task : TaskView) (first second : Bytes) (state : State) (tex
     → ((day : ℕ) → task ≡ horizon_task day → IsDay day) → IsReadOf task first second (office_read state)
     → IsOutputText (output_of task) (office_read state) text → ¬ IsRefusedDocker (output_of task) (office_read state)
     → Knows task first second known → WritesKnown task known text
-written_of_state new_task first second state text known days reads is allowed knows =
-    known_text known state text
-    (subst (λ (k : Known). IsKnown k state) (sym knows) (subst (IsKnown nothing) (sym reads) known_nothing)) is
+written_of_state new_task first second state text known days reads is allowed knows = search (rules, known_text, known_nothing)
 written_of_state check_task first second state text known days reads is allowed knows = tt
 written_of_state (day_task place day) first second state text known days reads is allowed knows =
     known_docker known state place day text
@@ -195,8 +162,7 @@ written_of_state merge_task first second state text known days reads is allowed 
     (subst (λ (k : Known). IsKnown k state) (sym knows.4)
     (known_joined knows.0 knows.1 reads.own reads.joins.received state (known_held knows.0 first reads.own knows.2 reads.reads)
     (known_held knows.1 second reads.joins.received knows.3 reads.joins.read) reads.joins.join)) is
-written_of_state (print_task place day) first second state text known days reads is allowed knows =
-    known_docker known state place day text (known_held known first state knows reads) allowed is
+written_of_state (print_task place day) first second state text known days reads is allowed knows = search (rules, known_docker, known_held)
 written_of_state files_task first second state text known days reads is allowed knows =
     (state, (known_held known first state knows reads).is, is)
 written_of_state (horizon_task day) first second state text known days reads is allowed knows =
@@ -204,8 +170,7 @@ written_of_state (horizon_task day) first second state text known days reads is 
     (subst (λ (k : Known). IsKnown k state) (sym knows.2)
     (subst (IsKnown (united knows.0 (of_horizon day))) (sym reads.raised)
     (known_raised knows.0 day reads.own (days day refl) (known_held knows.0 first reads.own knows.1 reads.reads)))) is
-written_of_state migrate_task first second state text known days reads is allowed knows =
-    known_text known state text (known_older known first state knows reads) is
+written_of_state migrate_task first second state text known days reads is allowed knows = search (rules, known_text, known_older)
 
 -- only `check` reads a file without making a state, and `WritesKnown` allows any text as the output
 -- of `check`
@@ -219,51 +184,28 @@ written_known : (task : TaskView) (first second : Bytes) (what : ReadView) (text
     → IsOutputText (output_of task) what text → ¬ IsRefusedDocker (output_of task) what
     → Knows task first second known → WritesKnown task known text
 written_known task first second (file_read file) text known days reads is allowed knows = written_of_file task known text reads.0
-written_known task first second (office_read state) text known days reads is allowed knows =
-    written_of_state task first second state text known days reads is allowed knows
+written_known task first second (office_read state) text known days reads is allowed knows = search (rules, written_of_state)
 
 -- the words of a requested job name the job's task
 asked_words : (words : List Text) (input rest : Bytes) (job : JobView) → AsksFor words input job rest → AreWordsOf job.task job.words
-asked_words [] input rest job asks = asks.2.required
-asked_words (word ∷ words) input rest job asks = asks.0.required
+asked_words = search rules
 
 -- the day that a `horizon` command names is a valid day number
 one_day : (words : List Text) (day : ℕ) → OfTwo (λ state date. NamesStored state × NamesDay date day) words → IsDay day
-one_day [] day of = absurd of
-one_day (word ∷ []) day of = absurd of
-one_day (word ∷ second ∷ []) day of = of.1.within
-one_day (word ∷ second ∷ third ∷ more) day of = absurd of
+one_day = search rules
 
 asked_day : (words : List Text) (input rest : Bytes) (job : JobView) → AsksFor words input job rest → (day : ℕ) → job.task ≡ horizon_task day → IsDay day
-asked_day words input rest job asks day is =
-    one_day job.words day (subst (λ (t : TaskView). AreWordsOf t job.words) is (asked_words words input rest job asks))
+asked_day = search (rules, one_day, asked_words)
 
 -- output that is stored in a file isn't a docker of a refused day
 stored_allowed : (task : TaskView) (words : List Text) (name : Text) (what : ReadView) → file_stored (writes_of task) words ≡ Some name
     → ¬ IsRefusedDocker (output_of task) what
-stored_allowed task words name (file_read file) stored = λ refused. refused
-stored_allowed new_task words name (office_read state) stored = λ refused. refused
-stored_allowed check_task words name (office_read state) stored = λ refused. refused
-stored_allowed (day_task place day) words name (office_read state) stored = λ refused. absurd (none_some name stored)
-stored_allowed take_task words name (office_read state) stored = λ refused. refused
-stored_allowed merge_task words name (office_read state) stored = λ refused. refused
-stored_allowed (print_task place day) words name (office_read state) stored = λ refused. absurd (none_some name stored)
-stored_allowed files_task words name (office_read state) stored = λ refused. refused
-stored_allowed (horizon_task day) words name (office_read state) stored = λ refused. refused
-stored_allowed migrate_task words name (office_read state) stored = λ refused. refused
+stored_allowed = search (rules, none_some)
 
 -- if a job stores its output, the output is the text of the summary of what the job's office knows
 stored_known : (task : TaskView) (words : List Text) (name : Text) (known : Known) (text : List ℕ) → file_stored (writes_of task) words ≡ Some name
     → WritesKnown task known text → IsKnownText dks_2 known text
-stored_known new_task words name known text stored writes = writes
-stored_known check_task words name known text stored writes = absurd (none_some name stored)
-stored_known (day_task place day) words name known text stored writes = absurd (none_some name stored)
-stored_known take_task words name known text stored writes = writes
-stored_known merge_task words name known text stored writes = writes
-stored_known (print_task place day) words name known text stored writes = absurd (none_some name stored)
-stored_known files_task words name known text stored writes = absurd (none_some name stored)
-stored_known (horizon_task day) words name known text stored writes = writes
-stored_known migrate_task words name known text stored writes = writes
+stored_known = search (rules, none_some)
 
 -- ---- the laws of one command
 
@@ -271,21 +213,18 @@ pub stores_known : (run : Run) (job : JobView) (read : SourcesRead) (text : List
     → Knows job.task read.first read.second known → IsKnownText dks_2 known text
 stores_known run job read text known stores knows =
     let reads = stores.reads in
-    stored_known job.task job.words stores.name known text stores.stored
-    (written_known job.task read.first read.second reads.what text known (asked_day run.words run.old.input reads.rest job reads.asks)
-    reads.is_read reads.is_text (stored_allowed job.task job.words stores.name reads.what stores.stored) knows)
+    stored_known _ _ _ _ _ stores.stored (written_known _ _ _ _ _ _ (asked_day _ _ _ _ reads.asks)
+    reads.is_read reads.is_text (stored_allowed _ _ _ _ stores.stored) knows)
 
 pub may_store_known : (run : Run) (job : JobView) (read : SourcesRead) (text : List ℕ) (known : Known) → MayStore run job read text
     → Knows job.task read.first read.second known → IsKnownText dks_2 known text
 may_store_known run job read text known stores knows =
     let reads = stores.reads in
-    stored_known job.task job.words stores.name known text stores.stored
-    (written_known job.task read.first read.second reads.what text known (asked_day run.words run.old.input reads.rest job reads.asks)
-    reads.is_read reads.is_text (stored_allowed job.task job.words stores.name reads.what stores.stored) knows)
+    stored_known _ _ _ _ _ stores.stored (written_known _ _ _ _ _ _ (asked_day _ _ _ _ reads.asks)
+    reads.is_read reads.is_text (stored_allowed _ _ _ _ stores.stored) knows)
 
 pub prints_known : (run : Run) (job : JobView) (read : SourcesRead) (text : List ℕ) (known : Known) → Prints run job read text
     → Knows job.task read.first read.second known → WritesKnown job.task known text
 prints_known run job read text known prints knows =
     let reads = prints.reads in
-    written_known job.task read.first read.second reads.what text known (asked_day run.words run.old.input reads.rest job reads.asks)
-    reads.is_read reads.is_text prints.allowed knows
+    written_known _ _ _ _ _ _ (asked_day _ _ _ _ reads.asks) reads.is_read reads.is_text prints.allowed knows

@@ -1,8 +1,8 @@
 -- What a command stored or printed follows from how the command ended.
-use Rattle.std.proofs.Common.{◌≡◌, ◌≢◌, ℕ, List, [], ◌∷◌, ◌++◌, Option, None, Some, length, refl}
-use Rattle.std.proofs.Common.{sym, ◌∙◌, ap, subst, arith, inl, inr, append-nil, append_assoc}
-use Rattle.docker_host.specs.Asked.{IsStored, IsUnplaced}
-use Rattle.docker_host.specs.History.{Bytes, Event, looked, opened, unopened, closed, drafted, undrafted, dropped}
+use Rattle.std.proofs.Common.{◌≡◌, ◌≢◌, ℕ, List, [], ◌∷◌, ◌++◌, Option, None, Some, length, refl, rules}
+use Rattle.std.proofs.Common.{sym, ◌∙◌, subst, inl, inr, append-nil, append_assoc}
+use Rattle.docker_host.specs.Asked.{IsStored}
+use Rattle.docker_host.specs.History.{Bytes, Event, looked, drafted, undrafted, dropped}
 use Rattle.docker_office.specs.declared.fault.OfficeFault.TheVariants as office
 use Rattle.docker_cmd.specs.Words.{Text}
 use Rattle.docker_cmd.specs.Job.{JobView}
@@ -11,7 +11,7 @@ use Rattle.docker_cmd.specs.Prepared.{IsOutputText, IsRefusedDocker, PreparedVie
 use Rattle.docker_cmd.specs.declared.fault.Fault.{Fault}
 use Rattle.docker_cmd.specs.declared.fault.Fault.TheVariants.{Job, Office}
 use Rattle.docker_cmd.specs.Tasks.{output_of}
-use Rattle.docker_program.specs.SourceNames.{SourceNames, no_source, standard_input, one_file, file_and_input, two_files, names_of, stored_by}
+use Rattle.docker_program.specs.SourceNames.{SourceNames, stored_by}
 use Rattle.docker_program.specs.Sources.{FailsToOpen, IsNotOpened, IsOpened, SourcesRead, with_files_read, with_look_at}
 use Rattle.docker_program.specs.Writing.{WantsToWrite, WantsToWriteTo, Writes, WritesPart, WritesPartTo, WritesTo, Written}
 use Rattle.docker_program.specs.Program.{AsksFor, EndsBy, FailsToRead, HasRead, IsAsked, WantsMemory, ending_status, from_first_look, reading, writing}
@@ -33,11 +33,7 @@ none_here history = ([], sym (append-nil history), tt)
 
 none_more : (old middle new events : List Event) → NoStoring old middle → new ≡ middle ++ events → AreNoStorings events → NoStoring old new
 unfolding NoStoring
-none_more old middle new events before after none = (
-  before.0 ++ events,
-  after ∙ ap (λ (h : List Event). h ++ events) before.1 ∙ append_assoc old before.0 events,
-  none_append before.0 events before.2 none,
-)
+none_more = search (rules, append_assoc, none_append)
 
 none_same : (old middle new : List Event) → NoStoring old middle → new ≡ middle → NoStoring old new
 none_same old middle new before same = subst (NoStoring old) (sym same) before
@@ -48,24 +44,10 @@ none_looked (Some name) history = none_more history history _ (looked name ∷ [
 
 none_read : (names : SourceNames) (read : SourcesRead) (old history : List Event) → NoStoring old history
     → NoStoring old (with_files_read names read history)
-none_read no_source read old history none = none
-none_read standard_input read old history none = none
-none_read (one_file name) read old history none =
-    none_more old history _ (opened name read.first ∷ closed read.first_left ∷ []) none refl (tt, (tt, tt))
-none_read (file_and_input name) read old history none =
-    none_more old history _ (opened name read.first ∷ closed read.first_left ∷ []) none refl (tt, (tt, tt))
-none_read (two_files name other) read old history none =
-    none_more old history _ (opened name read.first ∷ opened other read.second ∷ closed read.first_left ∷ closed read.second_left ∷ []) none refl
-    (tt, (tt, (tt, (tt, tt))))
+none_read = search (rules, none_more)
 
 none_failed : (names : SourceNames) (old before now : List Event) → NoStoring old before → FailsToOpen names before now → NoStoring old now
-none_failed no_source old before now none fails = absurd fails
-none_failed standard_input old before now none fails = absurd fails
-none_failed (one_file name) old before now none fails = none_more old before now (unopened name ∷ []) none fails (tt, tt)
-none_failed (file_and_input name) old before now none fails = none_more old before now (unopened name ∷ []) none fails (tt, tt)
-none_failed (two_files name other) old before now none (inl fails) = none_more old before now (unopened name ∷ []) none fails (tt, tt)
-none_failed (two_files name other) old before now none (inr fails) =
-    none_more old before now (opened name fails.0 ∷ unopened other ∷ closed fails.0 ∷ []) none fails.1 (tt, (tt, (tt, tt)))
+none_failed = search (rules, none_more)
 
 nothing_stored : (run : Run) → NoStoring run.old.history run.new.history → StoresNothing run
 unfolding NoStoring
@@ -75,17 +57,13 @@ nothing_stored run none = record { events = none.0; history = none.1; none = non
 
 module _ (run : Run) (job : JobView) (rest : Bytes) where
   none_if_opened : (now : List Event) → IsOpened (reading run.old run.new job rest now) job → NoStoring run.old.history now
-  none_if_opened now is =
-      none_same run.old.history _ now
-      (none_read (names_of job) is.read run.old.history _ (none_looked (stored_by job) run.old.history)) is.history
+  none_if_opened = search (rules, none_same, none_read, none_looked)
 
   none_if_unopened : (now : List Event) → IsNotOpened (reading run.old run.new job rest now) job → NoStoring run.old.history now
-  none_if_unopened now fails =
-      none_failed (names_of job) run.old.history _ now (none_looked (stored_by job) run.old.history) fails.fails
+  none_if_unopened now fails = none_failed _ _ _ _ (none_looked _ _) fails.fails
 
   none_if_failed : (now : List Event) → FailsToRead (reading run.old run.new job rest now) job → NoStoring run.old.history now
-  none_if_failed now (inl fails) = none_if_unopened now fails
-  none_if_failed now (inr is) = none_if_opened now is
+  none_if_failed = search (rules, none_if_unopened, none_if_opened)
 
   -- facts about a job that has read its sources
   module _ {Holds : Written → PreparedView → Type 0} (has : HasRead run.old run.new Holds job rest) where
@@ -94,22 +72,10 @@ module _ (run : Run) (job : JobView) (rest : Bytes) where
 
     reads_text : AsksFor run.words run.old.input job rest → (text : List ℕ) → IsOutputText (output_of has.prepared.job.task) has.prepared.read text
         → Reads run job has.is.opened.read text
-    reads_text asks text is = record {
-      rest = rest;
-      asks = asks;
-      others = has.is.opened.others;
-      first_few = has.is.opened.first_few;
-      second_few = has.is.opened.second_few;
-      to_end = has.is.to_end;
-      what = has.prepared.read;
-      is_read = has.is.read;
-      is_text = subst (λ (j : JobView). IsOutputText (output_of j.task) has.prepared.read text) has.is.job_is is;
-    }
+    reads_text = search rules
 
     at_history : has.read ≡ history_read run.old.history job has.is.opened.read
-    at_history = has.is.opened.history
-
--- ---- a command that ended with status 0
+    at_history = cc
 
 done_to : (run : Run) (job : JobView) (rest : Bytes) (stored : Option Text)
     (has : HasRead run.old run.new (Writes (from_first_look run.names_bytes run.old)) job rest) → AsksFor run.words run.old.input job rest
@@ -120,7 +86,7 @@ done_to run job rest None has asks is writes = (
   has.is.opened.read,
   writes.0.text,
   inr (record {
-    reads = reads_text run job rest has asks writes.0.text writes.0.is;
+    reads = reads_text run _ rest has asks writes.0.text writes.0.is;
     unstored = is;
     allowed = subst (λ (j : JobView). ¬ IsRefusedDocker (output_of j.task) has.prepared.read) has.is.job_is writes.1;
     history = writes.2 ∙ at_history run job rest has;
@@ -132,7 +98,7 @@ done_to run job rest (Some name) has asks is writes = (
   has.is.opened.read,
   writes.0.text,
   inl (record {
-    reads = reads_text run job rest has asks writes.0.text writes.0.is;
+    reads = reads_text run _ rest has asks writes.0.text writes.0.is;
     name = name;
     stored = is;
     history = subst (λ (h : List Event). IsStored run.names_bytes name (length run.old.history) writes.0.text h run.new.history)
@@ -142,22 +108,10 @@ done_to run job rest (Some name) has asks is writes = (
 )
 
 done_of : (run : Run) → IsAsked run.words run.old.input (HasRead run.old run.new (Writes (from_first_look run.names_bytes run.old))) → IsDone run
-done_of run ends =
-    done_to run ends.job ends.rest (stored_by ends.job) ends.holds ends.asks refl
-    (subst (λ (j : JobView). WritesTo (stored_by j) (from_first_look run.names_bytes run.old) (writing run.old run.new ends.holds.read) ends.holds.prepared)
-    ends.holds.is.job_is ends.holds.holds)
+done_of = search (rules, done_to)
 
 done_by : (run : Run) (ending : Option Fault) → ◌≡◌ {A = ℕ} 0 (ending_status ending) → EndsBy run.words run.names_bytes run.old run.new ending → IsDone run
-done_by run None same ends = done_of run ends
-done_by run (Some (Job job.Usage)) same ends = let never : ⊥ = omega arith in absurd never
-done_by run (Some (Job job.Memory)) same ends = let never : ⊥ = omega arith in absurd never
-done_by run (Some (Job job.Source)) same ends = let never : ⊥ = omega arith in absurd never
-done_by run (Some (Office (office.File fault))) same ends = let never : ⊥ = omega arith in absurd never
-done_by run (Some (Office (office.State fault))) same ends = let never : ⊥ = omega arith in absurd never
-done_by run (Some (Office office.Lapsed)) same ends = let never : ⊥ = omega arith in absurd never
-done_by run (Some (Office office.Source)) same ends = let never : ⊥ = omega arith in absurd never
-done_by run (Some (Office office.Sink)) same ends = let never : ⊥ = omega arith in absurd never
-done_by run (Some (Office office.Memory)) same ends = let never : ⊥ = omega arith in absurd never
+done_by = search (rules, done_of)
 
 -- if a command ended with status 0, it stored or printed the output of its job
 pub run_done : (run : Run) → IsRun run 0 → IsDone run
@@ -176,35 +130,17 @@ part_to run job rest (Some name) has asks is (inl undrafted_is, kept) =
 part_to run job rest (Some name) has asks is (inr (inl dropped_is), kept) =
     inl (nothing_stored run (none_more run.old.history has.read run.new.history
     (drafted name (length run.old.history) ∷ dropped name ∷ []) (read_none run job rest has) dropped_is (tt, (tt, tt))))
-part_to run job rest (Some name) has asks is (inr (inr may), kept) =
-    inr (
-      refl,
-      job,
-      has.is.opened.read,
-      may.text,
-      record {
-        reads = reads_text run job rest has asks may.text may.is;
-        name = name;
-        stored = is;
-        history = subst (λ (h : List Event). IsUnplaced run.names_bytes name (length run.old.history) may.text h run.new.history)
-            (at_history run job rest has) may.history;
-        unprinted = kept;
-      },
-    )
+part_to run job rest (Some name) has asks is (inr (inr may), kept) = search (rules, reads_text, at_history)
 
 part_of : (run : Run) → IsAsked run.words run.old.input (HasRead run.old run.new (WritesPart (from_first_look run.names_bytes run.old))) → IsUndone run 4
-part_of run ends =
-    part_to run ends.job ends.rest (stored_by ends.job) ends.holds ends.asks refl
-    (subst (λ (j : JobView). WritesPartTo (stored_by j) (from_first_look run.names_bytes run.old) (writing run.old run.new ends.holds.read)
-    ends.holds.prepared) ends.holds.is.job_is ends.holds.holds)
+part_of = search (rules, part_to)
 
 want_none : (run : Run) (job : JobView) (rest : Bytes) (stored : Option Text)
     (has : HasRead run.old run.new (WantsToWrite (from_first_look run.names_bytes run.old)) job rest)
     → WantsToWriteTo stored (from_first_look run.names_bytes run.old) (writing run.old run.new has.read) has.prepared
     → NoStoring run.old.history run.new.history
 want_none run job rest None has wants = none_same run.old.history has.read run.new.history (read_none run job rest has) wants.2
-want_none run job rest (Some name) has wants =
-    none_more run.old.history has.read run.new.history (undrafted name (length run.old.history) ∷ []) (read_none run job rest has) wants (tt, tt)
+want_none run job rest (Some name) has wants = search (rules, none_more, read_none)
 
 -- if a command left the folder's history unchanged, the command stored nothing
 unasked : (run : Run) (status : ℕ) → run.new.history ≡ run.old.history → IsUndone run status
@@ -223,8 +159,7 @@ undone_by run status (Some (Office (office.State fault))) some same ends =
 undone_by run status (Some (Office office.Lapsed)) some same ends =
     inl (nothing_stored run (none_same run.old.history ends.0.holds.read run.new.history
     (read_none run ends.0.job ends.0.rest ends.0.holds) ends.0.holds.holds.1))
-undone_by run status (Some (Office office.Source)) some same ends =
-    inl (nothing_stored run (none_if_failed run ends.0.job ends.0.rest run.new.history ends.0.holds))
+undone_by run status (Some (Office office.Source)) some same ends = search (rules, nothing_stored, none_if_failed)
 undone_by run status (Some (Office office.Sink)) some same ends = subst (λ (n : ℕ). IsUndone run n) (sym same) (part_of run ends)
 undone_by run status (Some (Office office.Memory)) some same (asked, kept) = by asked.holds
   where

@@ -1,17 +1,17 @@
 -- A draft of a command replaces the bytes that the command opened and read.
-use Rattle.std.proofs.Common.{◌≡◌, ℕ, ◌+◌, Bool, true, false, List, [], ◌∷◌, ◌++◌, length, Option, None, Some, arith}
-use Rattle.std.proofs.Common.{ap, refl, sym, subst, ◌∙◌, append_assoc, length-append}
-use Rattle.docker_host.specs.History.{Bytes, Event, closed, drafted, looked, named_if, opened, placed, unplaced}
+use Rattle.std.proofs.Common.{◌≡◌, ℕ, List, [], ◌∷◌, ◌++◌, length, Option, None, Some, rules}
+use Rattle.std.proofs.Common.{ap, append_assoc, length-append}
+use Rattle.docker_host.specs.History.{Bytes, Event, closed, drafted, looked, opened}
 use Rattle.docker_host.specs.Standing.{IsStandingOf, IsStill, Standing}
 use Rattle.docker_host.proofs.StandingLemmas.{happens_at}
 use Rattle.docker_cmd.specs.Job.{JobView}
-use Rattle.docker_cmd.specs.Prepared.{IsReadOf, ReadView, file_read, office_read}
-use Rattle.docker_cmd.specs.Tasks.{TaskView, new_task, check_task, day_task, take_task, merge_task}
-use Rattle.docker_cmd.specs.Tasks.{print_task, files_task, horizon_task, migrate_task, sources_of, writes_of}
+use Rattle.docker_cmd.specs.Prepared.{IsReadOf, ReadView}
+use Rattle.docker_cmd.specs.Tasks.{TaskView}
+use Rattle.docker_cmd.specs.Tasks.{sources_of, writes_of}
 use Rattle.docker_cmd.specs.Words.{Text}
 use Rattle.docker_program.specs.SourceNames.{SourceNames, no_source, standard_input, one_file, file_and_input, two_files}
-use Rattle.docker_program.specs.SourceNames.{file_and_word, file_stored, first_word, is_stdin, names_of, second_word, sources_named, stored_by}
-use Rattle.docker_program.specs.Sources.{SourcesRead, with_files_read, with_look_at}
+use Rattle.docker_program.specs.SourceNames.{file_and_word, file_stored, sources_named, stored_by}
+use Rattle.docker_program.specs.Sources.{SourcesRead, with_files_read}
 use Rattle.docker_program.specs.Commands.{MayStore, Run, Stores, history_read}
 use Rattle.docker_program.specs.Replacing.{IsReplaced, ReplacesRead}
 
@@ -31,11 +31,7 @@ IsFirst name (two_files own other) = own ≡ name
 
 -- whatever the second word names, the file with the first name comes first
 first_of_two : (name word : Text) → IsFirst name (file_and_word name word)
-first_of_two name word = by (is_stdin word) refl
-  where
-    by : (is : Bool) → is_stdin word ≡ is → IsFirst name (file_and_word name word)
-    by true is = rw is refl
-    by false is = rw is refl
+first_of_two = search rules
 
 -- the first file that is read is opened right after the history `before`
 opened_first : (name : Text) (names : SourceNames) (read : SourcesRead) (before : List Event) → IsFirst name names
@@ -57,26 +53,14 @@ module _ (standing : Standing) where
   opened_is_now : (name : Text) (first : Bytes) (old history more rest : List Event) → history ≡ (old ++ looked name ∷ []) ++ opened name first ∷ more
       → IsStandingOf standing (history ++ rest) → IsStill standing name (length old) (length history)
       → standing (length history) name ≡ first
-  opened_is_now name first old history more rest is are still =
-      let front = old ++ looked name ∷ [] in
-      let long : length front ≡ length old + 1 = length-append old (looked name ∷ []) in
-      let longer : length history ≡ length front + length (opened name first ∷ more) =
-      ap length is ∙ length-append front (opened name first ∷ more) in
-      let all : history ++ rest ≡ front ++ opened name first ∷ (more ++ rest) =
-      ap (λ (es : List Event). es ++ rest) is ∙ append_assoc front (opened name first ∷ more) rest in
-      let at : first ≡ standing (0 + length front) name =
-      happens_at standing 0 front (opened name first) (more ++ rest) (subst (IsStandingOf standing) all are) in
-      still (length history) (omega (arith, long, longer)) (omega arith)
-      ∙ sym (still (0 + length front) (omega (arith, long)) (omega (arith, longer))) ∙ sym at
+  opened_is_now = search (rules, length-append, append_assoc, happens_at)
 
   -- the same as `opened_is_now`, for the sources that were read
   own_is_now : (name : Text) (names : SourceNames) (read : SourcesRead) (old rest : List Event) → IsFirst name names
       → IsStandingOf standing (with_files_read names read (old ++ looked name ∷ []) ++ rest)
       → IsStill standing name (length old) (length (with_files_read names read (old ++ looked name ∷ [])))
       → standing (length (with_files_read names read (old ++ looked name ∷ []))) name ≡ read.first
-  own_is_now name names read old rest first are still =
-      let opens = opened_first name names read (old ++ looked name ∷ []) first in
-      opened_is_now name read.first old (with_files_read names read (old ++ looked name ∷ [])) opens.0 rest opens.1 are still
+  own_is_now = search (rules, opened_first, opened_is_now)
 
   -- the history after these words' sources were read, for a task that writes the file with this name
   abbrev read_by : TaskView → List Text → Text → SourcesRead → List Event → List Event
@@ -88,75 +72,20 @@ module _ (standing : Standing) where
       → IsStandingOf standing (read_by task words name read old ++ rest)
       → IsStill standing name (length old) (length (read_by task words name read old))
       → IsReplaced task (standing (length (read_by task words name read old)) name) read.first
-  replaced_by task words name read (file_read file) old rest stored reads are still =
-      absurd (none_some name (subst (λ (t : TaskView). file_stored (writes_of t) words ≡ Some name) reads.0 stored))
-  replaced_by new_task words name read (office_read state) old rest stored reads are still = tt
-  replaced_by check_task words name read (office_read state) old rest stored reads are still = absurd (none_some name stored)
-  replaced_by (day_task place day) words name read (office_read state) old rest stored reads are still = absurd (none_some name stored)
-  replaced_by (print_task place day) words name read (office_read state) old rest stored reads are still = absurd (none_some name stored)
-  replaced_by files_task words name read (office_read state) old rest stored reads are still = absurd (none_some name stored)
-  replaced_by take_task words name read (office_read state) old rest stored reads are still = (
-    own_is_now name (file_and_word (first_word words) (second_word words)) read old rest
-        (subst (λ (n : Text). IsFirst n (file_and_word (first_word words) (second_word words))) (some_name (first_word words) name stored)
-        (first_of_two (first_word words) (second_word words))) are still,
-    (reads.own, reads.reads),
-  )
-  replaced_by merge_task words name read (office_read state) old rest stored reads are still = (
-    own_is_now name (file_and_word (first_word words) (second_word words)) read old rest
-        (subst (λ (n : Text). IsFirst n (file_and_word (first_word words) (second_word words))) (some_name (first_word words) name stored)
-        (first_of_two (first_word words) (second_word words))) are still,
-    (reads.own, reads.reads),
-  )
-  replaced_by (horizon_task day) words name read (office_read state) old rest stored reads are still = (
-    own_is_now name (one_file (first_word words)) read old rest (some_name (first_word words) name stored) are still,
-    (reads.own, reads.reads),
-  )
-  replaced_by migrate_task words name read (office_read state) old rest stored reads are still = (
-    own_is_now name (one_file (first_word words)) read old rest (some_name (first_word words) name stored) are still,
-    (state, reads),
-  )
+  replaced_by = search (rules, none_some, own_is_now, some_name, first_of_two)
 
   -- if a draft was made when a command had read its sources, the draft replaces what the command read
   replaces : (run : Run) (job : JobView) (read : SourcesRead) (name : Text) (what : ReadView) (last : Event) → stored_by job ≡ Some name
       → IsReadOf job.task read.first read.second what
       → run.new.history ≡ history_read run.old.history job read ++ drafted name (length run.old.history) ∷ last ∷ []
       → IsStandingOf standing run.new.history → ReplacesRead standing run job read
-  replaces run job read name what last stored reads history are = record {
-    name = name;
-    stored = stored;
-    still = still;
-    replaced = subst (λ (h : List Event). IsReplaced job.task (standing (length h) name) read.first) (sym same)
-        (replaced_by job.task job.words name read what run.old.history rest stored reads
-        (subst (λ (h : List Event). IsStandingOf standing (h ++ rest)) same all)
-        (subst (λ (h : List Event). IsStill standing name (length run.old.history) (length h)) same still));
-  }
-    where
-      before : List Event
-      before = history_read run.old.history job read
+  replaces = search (rules, replaced_by, happens_at)
 
-      rest : List Event
-      rest = drafted name (length run.old.history) ∷ last ∷ []
-
-      same : history_read run.old.history job read ≡ read_by job.task job.words name read run.old.history
-      same = ap (λ (s : Option Text). with_files_read (names_of job) read (with_look_at s run.old.history)) stored
-
-      all : IsStandingOf standing (history_read run.old.history job read ++ rest)
-      all = subst (IsStandingOf standing) history are
-
-      still : IsStill standing name (length run.old.history) (length (history_read run.old.history job read))
-      still = subst (IsStill standing name (length run.old.history)) (let zero : 0 + length before ≡ length before = omega arith in zero)
-          (happens_at standing 0 before (drafted name (length run.old.history)) (last ∷ []) all)
-
--- the draft of a command that stored a text replaced what the command read
 pub stores_replace : (standing : Standing) (run : Run) (job : JobView) (read : SourcesRead) (text : List ℕ) → Stores run job read text
     → IsStandingOf standing run.new.history → ReplacesRead standing run job read
-stores_replace standing run job read text stores are =
-    replaces standing run job read stores.name stores.reads.what (placed stores.name (named_if run.names_bytes text)) stores.stored stores.reads.is_read
-    stores.history are
+stores_replace = search (rules, replaces)
 
 -- the same as `stores_replace`, for a command that may have stored a text
 pub may_store_replace : (standing : Standing) (run : Run) (job : JobView) (read : SourcesRead) (text : List ℕ) → MayStore run job read text
     → IsStandingOf standing run.new.history → ReplacesRead standing run job read
-may_store_replace standing run job read text stores are =
-    replaces standing run job read stores.name stores.reads.what (unplaced stores.name (named_if run.names_bytes text)) stores.stored stores.reads.is_read
-    stores.history are
+may_store_replace = search (rules, replaces)

@@ -1,26 +1,25 @@
 -- What commands leave on a shelf follows from the contract of `perform`.
-use Rattle.std.proofs.Common.{◌≡◌, ℕ, true, List, [], ◌∷◌, ◌++◌, Option, None, Some, length, refl, sym, ◌∙◌, ap, subst, arith, inl, inr, codes}
+use Rattle.std.proofs.Common.{◌≡◌, ℕ, true, List, [], ◌∷◌, ◌++◌, Option, None, Some, length, refl, sym, ◌∙◌, ap, subst, inl, inr, codes}
+use Rattle.std.proofs.Common.{rules}
 use Rattle.docker_model.specs.file.Change.{changes}
 use Rattle.docker_model.specs.file.Text.{lines_of}
-use Rattle.docker_model.specs.run.Run.{united}
 use Rattle.docker_model.specs.state.StateText.{dks_2}
-use Rattle.cif_device.specs.Device.{IsEnd, Reads, Takes, Held}
+use Rattle.cif_device.specs.Device.{IsEnd, Reads}
 use Rattle.docker_host.specs.History.{Bytes, Event, closed, drafted, looked, opened, placed}
 use Rattle.docker_host.specs.Host.{HostView}
 use Rattle.docker_host.specs.Shelf.{IsShelfHistory}
 use Rattle.docker_cmd.specs.CheckLine.{count_line}
 use Rattle.docker_cmd.specs.Job.{IsJobOf, JobView}
 use Rattle.docker_cmd.specs.Prepared.{IsOutputText, IsReadOf, ReadView, ReadsFewOfSecond, ReadsFewOfState}
-use Rattle.docker_cmd.specs.Prepared.{file_read, office_read}
-use Rattle.docker_cmd.specs.Tasks.{TaskView, new_task, check_task, day_task, take_task, merge_task}
-use Rattle.docker_cmd.specs.Tasks.{print_task, files_task, horizon_task, migrate_task, name_of, subcommand_of}
+use Rattle.docker_cmd.specs.Tasks.{TaskView, check_task, take_task}
+use Rattle.docker_cmd.specs.Tasks.{name_of, subcommand_of}
 use Rattle.docker_cmd.specs.Words.{Text}
 use Rattle.docker_cmd.specs.Writes.{counts_written}
 use Rattle.docker_cmd.specs.Reads.{state_and_file}
-use Rattle.docker_program.specs.SourceNames.{first_word, stored_by}
+use Rattle.docker_program.specs.SourceNames.{stored_by}
 use Rattle.docker_program.specs.Sources.{SourcesRead}
 use Rattle.docker_program.specs.Program.{Performs}
-use Rattle.docker_program.specs.Commands.{IsDone, Prints, Run, Stores, of_file}
+use Rattle.docker_program.specs.Commands.{IsDone, Run, Stores}
 use Rattle.docker_program.specs.ShelfRuns.{IsTaken, file_name, state_name}
 use Rattle.docker_program.proofs.CommandLemmas.{stores_known}
 use Rattle.docker_program.proofs.EndingLemmas.{run_done}
@@ -34,15 +33,6 @@ none_some name is = cc
 
 -- ---- the words determine the job
 
--- the first byte of a text, or 0 if the text is empty
-abbrev first_byte : List ℕ → ℕ
-first_byte [] = 0
-first_byte (byte ∷ bytes) = byte
-
--- the first byte of the first word, or 0 if there is none
-abbrev first_of : List Text → ℕ
-first_of words = first_byte (first_word words)
-
 -- all words except the first
 abbrev behind : List Text → List Text
 behind [] = []
@@ -50,27 +40,11 @@ behind (word ∷ words) = words
 
 -- if the first word is `check`, the task is `check_task`
 check_named : (task : TaskView) (words more : List Text) → codes "check" ∷ more ≡ name_of (subcommand_of task) ∷ words → task ≡ check_task
-check_named check_task words more same = refl
-check_named new_task words more same = let other : ◌≡◌ {A = ℕ} 99 110 = ap first_of same in let never : ⊥ = omega arith in absurd never
-check_named (day_task place day) words more same = let other : ◌≡◌ {A = ℕ} 99 100 = ap first_of same in let never : ⊥ = omega arith in absurd never
-check_named take_task words more same = let other : ◌≡◌ {A = ℕ} 99 116 = ap first_of same in let never : ⊥ = omega arith in absurd never
-check_named merge_task words more same = let other : ◌≡◌ {A = ℕ} 99 109 = ap first_of same in let never : ⊥ = omega arith in absurd never
-check_named (print_task place day) words more same = let other : ◌≡◌ {A = ℕ} 99 112 = ap first_of same in let never : ⊥ = omega arith in absurd never
-check_named files_task words more same = let other : ◌≡◌ {A = ℕ} 99 102 = ap first_of same in let never : ⊥ = omega arith in absurd never
-check_named (horizon_task day) words more same = let other : ◌≡◌ {A = ℕ} 99 104 = ap first_of same in let never : ⊥ = omega arith in absurd never
-check_named migrate_task words more same = let other : ◌≡◌ {A = ℕ} 99 109 = ap first_of same in let never : ⊥ = omega arith in absurd never
+check_named = search rules
 
 -- if the first word is `take`, the task is `take_task`
 take_named : (task : TaskView) (words more : List Text) → codes "take" ∷ more ≡ name_of (subcommand_of task) ∷ words → task ≡ take_task
-take_named take_task words more same = refl
-take_named new_task words more same = let other : ◌≡◌ {A = ℕ} 116 110 = ap first_of same in let never : ⊥ = omega arith in absurd never
-take_named check_task words more same = let other : ◌≡◌ {A = ℕ} 116 99 = ap first_of same in let never : ⊥ = omega arith in absurd never
-take_named (day_task place day) words more same = let other : ◌≡◌ {A = ℕ} 116 100 = ap first_of same in let never : ⊥ = omega arith in absurd never
-take_named merge_task words more same = let other : ◌≡◌ {A = ℕ} 116 109 = ap first_of same in let never : ⊥ = omega arith in absurd never
-take_named (print_task place day) words more same = let other : ◌≡◌ {A = ℕ} 116 112 = ap first_of same in let never : ⊥ = omega arith in absurd never
-take_named files_task words more same = let other : ◌≡◌ {A = ℕ} 116 102 = ap first_of same in let never : ⊥ = omega arith in absurd never
-take_named (horizon_task day) words more same = let other : ◌≡◌ {A = ℕ} 116 104 = ap first_of same in let never : ⊥ = omega arith in absurd never
-take_named migrate_task words more same = let other : ◌≡◌ {A = ℕ} 116 109 = ap first_of same in let never : ⊥ = omega arith in absurd never
+take_named = search rules
 
 -- the job with this task and these words
 abbrev job_of : TaskView → List Text → JobView
@@ -87,38 +61,13 @@ take_job state file job is = λ i. job_of (take_named job.task job.words (state 
 -- `check` writes the counts of the file whose text its source held
 counted : (extract : List ℕ) (first : Bytes) (what : ReadView) (text : List ℕ) → first ≡ Some extract → IsReadOf check_task first (Some []) what
     → IsOutputText counts_written what text → text ≡ count_line (length (lines_of extract)) (length (changes (lines_of extract)))
-counted extract first (office_read state) text same reads is = absurd reads
-counted extract first (file_read file) text same reads is =
-    let held : extract ≡ reads.1.text = subst (λ (b : Bytes). Held b reads.1.text) same reads.1.held in
-    let lines : lines_of extract ≡ reads.1.of_text.records = ap lines_of held ∙ reads.1.of_text.is_text.lines in
-    is.1 ∙ (λ i. count_line ((reads.1.of_text.of_records.count_is ∙ ap length (sym lines)) i)
-    ((reads.1.of_text.of_records.changes_are ∙ ap (λ (ls : List (List ℕ)). length (changes ls)) (sym lines)) i))
+counted = search rules
 
 -- if `check` runs on a shelf and ends with status 0, it prints the counts of the file
 pub check_printed : (extract : List ℕ) (old new : HostView) → old.history ≡ placed file_name (Some extract) ∷ [] → old.output ≡ Some []
     → IsShelfHistory new.history → Performs (codes "check" ∷ file_name ∷ []) true old new 0
     → new.output ≡ Some (count_line (length (lines_of extract)) (length (changes (lines_of extract))))
-check_printed extract old new put empty met performs = by (run_done run performs)
-  where
-    run : Run
-    run = record { words = codes "check" ∷ file_name ∷ []; names_bytes = true; old = old; new = new }
-
-    printed : (read : SourcesRead) (text : List ℕ) → Prints run (job_of check_task (file_name ∷ [])) read text
-        → new.output ≡ Some (count_line (length (lines_of extract)) (length (changes (lines_of extract))))
-    printed read text prints =
-        let events : new.history ≡ placed file_name (Some extract) ∷ opened file_name read.first ∷ closed read.first_left ∷ [] =
-        prints.history ∙ ap (λ (h : List Event). h ++ opened file_name read.first ∷ closed read.first_left ∷ []) put in
-        let shelf : IsShelfHistory (placed file_name (Some extract) ∷ opened file_name read.first ∷ closed read.first_left ∷ []) =
-        subst IsShelfHistory events met in
-        let first : read.first ≡ Some extract = shelf.1.0.0 in
-        let shown : Takes (Some []) text new.output = subst (λ (o : Bytes). Takes o text new.output) empty prints.printed in
-        shown ∙ ap Some (counted extract read.first prints.reads.what text first prints.reads.is_read prints.reads.is_text)
-
-    by : IsDone run → new.output ≡ Some (count_line (length (lines_of extract)) (length (changes (lines_of extract))))
-    by (job, read, text, inl stores) =
-        absurd (none_some stores.name (subst (λ (j : JobView). stored_by j ≡ Some stores.name) (check_job file_name job stores.reads.asks.0) stores.stored))
-    by (job, read, text, inr prints) =
-        printed read text (subst (λ (j : JobView). Prints run j read text) (check_job file_name job prints.reads.asks.0) prints)
+check_printed = search (rules, run_done, codes, counted, none_some, check_job)
 
 some_one : (one two : List ℕ) → ◌≡◌ {A = Bytes} (Some one) (Some two) → one ≡ two
 some_one one two same = cc
@@ -130,43 +79,31 @@ pub check_result : (extract text : List ℕ) (words : List Text) (old shown new 
     → old.history ≡ placed file_name (Some extract) ∷ [] → old.output ≡ Some [] → IsShelfHistory shown.history
     → Performs words true old new status → shown.output ≡ Some text
     → text ≡ count_line (length (lines_of extract)) (length (changes (lines_of extract)))
-check_result extract text words old shown new status named zero same put empty met performs taken =
-    some_one text (count_line (length (lines_of extract)) (length (changes (lines_of extract)))) (sym taken
-    ∙ check_printed extract old shown put empty met
-    (subst (λ (host : HostView). Performs (codes "check" ∷ file_name ∷ []) true old host 0) (sym same)
-    (subst (λ (n : ℕ). Performs (codes "check" ∷ file_name ∷ []) true old new n) zero
-    (subst (λ (ws : List Text). Performs ws true old new status) named performs))))
+check_result = search (rules, some_one, check_printed, codes)
 
 -- ---- what `take` leaves on a shelf
 
 -- if contracts can say which bytes a source held, they can say which bytes are left in it
 rest_known : (held lost : List ℕ) (left : Bytes) → Reads (Some held) lost left → (rest : List ℕ) × (left ≡ Some rest)
-rest_known held lost None reads = absurd (none_some held (sym reads))
-rest_known held lost (Some rest) reads = (rest, refl)
+rest_known = search (rules, none_some)
 
 few_known : (state : List ℕ) (left : Bytes) → ReadsFewOfState dks_2 (Some state) left → (rest : List ℕ) × (left ≡ Some rest)
 few_known state left few = rest_known state (few.text ++ few.piece) left few.lost
 
 -- if contracts can say which bytes are left in a source that is at its end, no bytes are left
 end_some : (left : Bytes) (rest : List ℕ) → left ≡ Some rest → IsEnd left → left ≡ Some []
-end_some None rest is end = absurd (none_some rest is)
-end_some (Some own) rest is end = ap Some end
+end_some = search (rules, none_some)
 
 end_known : (extract : List ℕ) (first second left : Bytes) → second ≡ Some extract → ReadsFewOfSecond state_and_file first second left → IsEnd left
     → left ≡ Some []
-end_known extract first second left held (inl same) end = end_some left extract (same ∙ held) end
-end_known extract first second left held (inr few) end =
-    let read : Reads (Some extract) (few.1.before ++ few.1.piece) left =
-    subst (λ (b : Bytes). Reads b (few.1.before ++ few.1.piece) left) held few.1.read in
-    let rest = rest_known extract (few.1.before ++ few.1.piece) left read in
-    end_some left rest.0 rest.1 end
+end_known = search (rules, end_some, rest_known)
 
 -- suppose that a shelf has a STATE file and an extract. If `take` ends with status 0, it has read
 -- both files and stored a text in STATE, as `IsTaken` says
 pub take_left : (state extract : List ℕ) (old new : HostView) → old.history ≡ both_put state extract
     → IsShelfHistory new.history → Performs (codes "take" ∷ state_name ∷ file_name ∷ []) true old new 0
     → IsTaken state extract new.history
-take_left state extract old new put met performs = by (run_done run performs)
+take_left state extract old new put met performs = by (run_done _ performs)
   where
     run : Run
     run = record { words = codes "take" ∷ state_name ∷ file_name ∷ []; names_bytes = true; old = old; new = new }
@@ -178,10 +115,8 @@ take_left state extract old new put met performs = by (run_done run performs)
     some_name one two same = cc
 
     stored_after : SourcesRead → List ℕ → List Event → Text → ℕ → List Event
-    stored_after read text before name look =
-        ((before ++ looked state_name ∷ []) ++ opened state_name read.first ∷ opened file_name read.second
-        ∷ closed read.first_left ∷ closed read.second_left ∷ [])
-        ++ drafted name look ∷ placed name (Some text) ∷ []
+    stored_after read text before name look = ((before ++ looked state_name ∷ []) ++ opened state_name read.first ∷ opened file_name read.second
+        ∷ closed read.first_left ∷ closed read.second_left ∷ []) ++ drafted name look ∷ placed name (Some text) ∷ []
 
     all : SourcesRead → Text → ℕ → List ℕ → List Event
     all read name look text = placed state_name (Some state) ∷ placed file_name (Some extract) ∷ looked state_name
@@ -191,15 +126,14 @@ take_left state extract old new put met performs = by (run_done run performs)
     left : (read : SourcesRead) (text : List ℕ) → Stores run the_job read text → IsTaken state extract new.history
     left read text stores =
         let name : state_name ≡ stores.name = some_name state_name stores.name stores.stored in
-        let events : new.history ≡ all read state_name 2 text =
-        stores.history ∙ (λ i. stored_after read text (put i) (sym name i) (length (put i))) in
+        let events : new.history ≡ all read state_name 2 text = stores.history ∙ (λ i. stored_after read text (put i) (sym name i) (length (put i))) in
         let shelf : IsShelfHistory (all read state_name 2 text) = subst IsShelfHistory events met in
         let first : read.first ≡ Some state = shelf.1.1.1.0.0 in
         let second : read.second ≡ Some extract = shelf.1.1.1.1.0.0 in
         let few : ReadsFewOfState dks_2 (Some state) read.first_left =
         subst (λ (b : Bytes). ReadsFewOfState dks_2 b read.first_left) first stores.reads.first_few in
-        let left = few_known state read.first_left few in
-        let none : read.second_left ≡ Some [] = end_known extract read.first read.second read.second_left second stores.reads.second_few stores.reads.to_end in
+        let left = few_known _ _ few in
+        let none : read.second_left ≡ Some [] = end_known _ _ _ _ second stores.reads.second_few stores.reads.to_end in
         record {
           text = text;
           left = left.0;
@@ -207,16 +141,14 @@ take_left state extract old new put met performs = by (run_done run performs)
           history = events ∙ (λ i. placed state_name (Some state) ∷ placed file_name (Some extract) ∷ looked state_name
               ∷ opened state_name (first i) ∷ opened file_name (second i) ∷ closed (left.1 i) ∷ closed (none i)
               ∷ drafted state_name 2 ∷ placed state_name (Some text) ∷ []);
-          known = λ known file of is_file. stores_known run the_job read text (united known (of_file file)) stores
-              (known, file, (state, first, of), (extract, second, is_file), refl);
+          known = λ known file of is_file. stores_known _ _ _ _ _ stores (known, file, (state, first, of), (extract, second, is_file), refl);
         }
 
     by : IsDone run → IsTaken state extract new.history
-    by (job, read, text, inl stores) =
-        left read text (subst (λ (j : JobView). Stores run j read text) (take_job state_name file_name job stores.reads.asks.0) stores)
+    by (job, read, text, inl stores) = left read text (subst (λ (j : JobView). Stores run j read text) (take_job _ _ _ stores.reads.asks.0) stores)
     by (job, read, text, inr prints) =
-        let none = subst (λ (j : JobView). stored_by j ≡ None) (take_job state_name file_name job prints.reads.asks.0) prints.unstored in
-        absurd (none_some state_name (sym none))
+        let none = subst (λ (j : JobView). stored_by j ≡ None) (take_job _ _ _ prints.reads.asks.0) prints.unstored in
+        absurd (none_some _ (sym none))
 
 -- the same as `take_left`, if the words, the status and the host after the command are given by
 -- equations
@@ -224,8 +156,7 @@ pub take_result : (state extract : List ℕ) (words : List Text) (old shown new 
     → words ≡ codes "take" ∷ state_name ∷ file_name ∷ [] → status ≡ 0 → shown ≡ new
     → old.history ≡ both_put state extract → IsShelfHistory shown.history
     → Performs words true old new status → IsTaken state extract shown.history
-take_result state extract words old shown new status named zero same put met performs =
-    take_left state extract old shown put met
+take_result state extract words old shown new status named zero same put met performs = take_left _ _ _ _ put met
     (subst (λ (host : HostView). Performs (codes "take" ∷ state_name ∷ file_name ∷ []) true old host 0) (sym same)
     (subst (λ (n : ℕ). Performs (codes "take" ∷ state_name ∷ file_name ∷ []) true old new n) zero
     (subst (λ (ws : List Text). Performs ws true old new status) named performs)))

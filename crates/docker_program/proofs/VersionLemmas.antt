@@ -1,5 +1,6 @@
 -- What the versions of STATE files know. This knowledge determines their texts.
 use Rattle.std.proofs.Common.{◌≡◌, Some, ◌<◌, ◌⊎◌, ℕ, List, [], ◌∷◌, ◌++◌, length, map, refl, sym, ◌∙◌, ap, subst, arith, inl, inr, append-nil, append_assoc}
+use Rattle.std.proofs.Common.{rules}
 use Rattle.std.specs.Prelude.{slice_index_or}
 use Rattle.std.specs.List.{AllZip}
 use Rattle.std.proofs.lemmas.List.{length-map}
@@ -18,7 +19,7 @@ use Rattle.state_laws.proofs.states.SummaryLaws.{summary_unique}
 use Rattle.docker_host.specs.History.{Bytes}
 use Rattle.docker_cmd.specs.Job.{JobView}
 use Rattle.docker_cmd.specs.Saved.{AreGained, Gain, Gains, HoldsVersion, IsSaved, file_gained, horizon_gained, version_gained}
-use Rattle.docker_cmd.specs.Tasks.{TaskView, horizon_task, merge_task, migrate_task, new_task, take_task}
+use Rattle.docker_cmd.specs.Tasks.{TaskView}
 use Rattle.docker_cmd.specs.Words.{Text}
 use Rattle.docker_program.specs.Sources.{SourcesRead}
 use Rattle.docker_program.specs.Commands.{AreMade, AreVersions, ByCommand, HoldsKnown, IsKnownText, IsMade, IsVersion, Knows, MayStore}
@@ -38,11 +39,7 @@ AreKnown knowns texts = AllZip (IsKnownText dks_2) knowns texts
 -- if a source held a version in `texts`, it held the text of the summary of what this version knows
 version_held : (knowns : List Known) (texts : List (List ℕ)) (bytes : Bytes) (number : ℕ) → AreKnown knowns texts → HoldsVersion texts bytes number
     → HoldsKnown dks_2 bytes (known_at knowns number)
-version_held knowns texts bytes number are holds =
-    let long = zip_long (IsKnownText dks_2) knowns texts are in
-    let there = holds.there in
-    let low : number < length knowns = omega arith in
-    (slice_index_or texts number [], holds.held, zip_at (IsKnownText dks_2) knowns texts number nothing [] are low)
+version_held = search (rules, zip_long, zip_at)
 
 -- a text that a job stored, or may have stored, is the text of the summary of what the job's office
 -- knows
@@ -55,87 +52,77 @@ stored_either run job read text known (inr stores) knows = may_store_known run j
 -- command's office knows
 by_command : {Held : Bytes → Bytes → Type 0} (task : TaskView) (known : Known) (text : List ℕ) (by : ByCommand task Held text)
     → Knows task by.read.first by.read.second known → IsKnownText dks_2 known text
-by_command task known text by knows =
-    stored_either by.run by.job by.read text known by.stores
+by_command task known text by knows = stored_either _ _ _ _ _ by.stores
     (subst (λ (t : TaskView). Knows t by.read.first by.read.second known) (sym by.task_is) knows)
 
 -- after one gain, the state is the summary of what was known before and of what was gained
 gained_known : (knowns : List Known) (texts : List (List ℕ)) (gain : Gain) (known : Known) (old new : State) → AreKnown knowns texts
     → IsKnown known old → Gains texts gain old new → IsKnown (known_with knowns known gain) new
 gained_known knowns texts (file_gained file) known old new are is gains = taken_behind known gains.0 file old new is gains.1 gains.2
-gained_known knowns texts (version_gained number) known old new are is gains =
-    known_joined known (known_at knowns number) old gains.2.received new is
-    (known_held (known_at knowns number) gains.0 gains.2.received (version_held knowns texts gains.0 number are gains.1) gains.2.read) gains.2.join
-gained_known knowns texts (horizon_gained day) known old new are is gains =
-    subst (IsKnown (united known (of_horizon day))) (sym gains.1) (known_raised known day old gains.0 is)
+gained_known knowns texts (version_gained number) known old new are is gains = search (rules, known_joined, known_held, version_held)
+gained_known knowns texts (horizon_gained day) known old new are is gains = search (rules, known_raised)
 
 -- after a list of gains, the state is the summary of what was known before and of everything that
 -- was gained
 all_gained : (knowns : List Known) (texts : List (List ℕ)) (gains : List Gain) (known : Known) (old new : State) → AreKnown knowns texts
     → IsKnown known old → AreGained texts gains old new → IsKnown (known_once knowns known gains) new
 all_gained knowns texts [] known old new are is same = subst (IsKnown known) (sym same) is
-all_gained knowns texts (gain ∷ gains) known old new are is gained =
-    all_gained knowns texts gains (known_with knowns known gain) gained.0 new are
-    (gained_known knowns texts gain known old gained.0 are is gained.1) gained.2
+all_gained knowns texts (gain ∷ gains) known old new are is gained = all_gained knowns _ gains _ gained.0 _ are
+    (gained_known knowns _ gain _ old _ are is gained.1) gained.2
 
 -- a text that a desk saved is the text of the summary of what was known when the session began, and
 -- of everything that the desk's state then gained
 saved_known : (knowns : List Known) (texts : List (List ℕ)) (own : ℕ) (gains : List Gain) (text : List ℕ) → AreKnown knowns texts
     → IsSaved texts own gains text → IsKnownText dks_2 (known_once knowns (known_at knowns own) gains) text
-saved_known knowns texts own gains text are is =
-    known_text (known_once knowns (known_at knowns own) gains) is.last text
-    (all_gained knowns texts gains (known_at knowns own) is.first is.last are
-    (known_held (known_at knowns own) is.held is.first (version_held knowns texts is.held own are is.holds) is.reads) is.gained) is.text_is
+saved_known knowns texts own gains text are is = known_text _ _ _ (all_gained _ _ _ _ _ _ are
+    (known_held _ _ _ (version_held _ _ _ _ are is.holds) is.reads) is.gained) is.text_is
 
 -- a version made from earlier versions is the text of the summary of what the version knows
 made_known : (knowns : List Known) (texts : List (List ℕ)) (origin : Origin) (text : List ℕ) → AreKnown knowns texts → IsMade texts origin text
     → IsKnownText dks_2 (known_by knowns origin) text
-made_known knowns texts begun text are made = by_command new_task nothing text made refl
-made_known knowns texts (taken own file) text are made =
-    by_command take_task (united (known_at knowns own) (of_file file)) text made
-    (known_at knowns own, file, version_held knowns texts made.read.first own are made.held.0, made.held.1, refl)
-made_known knowns texts (merged own other) text are made =
-    by_command merge_task (united (known_at knowns own) (known_at knowns other)) text made (
-      known_at knowns own,
-      known_at knowns other,
-      version_held knowns texts made.read.first own are made.held.0,
-      version_held knowns texts made.read.second other are made.held.1,
-      refl,
-    )
-made_known knowns texts (raised own day) text are made =
-    by_command (horizon_task day) (united (known_at knowns own) (of_horizon day)) text made
-    (known_at knowns own, version_held knowns texts made.read.first own are made.held, refl)
-made_known knowns texts (migrated known) text are made = by_command migrate_task known text made made.held
-made_known knowns texts (saved own gains) text are made = saved_known knowns texts own gains text are made
+made_known knowns texts begun text are made = by_command _ nothing _ made refl
+made_known knowns texts (taken own file) text are made = by_command _ (united (known_at knowns own) (of_file file)) _ made
+    (known_at knowns own, file, version_held _ texts _ own are made.held.0, made.held.1, refl)
+made_known knowns texts (merged own other) text are made = by_command _ (united (known_at knowns own) (known_at knowns other)) _ made (
+  known_at knowns own,
+  known_at knowns other,
+  version_held _ texts _ own are made.held.0,
+  version_held _ texts _ other are made.held.1,
+  refl,
+)
+made_known knowns texts (raised own day) text are made = by_command _ (united (known_at knowns own) (of_horizon day)) _ made
+    (known_at knowns own, version_held _ texts _ own are made.held, refl)
+made_known knowns texts (migrated known) text are made = by_command _ known _ made made.held
+made_known knowns texts (saved own gains) text are made = saved_known _ texts _ gains _ are made
 
 -- the text of each version is the text of the summary of what the version knows
 all_known : (knowns : List Known) (texts : List (List ℕ)) (versions : List Version) → AreKnown knowns texts → AreMade texts versions
     → AreKnown (known_after knowns versions) (texts ++ texts_of versions)
 all_known knowns texts [] are made = subst (AreKnown knowns) (sym (append-nil texts)) are
 all_known knowns texts (version ∷ versions) are made =
-    subst (AreKnown (known_after (knowns ++ known_by knowns version.origin ∷ []) versions))
-    (append_assoc texts (version.text ∷ []) (texts_of versions))
-    (all_known (knowns ++ known_by knowns version.origin ∷ []) (texts ++ version.text ∷ []) versions
-    (zip_end (IsKnownText dks_2) knowns texts (known_by knowns version.origin) version.text are
-    (made_known knowns texts version.origin version.text are made.0)) made.1)
+    grind (
+      arith,
+      append_assoc,
+      zip_end,
+      made_known,
+      (all_known (knowns ++ known_by knowns version.origin ∷ []) (texts ++ version.text ∷ []) versions (zip_end (IsKnownText dks_2) knowns texts (known_by knowns version.origin) version.text are (made_known knowns texts version.origin version.text are made.0)) made.1),
+    )
 
 -- the list of what the versions know is as long as the list of their texts
 known_long : (knowns : List Known) (texts : List (List ℕ)) (versions : List Version) → AreKnown knowns texts → AreMade texts versions
     → length (known_after knowns versions) ≡ length (texts ++ texts_of versions)
-known_long knowns texts versions are made =
-    zip_long (IsKnownText dks_2) (known_after knowns versions) (texts ++ texts_of versions) (all_known knowns texts versions are made)
+known_long = search (rules, zip_long, all_known)
 
 -- a version's text is the text of the summary of what the version knows
 pub version_known : (versions : List Version) (number : ℕ) (text : List ℕ) (known : Known) → AreVersions versions → IsVersion versions number text known
     → IsKnownText dks_2 known text
-version_known versions number text known are is =
-    subst (λ (t : List ℕ). IsKnownText dks_2 known t) (sym is.text_is)
+version_known versions number text known are is = subst (λ (t : List ℕ). IsKnownText dks_2 known t) (sym is.text_is)
     (subst (λ (k : Known). IsKnownText dks_2 k (slice_index_or (texts_of versions) number [])) (sym is.known_is)
-    (zip_at (IsKnownText dks_2) (known_after [] versions) (texts_of versions) number nothing [] (all_known [] [] versions tt are) low))
+    (zip_at _ (known_after [] versions) _ number _ [] (all_known _ [] _ tt are) low))
   where
     low : number < length (known_after [] versions)
     low =
-        let long = known_long [] [] versions tt are in
+        let long = known_long [] _ versions tt are in
         let texts = length-map versions (λ (version : Version). version.text) in
         let there = is.there in
         omega (arith, long, texts)
@@ -145,8 +132,7 @@ version_known versions number text known are is =
 -- the known files and the known horizon determine the text of their summary
 pub one_known_text : (one two : Known) (text other : List ℕ) → IsKnownText dks_2 one text → IsKnownText dks_2 two other → AreOneKnowledge one two → text ≡ other
 one_known_text one two text other first second same =
-    let states = summary_unique one.files two.files same.0 two.horizon first.is.0 second.is.0
-    (subst (λ (h : ℕ). IsSummary one.files h first.is.0) same.1 first.is.1) second.is.1 in
+    let states = summary_unique _ _ same.0 _ _ _ (subst (λ (h : ℕ). IsSummary one.files h first.is.0) same.1 first.is.1) second.is.1 in
     first.is.2 ∙ ap (state_text dks_2) states ∙ sym second.is.2
 
 -- the known files determine the docker at each place for each day that isn't refused
@@ -161,11 +147,10 @@ one_known_docker one two place day text other first second same =
 pub plain_known_docker : (known : Known) (place : List ℕ) (day : ℕ) (text : List ℕ) → PrintsKnown known place day text
     → HaveDistinctMoments known.files → (plain : Table) × IsPlainTable known.files plain × IsDockerText plain place day text
 plain_known_docker known place day text prints distinct =
-    let plain = some_plain_table known.files distinct in (
+    let plain = some_plain_table _ distinct in (
       plain.0,
       plain.1,
-      (printed_is_plain known.files known.horizon prints.state plain.0 place day text prints.good.0.0 prints.good.0.1 prints.good.1 prints.is plain.1
-          prints.allowed).0 prints.docker,
+      (printed_is_plain _ _ _ _ _ _ _ prints.good.0.0 prints.good.0.1 prints.good.1 prints.is plain.1 prints.allowed).0 prints.docker,
     )
 
 -- ---- the text and the dockers of a version
@@ -173,8 +158,7 @@ plain_known_docker known place day text prints distinct =
 -- what a version knows determines its text
 pub one_version : (versions : List Version) (number another : ℕ) (text other : List ℕ) (known also : Known) → AreVersions versions
     → IsVersion versions number text known → IsVersion versions another other also → AreOneKnowledge known also → text ≡ other
-one_version versions number another text other known also are first second same =
-    one_known_text known also text other (version_known versions number text known are first) (version_known versions another other also are second) same
+one_version = search (rules, one_known_text, version_known)
 
 -- a docker printed from a version is made from what the version knows
 pub version_printed : (versions : List Version) (number : ℕ) (version : List ℕ) (known : Known) → AreVersions versions

@@ -1,5 +1,4 @@
-use Rattle.std.proofs.Common.{[], ◌∷◌, refl, inr}
-use Rattle.docker_host.specs.History.{closed, opened}
+use Rattle.std.proofs.Common.{refl, inr}
 use Rattle.docker_program.proofs.JobSourcesLemmas.{one_more}
 use Rattle.docker_program.proofs.job_sources.read_file_and_second.Goals as goal
 
@@ -11,8 +10,7 @@ returns-clause-reads g c = inr (record {
     second = g.T.Source.left c.args.second.now;
     second_left = g.T.Source.left c.prepare-prepared.new.second;
   };
-  history = one_more (g.D.Folder.history c.args.folder.now) _ _ (opened c.args.name.now (g.D.File.Source.left c.in-Ok.file) ∷ [])
-      (closed (g.D.File.Source.left c.prepare-prepared.new.first)) c.in-Ok.ensures.asked c.close.ensures.asked;
+  history = one_more _ _ _ _ _ c.in-Ok.ensures.asked c.close.ensures.asked;
   others = (refl, refl);
   reads = c.prepare-prepared.ensures.reads.outcome;
 })

@@ -11,5 +11,4 @@ returns c =
     c.in-Ok.ensures.placed ∙ ap (λ (events : List Event). events ++ placed state_name (Some c.args.state.now) ∷ []) c.new-folder.ensures.events in
     let put : c.put-2.new.self.events ≡ both_put c.args.state.now c.args.extract.now =
     c.in-Ok-put.ensures.placed ∙ ap (λ (events : List Event). events ++ placed file_name (Some c.args.extract.now) ∷ []) first in
-    take_result c.args.state.now c.args.extract.now _ _ _ c.perform.new.host c.perform.result refl zero c.host.view_is put c.tell.ensures.texts
-    c.perform.ensures.performs
+    take_result _ _ _ _ _ _ _ refl zero c.host.view_is put c.tell.ensures.texts c.perform.ensures.performs
