@@ -18,9 +18,8 @@ pub one_detail : (first second : Known) (one two : State) → IsKnown first one 
     → (place : List ℕ) (day : ℕ) → ¬ IsDayRefused one.horizon day → ¬ IsDayRefused two.horizon day → (text other : List ℕ)
     → IsDetailedText (live_table one) place day text → IsDetailedText (live_table two) place day other → text ≡ other
 one_detail first second one two left right same place day prints prints_too =
-    detailed_of_files first.files second.files first.horizon second.horizon one two left.good.0 right.good.0 same left.good.1 right.good.1
-    left.is right.is place day (subst (λ h. ¬ IsDayRefused h day) left.is.horizon_is prints)
-    (subst (λ h. ¬ IsDayRefused h day) right.is.horizon_is prints_too)
+    detailed_of_files _ _ _ _ _ _ left.good.0 right.good.0 same left.good.1 right.good.1
+    left.is right.is _ _ (subst (λ h. ¬ IsDayRefused h day) left.is.horizon_is prints) (subst (λ h. ¬ IsDayRefused h day) right.is.horizon_is prints_too)
 
 -- suppose that two states know the same files. Then the permanent detailed dockers made from the two
 -- states are equal, for each place and for each day that isn't refused under either state's horizon
@@ -28,23 +27,22 @@ pub one_permanent_detail : (first second : Known) (one two : State) → IsKnown 
     → (place : List ℕ) (day : ℕ) → ¬ IsDayRefused one.horizon day → ¬ IsDayRefused two.horizon day → (text other : List ℕ)
     → IsDetailedText (permanent_table (live_table one)) place day text → IsDetailedText (permanent_table (live_table two)) place day other → text ≡ other
 one_permanent_detail first second one two left right same place day prints prints_too =
-    permanent_detailed_of_files first.files second.files first.horizon second.horizon one two left.good.0 right.good.0 same left.good.1 right.good.1
-    left.is right.is place day (subst (λ h. ¬ IsDayRefused h day) left.is.horizon_is prints)
-    (subst (λ h. ¬ IsDayRefused h day) right.is.horizon_is prints_too)
+    permanent_detailed_of_files _ _ _ _ _ _ left.good.0 right.good.0 same left.good.1 right.good.1
+    left.is right.is _ _ (subst (λ h. ¬ IsDayRefused h day) left.is.horizon_is prints) (subst (λ h. ¬ IsDayRefused h day) right.is.horizon_is prints_too)
 
 -- if no two known files have the same moment, each detailed docker of the state is the detailed
 -- docker of the plain table. The same is true of each permanent detailed docker
 pub plain_detail : (known : Known) (state : State) → IsKnown known state → HaveDistinctMoments known.files
     → (plain : Table) × (IsPlainTable known.files plain × DetailsAs state plain)
 plain_detail known state is distinct =
-    let plain = some_plain_table known.files distinct in (
+    let plain = some_plain_table _ distinct in (
       plain.0,
       (
         plain.1,
         λ place day text prints.
             let printed = subst (λ h. ¬ IsDayRefused h day) is.is.horizon_is prints in (
-              detailed_is_plain known.files known.horizon state plain.0 place day text is.good.0 is.good.1 is.is plain.1 printed,
-              permanent_detailed_is_plain known.files known.horizon state plain.0 place day text is.good.0 is.good.1 is.is plain.1 printed,
+              detailed_is_plain _ _ _ _ _ _ _ is.good.0 is.good.1 is.is plain.1 printed,
+              permanent_detailed_is_plain _ _ _ _ _ _ _ is.good.0 is.good.1 is.is plain.1 printed,
             ),
       ),
     )

@@ -1,5 +1,5 @@
 -- What is left in an input at the end of a session.
-use Rattle.std.proofs.Common.{◌≡◌, ℕ, List, [], ◌∷◌, Some, None, ◌⊎◌, inl, inr, ap, subst, ◌∙◌}
+use Rattle.std.proofs.Common.{◌≡◌, ℕ, List, [], ◌∷◌, Some, None, ◌⊎◌, inl, inr, subst, rules}
 use Rattle.std.specs.Prelude.{Option, Ok}
 use Rattle.docker_cmd.specs.Prepared.{DeviceBytes}
 use Rattle.docker_desk.specs.Lines.{EndsLine, LineView, ReadsAsked, ReadsNext, asked_meant, cut_line, with_ahead}
@@ -17,15 +17,11 @@ none_left (byte ∷ ahead) (Some rest) same = let never : ⊥ = cc in absurd nev
 
 -- after a cut line, no bytes are left
 pub left_after_cut : (old : DeviceBytes) (ahead : List ℕ) (left : DeviceBytes) → ReadsNext old cut_line (with_ahead ahead left) → LeavesNone old left
-left_after_cut None ahead left read = tt
-left_after_cut (Some text) ahead left read =
-    none_left ahead left (read.1.1 ∙ ap Some read.1.0.1)
+left_after_cut = search (rules, none_left)
 
 -- at the end of a source, no bytes are left
 pub left_at_end : (old : DeviceBytes) (ahead : List ℕ) (left : DeviceBytes) → ReadsAsked old None (with_ahead ahead left) → LeavesNone old left
-left_at_end None ahead left read = tt
-left_at_end (Some text) ahead left read =
-    none_left ahead left (read.1 ∙ ap Some read.0)
+left_at_end = search (rules, none_left)
 
 -- if reading a line met the end of the source, the source was at its end
 pub end_read : (old new : DeviceBytes) (read : Asked) → asked_meant read ≡ None → EndsLine old (Ok read) new → ReadsAsked old None new
@@ -44,5 +40,4 @@ not_ended result (inr part) is = absurd (by result part.0 is)
 
 -- if no bytes are left after the last line, none are left of the whole input
 pub left_of_all : (old now left : DeviceBytes) (lines : List LineView) → ReadsFirst old lines now → LeavesNone now left → LeavesNone old left
-left_of_all None now left lines read none = tt
-left_of_all (Some text) now left lines read none = subst (λ (bytes : DeviceBytes). LeavesNone bytes left) read.1.1 none
+left_of_all = search rules

@@ -1,5 +1,5 @@
 -- The known files determine states, dockers and lists.
-use Rattle.std.proofs.Common.{◌≡◌, ℕ, List, [], length, subst, arith}
+use Rattle.std.proofs.Common.{◌≡◌, ℕ, List, [], length, subst, arith, rules}
 use Rattle.std.proofs.lemmas.List.{length-map}
 use Rattle.std.proofs.lemmas.List.Elements.{All-get_or}
 use Rattle.cif_laws.proofs.lists.ZipSteps.{zip_at}
@@ -26,8 +26,7 @@ use Rattle.docker_desk.specs.SessionViews.{Step}
 
 -- two states are equal if both are the summary of the same files under the same horizon
 pub one_state : (first second : Known) (one two : State) → IsKnown first one → IsKnown second two → AreOneKnowledge first second → one ≡ two
-one_state first second one two left right same =
-    summary_unique first.files second.files same.0 second.horizon one two (subst (λ h. IsSummary first.files h one) same.1 left.is) right.is
+one_state first second one two left right same = summary_unique _ _ same.0 _ _ _ (subst (λ h. IsSummary first.files h one) same.1 left.is) right.is
 
 -- suppose that two states know the same files. Then the dockers made from the two states are equal,
 -- for each place and for each day that isn't refused under either state's horizon
@@ -43,12 +42,11 @@ one_docker first second one two left right same place day prints prints_too =
 pub plain_dockers : (known : Known) (state : State) → IsKnown known state → HaveDistinctMoments known.files
     → (plain : Table) × (IsPlainTable known.files plain × PrintsAs state plain)
 plain_dockers known state is distinct =
-    let plain = some_plain_table known.files distinct in (
+    let plain = some_plain_table _ distinct in (
       plain.0,
       (
         plain.1,
-        λ place day prints text.
-            printed_is_plain known.files known.horizon state plain.0 place day text is.good.0.0 is.good.0.1 is.good.1 is.is plain.1
+        λ place day prints text. printed_is_plain _ _ _ _ _ _ _ is.good.0.0 is.good.0.1 is.good.1 is.is plain.1
             (subst (λ h. ¬ IsDayRefused h day) is.is.horizon_is prints),
       ),
     )
@@ -59,10 +57,10 @@ pub plain_places : (known : Known) (state : State) → IsKnown known state → H
     → (plain : Table) × IsPlainTable known.files plain
     × ((text : List ℕ) → IsPlacesText (live_table state) text → IsPlacesText (lapse_table known.horizon plain) text)
 plain_places known state is distinct =
-    let plain = some_plain_table known.files distinct in (
+    let plain = some_plain_table _ distinct in (
       plain.0,
       plain.1,
-      λ text. subst (λ (live : Table). IsPlacesText live text) (live_is_lapsed_plain known.files known.horizon state plain.0 is.is plain.1),
+      λ text. subst (λ (live : Table). IsPlacesText live text) (live_is_lapsed_plain _ _ _ _ is.is plain.1),
     )
 
 -- at the end of a run, the state of an office is the summary of what the office knows
@@ -82,7 +80,4 @@ office_knows known state end =
 
 -- in a list of steps, there are as many answers as lines
 pub one_each : (steps : List Step) → length (answers_of steps) ≡ length (lines_of steps)
-one_each steps =
-    let first = length-map steps (λ (step : Step). step.answer) in
-    let second = length-map steps (λ (step : Step). step.line) in
-    omega (arith, first, second)
+one_each = search (rules, length-map)

@@ -1,12 +1,12 @@
 -- What the state gains in each step of a session, and in all steps together.
-use Rattle.std.proofs.Common.{◌≡◌, ℕ, List, [], ◌∷◌, ◌++◌, refl, sym, ap, subst, Some, None, Ok, Err}
+use Rattle.std.proofs.Common.{◌≡◌, ℕ, List, [], ◌∷◌, ◌++◌, refl, sym, ap, subst, Some, None, Ok, Err, arith, rules}
 use Rattle.std.specs.Prelude.{Option, Result, ⊤}
 use Rattle.docker_model.specs.file.File.{most_records}
 use Rattle.docker_model.specs.state.State.{State}
 use Rattle.docker_model.specs.state.StateText.{dks_2, state_text}
 use Rattle.docker_model.specs.records.Date.{IsDay}
 use Rattle.docker_cmd.specs.Prepared.{most_bytes}
-use Rattle.docker_cmd.specs.Saved.{AreGained, Gain, Gains, HoldsVersion, IsSaved, file_gained, horizon_gained, version_gained}
+use Rattle.docker_cmd.specs.Saved.{AreGained, Gain, Gains, HoldsVersion, IsSaved}
 use Rattle.docker_host.specs.History.{Bytes, Event, Text, looked}
 use Rattle.docker_bytes.specs.SourceRead.{JoinsState}
 use Rattle.docker_office.specs.Office.{TakesFile}
@@ -16,8 +16,8 @@ use Rattle.docker_desk.specs.Doing.{AreSteps, DoesAsked, DoesRequest, Joins, Ren
 use Rattle.docker_desk.specs.Learning.{GainedBy, GainsAsked, GainsDone, GainsFile, GainsVersion, IsPlaced, IsUnsaved, MayBePlaced, renewing}
 use Rattle.docker_desk.specs.SessionViews.{SessionView, Setting, Step}
 use Rattle.docker_desk.specs.Reading.{Reading, StopsInFile, StopsInState, events_of, opening_of}
-use Rattle.docker_desk.specs.Replies.{AnswerView, done_with, no_request, refused_for}
-use Rattle.docker_desk.specs.Requests.{RequestView, show_request, renew_request, take_request, merge_request, horizon_request, save_request}
+use Rattle.docker_desk.specs.Replies.{AnswerView, done_with, refused_for}
+use Rattle.docker_desk.specs.Requests.{RequestView, horizon_request}
 use Rattle.docker_desk.specs.Serving.{BeginsAt}
 use Rattle.docker_desk.specs.declared.compared.Compared.{Compared}
 use Rattle.docker_desk.proofs.HeardLemmas.{held_after_look, held_once, unsaved_by}
@@ -47,13 +47,11 @@ module _ (earlier : List (List ℕ)) where
         by : (result : Result ⊤ OfficeFault) (read : Option Reading) → done_with text ≡ answer_of result
             → after.history ≡ before.history ++ opening_of file read
             → EndsTaking before.desk.state after.desk.state result read → AreGained earlier gains before.desk.state after.desk.state
-        by (Ok done) (Some read) told asked ends =
-            gained_one (file_gained gained.file) gains before.desk.state after.desk.state gained.gains_are (
-              gained.read.held,
-              gained.holds,
-              subst (λ (bytes : Bytes). TakesFile most_records bytes before.desk.state after.desk.state)
-                  (held_once file before.history after.history read gained.read asked gained.asked) ends.takes,
-            )
+        by (Ok done) (Some read) told asked ends = gained_one _ _ _ _ gained.gains_are (
+          gained.read.held,
+          gained.holds,
+          subst (λ (bytes : Bytes). TakesFile most_records bytes before.desk.state after.desk.state) (held_once _ _ _ _ _ asked gained.asked) ends.takes,
+        )
         by (Ok done) None told asked ends = absurd ends
         by (Err fault) read told asked ends = let never : ⊥ = cc in absurd never
 
@@ -61,12 +59,7 @@ module _ (earlier : List (List ℕ)) where
     gained_state : (events : Reading → List Event) (gains : List Gain) (held : Bytes) (gained : GainsVersion events earlier before after gains)
         → held ≡ gained.read.held → JoinsState dks_2 most_bytes held before.desk.state after.desk.state
         → AreGained earlier gains before.desk.state after.desk.state
-    gained_state events gains held gained same joins =
-        gained_one (version_gained gained.number) gains before.desk.state after.desk.state gained.gains_are (
-          gained.read.held,
-          gained.holds,
-          subst (λ (bytes : Bytes). JoinsState dks_2 most_bytes bytes before.desk.state after.desk.state) same joins,
-        )
+    gained_state = search (rules, gained_one)
 
     gained_merged : (other : Text) (text : List ℕ) (gains : List Gain) → Joins other StopsInState EndsReceiving before (done_with text) after
         → GainsVersion (events_of other) earlier before after gains → AreGained earlier gains before.desk.state after.desk.state
@@ -75,8 +68,7 @@ module _ (earlier : List (List ℕ)) where
         by : (result : Result ⊤ OfficeFault) (read : Option Reading) → done_with text ≡ answer_of result
             → after.history ≡ before.history ++ opening_of other read
             → EndsReceiving before.desk.state after.desk.state result read → AreGained earlier gains before.desk.state after.desk.state
-        by (Ok done) (Some read) told asked ends =
-            gained_state (events_of other) gains read.held gained (held_once other before.history after.history read gained.read asked gained.asked) ends
+        by (Ok done) (Some read) told asked ends = gained_state _ gains _ gained (held_once _ before.history _ read _ asked gained.asked) ends
         by (Ok done) None told asked ends = absurd ends
         by (Err fault) read told asked ends = let never : ⊥ = cc in absurd never
 
@@ -87,9 +79,7 @@ module _ (earlier : List (List ℕ)) where
         by : (result : Result Compared OfficeFault) (read : Option Reading) → done_with text ≡ answer_of result
             → after.history ≡ before.history ++ looked setting.name ∷ opening_of setting.name read
             → EndsRenewing before.desk after.desk result read → AreGained earlier gains before.desk.state after.desk.state
-        by (Ok found) (Some read) told asked ends =
-            gained_state (renewing setting.name) gains read.held gained
-            (held_after_look setting.name before.history after.history read gained.read asked gained.asked) ends.0.0
+        by (Ok found) (Some read) told asked ends = gained_state _ gains _ gained (held_after_look _ before.history _ read _ asked gained.asked) ends.0.0
         by (Ok found) None told asked ends = absurd ends.0.0
         by (Err fault) read told asked ends = let never : ⊥ = cc in absurd never
 
@@ -98,26 +88,14 @@ module _ (earlier : List (List ℕ)) where
     gained_done : (request : RequestView) (text : List ℕ) (gains : List Gain) → ((day : ℕ) → request ≡ horizon_request day → IsDay day)
         → DoesRequest setting request before (done_with text) after → GainsDone setting earlier request before after gains
         → AreGained earlier gains before.desk.state after.desk.state
-    gained_done (show_request query) text gains days does gained = gained_none gains _ _ gained (ap (λ (m : SessionView). m.desk.state) does.1)
-    gained_done renew_request text gains days does gained = gained_renewed text gains does gained
-    gained_done (take_request file) text gains days does gained = gained_file file text gains does gained
-    gained_done (merge_request other) text gains days does gained = gained_merged other text gains does gained
-    gained_done (horizon_request day) text gains days does gained =
-        gained_one (horizon_gained day) gains before.desk.state after.desk.state gained (days day refl, ap (λ (m : SessionView). m.desk.state) does.1)
-    gained_done save_request text gains days does gained =
-        gained_none gains _ _ gained (same_saved setting before after does.result does.desk)
+    gained_done = search (rules, gained_none, gained_renewed, gained_file, gained_merged, gained_one, same_saved)
 
     -- after a line is answered, the state has gained what the line's request adds. The state has
     -- gained nothing if the request was refused, or if the line isn't a request
     gained_asked : (request : Option RequestView) (answer : AnswerView) (gains : List Gain) → ((day : ℕ) → request ≡ Some (horizon_request day) → IsDay day)
         → DoesAsked setting request before answer after → GainsAsked setting earlier request before answer after gains
         → AreGained earlier gains before.desk.state after.desk.state
-    gained_asked None answer gains days does gained = gained_none gains _ _ gained (ap (λ (m : SessionView). m.desk.state) does.1)
-    gained_asked (Some request) (done_with text) gains days does gained =
-        gained_done request text gains (λ day same. days day (ap Some same)) does gained
-    gained_asked (Some request) (refused_for fault) gains days does gained =
-        gained_none gains _ _ gained (same_refused setting before after request fault does)
-    gained_asked (Some request) no_request gains days does gained = absurd (never_unasked setting before after request does)
+    gained_asked = search (rules, gained_none, gained_done, same_refused, never_unasked)
 
   module _ (setting : Setting) where
     -- after a list of steps, the state has gained what the requests of these steps add, in order
@@ -125,27 +103,14 @@ module _ (earlier : List (List ℕ)) where
         → AreGained earlier gains first.desk.state last.desk.state
     gained_steps first last [] gains are gained = gained_none gains _ _ gained (ap (λ (m : SessionView). m.desk.state) are)
     gained_steps first last (step ∷ steps) gains are gained =
-        subst (λ g. AreGained earlier g first.desk.state last.desk.state) (sym gained.1.1.1.1)
-        (subst (λ (m : SessionView). AreGained earlier (gained.0 ++ gained.1.0) m.desk.state last.desk.state) are.0
-        (gained_both gained.0 gained.1.0 step.before.desk.state step.after.desk.state last.desk.state
-        (gained_asked setting step.before step.after step.request step.answer gained.0
-        (λ day same. day_asked setting.may_write step.line step.request day are.1.0.asks same) are.1.0.does gained.1.1.0)
-        (gained_steps step.after last steps gained.1.0 are.1.1 gained.1.1.1.0)))
+        grind (arith, gained_both, gained_asked, day_asked, (gained_steps step.after last steps gained.1.0 are.1.1 gained.1.1.1.0))
 
     -- the text that `save` writes to a draft, if STATE held version number `own` of `earlier` when
     -- the session began
     saved_text : (first before : SessionView) (steps : List Step) (old : List Event) (own : ℕ) (gains : List Gain)
         → (begins : BeginsAt setting.name old first) → HoldsVersion earlier begins.held own → AreSteps setting first steps before
         → GainedBy setting earlier steps gains → IsSaved earlier own gains (state_text dks_2 before.desk.state)
-    saved_text first before steps old own gains begins holds are gained = record {
-      held = begins.held;
-      holds = holds;
-      first = first.desk.state;
-      reads = begins.state;
-      last = before.desk.state;
-      gained = gained_steps first before steps gains are gained;
-      text_is = refl;
-    }
+    saved_text = search (rules, gained_steps)
 
     -- suppose that STATE held version number `own` of `earlier` when the session began. Then `save`
     -- stores the text of a state that was read from that version, and that then gained what the
@@ -170,9 +135,8 @@ module _ (earlier : List (List ℕ)) where
         → (begins : BeginsAt setting.name old first) → HoldsVersion earlier begins.held own → AreSteps setting first steps before
         → GainedBy setting earlier steps gains → Saves setting before (refused_for fault) after
         → IsUnsaved setting before after fault (MayBePlaced setting earlier own gains before after)
-    may_place_version first before after steps old own gains fault begins holds are gained does =
-        unsaved_by setting before after fault (MayBePlaced setting earlier own gains before after) (λ unplaced. record {
-          text = state_text dks_2 before.desk.state;
-          saved = saved_text first before steps old own gains begins holds are gained;
-          asked = unplaced;
-        }) does
+    may_place_version first before after steps old own gains fault begins holds are gained does = unsaved_by _ before _ fault _ (λ unplaced. record {
+      text = state_text dks_2 before.desk.state;
+      saved = saved_text first _ steps _ own _ begins holds are gained;
+      asked = unplaced;
+    }) does

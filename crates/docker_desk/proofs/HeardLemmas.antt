@@ -1,5 +1,5 @@
 -- What a desk learns from the files that `take`, `merge` and `renew` read.
-use Rattle.std.proofs.Common.{◌≡◌, ℕ, List, [], ◌∷◌, ◌++◌, refl, sym, ◌∙◌, subst, inl, inr, Some, None, Ok, Err}
+use Rattle.std.proofs.Common.{◌≡◌, ℕ, List, [], ◌∷◌, ◌++◌, refl, subst, Some, None, Ok, Err, rules}
 use Rattle.std.specs.Prelude.{Option, Result, ⊤}
 use Rattle.docker_model.specs.run.Run.{Known, nothing, united}
 use Rattle.docker_model.specs.state.StateText.{dks_2, state_text}
@@ -8,12 +8,11 @@ use Rattle.docker_host.specs.Asked.{IsUnplaced}
 use Rattle.docker_host.specs.History.{Bytes, Event, Text, looked}
 use Rattle.docker_bytes.specs.SourceRead.{JoinsState}
 use Rattle.docker_office.specs.declared.fault.OfficeFault.{OfficeFault}
-use Rattle.docker_office.specs.declared.fault.OfficeFault.TheVariants as office
-use Rattle.docker_desk.specs.Desk.{EndsReceiving, EndsRenewing, EndsSaving, EndsTaking}
+use Rattle.docker_desk.specs.Desk.{EndsReceiving, EndsRenewing, EndsTaking}
 use Rattle.docker_desk.specs.Reading.{Reading, StopsInFile, StopsInState, events_of, opening_of}
 use Rattle.docker_desk.specs.declared.compared.Compared.{Compared}
 use Rattle.docker_desk.specs.Requests.{RequestView, show_request, renew_request, take_request, merge_request, horizon_request, save_request}
-use Rattle.docker_desk.specs.Replies.{AnswerView, done_with, no_request, refused_for}
+use Rattle.docker_desk.specs.Replies.{AnswerView, done_with, refused_for}
 use Rattle.docker_desk.specs.SessionViews.{SessionView, Setting, Step}
 use Rattle.docker_desk.specs.Doing.{AreSteps, DoesAsked, DoesRequest, Joins, Renews, Saves, answer_of}
 use Rattle.docker_desk.specs.Learning.{AllHearKnown, AreLearned, Hears, HearsFile, HearsKnown, HearsState}
@@ -31,13 +30,11 @@ one_more (event ∷ old) first second same = let rest : old ++ first ≡ old ++ 
 -- the events of an opening determine the bytes that the file held
 pub held_once : (name : Text) (old new : List Event) (first second : Reading) → new ≡ old ++ events_of name first → new ≡ old ++ events_of name second
     → first.held ≡ second.held
-held_once name old new first second one two =
-    let same = one_more old (events_of name first) (events_of name second) (sym one ∙ two) in cc
+held_once = search (rules, one_more)
 
 pub held_after_look : (name : Text) (old new : List Event) (first second : Reading) → new ≡ old ++ looked name ∷ events_of name first
     → new ≡ old ++ looked name ∷ events_of name second → first.held ≡ second.held
-held_after_look name old new first second one two =
-    let same = one_more old (looked name ∷ events_of name first) (looked name ∷ events_of name second) (sym one ∙ two) in cc
+held_after_look = search (rules, one_more)
 
 -- ---- a state is received or saved
 
@@ -45,20 +42,7 @@ held_after_look name old new first second one two =
 pub unsaved_by : (setting : Setting) (before after : SessionView) (fault : OfficeFault) (MayBe : Type 0)
     → (IsUnplaced setting.names_bytes setting.name before.look (state_text dks_2 before.desk.state) before.history after.history → MayBe)
     → Saves setting before (refused_for fault) after → IsUnsaved setting before after fault MayBe
-unsaved_by setting before after fault MayBe may does = by does.result does.told does.stores
-  where
-    by : (result : Result ⊤ OfficeFault) → refused_for fault ≡ answer_of result
-        → EndsSaving setting.names_bytes setting.name before.look (state_text dks_2 before.desk.state) before.history after.history result
-        → IsUnsaved setting before after fault MayBe
-    by (Ok done) told stores = let never : ⊥ = cc in absurd never
-    by (Err office.Sink) told (inl undrafted) = inl undrafted
-    by (Err office.Sink) told (inr (inl dropped)) = inr (inl dropped)
-    by (Err office.Sink) told (inr (inr unplaced)) = let same : fault ≡ office.Sink = cc in inr (inr (same, may unplaced))
-    by (Err office.Memory) told stores = inl stores
-    by (Err office.Source) told stores = absurd stores
-    by (Err office.Lapsed) told stores = absurd stores
-    by (Err (office.File cause)) told stores = absurd stores
-    by (Err (office.State cause)) told stores = absurd stores
+unsaved_by = search rules
 
 module _ (before after : SessionView) (known : Known) where
   -- if a file held the text of a summary, and the desk received this state, the desk learned this
@@ -83,8 +67,7 @@ module _ (before after : SessionView) (known : Known) where
       by : (result : Result ⊤ OfficeFault) (read : Option Reading) → done_with text ≡ answer_of result
           → after.history ≡ before.history ++ opening_of other read
           → EndsReceiving before.desk.state after.desk.state result read → HearsState (events_of other) before after known
-      by (Ok done) (Some read) told asked ends =
-          hears_held (events_of other) read.held holds (held_once other before.history after.history read holds.read asked holds.asked) ends
+      by (Ok done) (Some read) told asked ends = hears_held (events_of other) _ holds (held_once _ before.history _ read _ asked holds.asked) ends
       by (Ok done) None told asked ends = absurd ends
       by (Err fault) read told asked ends = let never : ⊥ = cc in absurd never
 
@@ -97,41 +80,21 @@ module _ (before after : SessionView) (known : Known) where
       by : (result : Result Compared OfficeFault) (read : Option Reading) → done_with text ≡ answer_of result
           → after.history ≡ before.history ++ looked setting.name ∷ opening_of setting.name read
           → EndsRenewing before.desk after.desk result read → HearsState (renewing setting.name) before after known
-      by (Ok found) (Some read) told asked ends =
-          hears_held (renewing setting.name) read.held holds
-          (held_after_look setting.name before.history after.history read holds.read asked holds.asked) ends.0.0
+      by (Ok found) (Some read) told asked ends = hears_held (renewing setting.name) _ holds
+          (held_after_look _ before.history _ read _ asked holds.asked) ends.0.0
       by (Ok found) None told asked ends = absurd ends.0.0
       by (Err fault) read told asked ends = let never : ⊥ = cc in absurd never
 
   -- if `save` succeeded, the saved text is the text of the summary of what is known
   pub places_known : (setting : Setting) (text : List ℕ) → IsKnown known before.desk.state → Saves setting before (done_with text) after
       → PlacesKnown setting before after known
-  places_known setting text is does = by does.result does.told does.stores
-    where
-      by : (result : Result ⊤ OfficeFault) → done_with text ≡ answer_of result
-          → EndsSaving setting.names_bytes setting.name before.look (state_text dks_2 before.desk.state) before.history after.history result
-          → PlacesKnown setting before after known
-      by (Ok done) told stores = record {
-        text = state_text dks_2 before.desk.state;
-        good = is.good;
-        is = (before.desk.state, is.is, refl);
-        asked = stores;
-      }
-      by (Err fault) told stores = let never : ⊥ = cc in absurd never
+  places_known = search rules
 
   -- if `save` was refused, it stored nothing, or the draft holds the text of the summary of what is
   -- known
   pub may_place_known : (setting : Setting) (fault : OfficeFault) → IsKnown known before.desk.state → Saves setting before (refused_for fault) after
       → IsUnsaved setting before after fault (MayPlaceKnown setting before after known)
-  may_place_known setting fault is does =
-      unsaved_by setting before after fault (MayPlaceKnown setting before after known) (λ unplaced. record {
-        text = state_text dks_2 before.desk.state;
-        good = is.good;
-        is = (before.desk.state, is.is, refl);
-        asked = unplaced;
-      }) does
-
--- ---- what a session learns from its steps
+  may_place_known = search (rules, unsaved_by)
 
 -- if `take` succeeded, there is a file that the desk came to know
 takes_heard : (file : Text) (text : List ℕ) (before after : SessionView) → Joins file StopsInFile EndsTaking before (done_with text) after
@@ -164,9 +127,7 @@ module _ (setting : Setting) where
       → HearsKnown setting request before answer after → (new : Known) × Learns setting request before answer after old new
   learns_some (Some request) (done_with text) before after old does hears =
       let heard = hears_some request text before after does hears in (united old heard.0, (heard.0, (heard.1, refl)))
-  learns_some (Some request) (refused_for fault) before after old does hears = (old, refl)
-  learns_some (Some request) no_request before after old does hears = (old, refl)
-  learns_some None answer before after old does hears = (old, refl)
+  learns_some _ _ before after old does hears = (old, refl)
 
   -- in all steps together, the desk came to know files and a horizon, or nothing new
   pub learned_of : (first last : SessionView) (steps : List Step) (old : Known) → AreSteps setting first steps last → AllHearKnown setting steps

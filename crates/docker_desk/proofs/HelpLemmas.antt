@@ -1,12 +1,12 @@
 -- Writing what `--help` prints, word by word and line by line.
-use Rattle.std.proofs.Common.{◌≡◌, ℕ, ◌<◌, ◌≤◌, ◌+◌, List, [], ◌∷◌, ◌++◌, length, take, drop, get_or, refl, ap, sym, subst}
+use Rattle.std.proofs.Common.{◌≡◌, ℕ, ◌<◌, ◌≤◌, ◌+◌, List, [], ◌∷◌, ◌++◌, length, take, drop, get_or, refl, ap, sym, subst, arith, rules}
 use Rattle.std.proofs.Common.{append_assoc, append-nil, add-one, ◌∙◌}
 use Rattle.std.specs.Prelude.{Bool, codes, map}
 use Rattle.std.specs.List.{flat_map}
 use Rattle.std.specs.Borrow.{Bor}
 use Rattle.std.proofs.Math.ListN.{drop_of_length-le}
 use Rattle.std.proofs.lemmas.List.{take-append-drop}
-use Rattle.std.proofs.lemmas.Grind.{flat_map-append}
+use Rattle.std.proofs.lemmas.Grind.{flat_map-append, common_steps}
 use Rattle.std.proofs.Math.Seq.{take-suc}
 use Rattle.docker_cmd.specs.Words.{Text, usage_with}
 use Rattle.docker_host.specs.Streams.{StreamsView, WritesPart, WritesWhole}
@@ -16,25 +16,17 @@ use Rattle.docker_desk.specs.Help.{leave_text}
 module _ {A : Type 0} (bytes : A → List ℕ) (lines : List A) (i : ℕ) (none : A) (text : List ℕ) (old mid new : StreamsView) where
   -- the first `i` lines and the line at index `i` are the first `i + 1` lines
   line_more : i < length lines → text ≡ bytes (get_or lines i none) → flat_map bytes (take (i + 1) lines) ≡ flat_map bytes (take i lines) ++ text
-  line_more below is =
-      ap (λ (n : ℕ). flat_map bytes (take n lines)) (add-one i) ∙ ap (flat_map bytes) (take-suc lines i none below)
-      ∙ flat_map-append bytes (take i lines) (get_or lines i none ∷ [])
-      ∙ ap (λ (line : List ℕ). flat_map bytes (take i lines) ++ line) (append-nil (bytes (get_or lines i none)) ∙ sym is)
+  line_more = grind (common_steps, arith, add-one, take-suc, flat_map-append, append-nil)
 
   -- if the first lines of a text were written and then the next line, one line more was written
   pub whole_at : i < length lines → text ≡ bytes (get_or lines i none) → WritesWhole (flat_map bytes (take i lines)) old mid → WritesWhole text mid new
       → WritesWhole (flat_map bytes (take (i + 1) lines)) old new
-  whole_at below is first next =
-      subst (λ (all : List ℕ). WritesWhole all old new) (sym (line_more below is))
-      (whole_both (flat_map bytes (take i lines)) text old mid new first next)
+  whole_at = search (rules, line_more, whole_both)
 
   -- if only a proper prefix of the next line was written, a proper prefix of the text was written
   pub part_at : i < length lines → text ≡ bytes (get_or lines i none) → WritesWhole (flat_map bytes (take i lines)) old mid → WritesPart text mid new
       → WritesPart (flat_map bytes lines) old new
-  part_at below is first next =
-      subst (λ (all : List ℕ). WritesPart all old new) whole
-      (part_of_first (flat_map bytes (take i lines) ++ text) (flat_map bytes (drop (i + 1) lines)) old new
-      (part_of_second (flat_map bytes (take i lines)) text old mid new first next))
+  part_at below is first next = subst (λ (all : List ℕ). WritesPart all old new) whole (part_of_first _ _ _ _ (part_of_second _ _ _ _ _ first next))
     where
       whole : (flat_map bytes (take i lines) ++ text) ++ flat_map bytes (drop (i + 1) lines) ≡ flat_map bytes lines
       whole = ap (λ (front : List ℕ). front ++ flat_map bytes (drop (i + 1) lines)) (sym (line_more below is))
@@ -43,11 +35,7 @@ module _ {A : Type 0} (bytes : A → List ℕ) (lines : List A) (i : ℕ) (none 
 -- after the last line, the whole text was written
 pub whole_end : {A : Type 0} (bytes : A → List ℕ) (lines : List A) (i : ℕ) (old new : StreamsView) → length lines ≤ i
     → WritesWhole (flat_map bytes (take i lines)) old new → WritesWhole (flat_map bytes lines) old new
-whole_end {A} bytes lines i old new past first = subst (λ (these : List A). WritesWhole (flat_map bytes these) old new) all first
-  where
-    all : take i lines ≡ lines
-    all =
-        sym (append-nil (take i lines)) ∙ ap (λ (rest : List A). take i lines ++ rest) (sym (drop_of_length-le lines past)) ∙ take-append-drop i lines
+whole_end = grind (common_steps, arith, append-nil, drop_of_length-le, take-append-drop)
 
 -- the words after a verb, as bytes
 words_of : (words : List (Bor Text)) → flat_map (λ (word : Bor Text). 32 ∷ word.now) words
@@ -59,8 +47,4 @@ words_of (word ∷ words) = ap (λ (rest : List ℕ). (32 ∷ word.now) ++ rest)
 pub line_is : (writes : Bool) (name : Text) (ids : List (Bor Text))
     → (leave_text writes ++ name) ++ (flat_map (λ (word : Bor Text). 32 ∷ word.now) ids ++ codes "\n")
     ≡ leave_text writes ++ usage_with name (map (λ (id : Bor Text). id.now) ids) ++ codes "\n"
-line_is writes name ids =
-    sym (append_assoc (leave_text writes ++ name) (flat_map (λ (word : Bor Text). 32 ∷ word.now) ids) (codes "\n"))
-    ∙ ap (λ (line : List ℕ). line ++ codes "\n")
-    (ap (λ (words : List ℕ). (leave_text writes ++ name) ++ words) (words_of ids)
-    ∙ append_assoc (leave_text writes) name (flat_map (λ (id : Text). 32 ∷ id) (map (λ (id : Bor Text). id.now) ids)))
+line_is = search (rules, append_assoc, words_of)

@@ -1,7 +1,7 @@
 -- How each request adds events to a folder's history.
-use Rattle.std.proofs.Common.{◌≡◌, ℕ, List, [], ◌∷◌, ◌++◌, Bool, ap, subst, ◌∙◌, append_assoc, Ok}
+use Rattle.std.proofs.Common.{◌≡◌, ℕ, List, [], ◌∷◌, ◌++◌, Bool, subst, append_assoc, Ok, rules}
 use Rattle.std.specs.Prelude.{Option, Result, ⊤}
-use Rattle.docker_host.specs.History.{Bytes, Event, Text, closed, drafted, looked, named_if, opened, placed}
+use Rattle.docker_host.specs.History.{Bytes, Event, Text, closed, looked, opened}
 use Rattle.docker_host.specs.Asked.{IsStored}
 use Rattle.docker_model.specs.state.State.{State}
 use Rattle.docker_model.specs.state.StateText.{dks_2, state_text}
@@ -12,8 +12,7 @@ use Rattle.docker_desk.specs.Reading.{OpensOnce, Reading, events_of}
 -- if the events `first` are appended to a history, and then the events `next`, the history has
 -- gained the events `first ++ next`
 pub then : (old middle new : List Event) (first next : List Event) → middle ≡ old ++ first → new ≡ middle ++ next → new ≡ old ++ (first ++ next)
-then old middle new first next before after =
-    after ∙ ap (λ (events : List Event). events ++ next) before ∙ append_assoc old first next
+then = search (rules, append_assoc)
 
 -- ---- how an opening is recorded
 
@@ -22,13 +21,7 @@ then old middle new first next before after =
 pub opens_as : (name : Text) (Stops : Reading → Type 0) (Ends : State → State → Result ⊤ OfficeFault → Option Reading → Type 0) (own now old new : State)
     (result : Result ⊤ OfficeFault) (before after : List Event) → own ≡ old → now ≡ new → OpensOnce name Stops (Ends own now result) before after
     → OpensOnce name Stops (Ends old new result) before after
-opens_as name Stops Ends own now old new result before after is same opens = record {
-  read = opens.read;
-  asked = opens.asked;
-  stops = opens.stops;
-  ends =
-      subst (λ (state : State). Ends state new result opens.read) is (subst (λ (state : State). Ends own state result opens.read) same opens.ends);
-}
+opens_as = search rules
 
 -- if a file was opened and then closed, the history gained the events `opened` and `closed`
 pub then_closed : (name : Text) (held left : Bytes) (old opened_now new : List Event) → opened_now ≡ old ++ opened name held ∷ []
@@ -42,5 +35,4 @@ pub saved_then : (names_bytes : Bool) (name : Text) (look : ℕ) (own state : St
     → IsStored names_bytes name look (state_text dks_2 own) old middle → new ≡ middle ++ looked name ∷ [] → own ≡ state
     → EndsSaving names_bytes name look (state_text dks_2 state) old new (Ok tt)
 saved_then names_bytes name look own state old middle new stored looks is =
-    subst (λ (s : State). EndsSaving names_bytes name look (state_text dks_2 s) old new (Ok tt)) is
-    (then old middle new (drafted name look ∷ placed name (named_if names_bytes (state_text dks_2 own)) ∷ []) (looked name ∷ []) stored looks)
+    subst (λ (s : State). EndsSaving names_bytes name look (state_text dks_2 s) old new (Ok tt)) is (then _ _ _ _ _ stored looks)

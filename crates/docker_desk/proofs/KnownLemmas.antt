@@ -1,6 +1,7 @@
 -- What a desk knows after each step of a session, and after all steps.
-use Rattle.std.proofs.Common.{◌≡◌, ◌≤◌, ℕ, Bool, List, [], ◌∷◌, ◌++◌, length, refl, sym, ◌∙◌, ap, subst, arith, append-nil, Some, None, Ok, Err}
-use Rattle.std.specs.Prelude.{Option, Result, max, ⊤}
+use Rattle.std.proofs.Common.{◌≡◌, ◌≤◌, ℕ, Bool, List, [], ◌∷◌, ◌++◌, length, refl, sym, ◌∙◌, ap, subst, arith, append-nil, Some, None}
+use Rattle.std.proofs.Common.{rules}
+use Rattle.std.specs.Prelude.{Option, Result, ⊤}
 use Rattle.std.proofs.Math.Nat.{max-zero}
 use Rattle.std.proofs.lemmas.List.Elements.{All-cons, All-nil}
 use Rattle.docker_model.specs.records.Date.{IsDay}
@@ -17,9 +18,9 @@ use Rattle.docker_host.specs.History.{Event, Text}
 use Rattle.docker_bytes.specs.SourceRead.{ReadsState}
 use Rattle.docker_office.specs.Office.{HoldsState}
 use Rattle.docker_office.specs.declared.fault.OfficeFault.{OfficeFault}
-use Rattle.docker_desk.specs.Lines.{LineView, whole_line, bad_line, cut_line}
-use Rattle.docker_desk.specs.Requests.{RequestView, after_word, show_request, renew_request, take_request, merge_request, horizon_request, save_request}
-use Rattle.docker_desk.specs.Desk.{DeskView, EndsReceiving, EndsRenewing, EndsTaking}
+use Rattle.docker_desk.specs.Lines.{LineView}
+use Rattle.docker_desk.specs.Requests.{RequestView, show_request, renew_request, take_request, merge_request, horizon_request, save_request}
+use Rattle.docker_desk.specs.Desk.{EndsReceiving, EndsRenewing, EndsTaking}
 use Rattle.docker_desk.specs.Reading.{Reading, events_of}
 use Rattle.docker_desk.specs.declared.compared.Compared.{Compared}
 use Rattle.docker_desk.specs.Replies.{AnswerView, done_with, no_request, refused_for}
@@ -37,9 +38,7 @@ known_with_nothing known = λ i. record { files = append-nil known.files i; hori
 -- if nothing was learned and the state is unchanged, the state is still the summary of what is
 -- known
 nothing_heard : (old heard : Known) (before after : State) → heard ≡ nothing → after ≡ before → IsKnown old before → IsKnown (united old heard) after
-nothing_heard old heard before after none same is =
-    subst (λ h. IsKnown (united old h) after) (sym none)
-    (subst (λ k. IsKnown k after) (sym (known_with_nothing old)) (subst (IsKnown old) (sym same) is))
+nothing_heard = search (rules, known_with_nothing)
 
 -- the join of two states is the summary of what the two states know together
 known_joined : (old heard : Known) (own other after : State) → IsKnown old own → IsKnown heard other
@@ -52,13 +51,7 @@ known_joined old heard own other after first second join = record {
 -- after a horizon is set, the state is the summary of what was known before and of the horizon
 known_raised : (old heard : Known) (day : ℕ) (state : State) → IsDay day → heard ≡ record { files = []; horizon = day } → IsKnown old state
     → IsKnown (united old heard) (raise_horizon day state)
-known_raised old heard day state is_day heard_is known =
-    subst (λ h. IsKnown (united old h) (raise_horizon day state)) (sym heard_is) (record {
-      good = united_good dks_2 old (record { files = []; horizon = day }) known.good (horizon_good dks_2 day is_day);
-      is =
-          subst (λ fs. IsSummary fs (max old.horizon day) (raise_horizon day state)) (sym (append-nil old.files))
-          (raised_summary old.files old.horizon day state known.is);
-    })
+known_raised = search (rules, united_good, horizon_good, append-nil, raised_summary)
 
 -- if a desk's state is the summary of one file under the horizon 0, this file and this horizon are
 -- what the desk knows
@@ -80,50 +73,42 @@ module _ (setting : Setting) (before after : SessionView) where
       → IsKnown (united old heard) after.desk.state
   file_known name old heard hears is =
       let takes = hears.takes in
-      subst (λ h. IsKnown (united old h) after.desk.state) (sym hears.heard_is)
-      (known_joined old (record { files = takes.file ∷ []; horizon = 0 }) before.desk.state takes.own after.desk.state is
-      (known_file takes.file takes.own takes.is_text.is takes.is_text.within takes.of_file) takes.joined)
+      subst (λ h. IsKnown (united old h) after.desk.state) (sym hears.heard_is) (known_joined _ _ _ _ _ is
+      (known_file _ _ takes.is_text.is takes.is_text.within takes.of_file) takes.joined)
 
   -- after a state is received, the desk's state is the summary of what was known before and of what
   -- was learned
   state_known : (events : Reading → List Event) (old heard : Known) → HearsState events before after heard → IsKnown old before.desk.state
       → IsKnown (united old heard) after.desk.state
-  state_known events old heard hears is =
-      known_joined old heard before.desk.state hears.joins.received after.desk.state is hears.of hears.joins.join
+  state_known events old heard hears is = known_joined _ _ _ _ _ is hears.of hears.joins.join
 
   -- `save` doesn't change the state
   pub same_saved : (result : Result ⊤ OfficeFault) → after.desk ≡ desk_by result before.desk → after.desk.state ≡ before.desk.state
-  same_saved (Ok done) same = ap (λ (desk : DeskView). desk.state) same
-  same_saved (Err fault) same = ap (λ (desk : DeskView). desk.state) same
+  same_saved = search rules
 
   -- if `take` is refused, the state is unchanged
   refused_take : (fault : OfficeFault) (result : Result ⊤ OfficeFault) (held : Option Reading) → refused_for fault ≡ answer_of result
       → EndsTaking before.desk.state after.desk.state result held → after.desk.state ≡ before.desk.state
-  refused_take fault (Ok done) held told ends = let never : ⊥ = cc in absurd never
-  refused_take fault (Err why) held told ends = ends.1
+  refused_take = search rules
 
   refused_merge : (fault : OfficeFault) (result : Result ⊤ OfficeFault) (held : Option Reading) → refused_for fault ≡ answer_of result
       → EndsReceiving before.desk.state after.desk.state result held → after.desk.state ≡ before.desk.state
-  refused_merge fault (Ok done) held told ends = let never : ⊥ = cc in absurd never
-  refused_merge fault (Err why) held told ends = ends.1
+  refused_merge = search rules
 
   refused_renew : (fault : OfficeFault) (result : Result Compared OfficeFault) (held : Option Reading) → refused_for fault ≡ answer_of result
       → EndsRenewing before.desk after.desk result held → after.desk.state ≡ before.desk.state
-  refused_renew fault (Ok done) held told ends = let never : ⊥ = cc in absurd never
-  refused_renew fault (Err why) held told ends = ap (λ (desk : DeskView). desk.state) ends.1
+  refused_renew = search rules
 
   -- the answer made from a result is never `no_request`
   some_answer : {A : Type 0} (result : Result A OfficeFault) → ¬ (no_request ≡ answer_of result)
-  some_answer (Ok done) told = let never : ⊥ = cc in never
-  some_answer (Err fault) told = let never : ⊥ = cc in never
+  some_answer = search rules
 
   -- after a request succeeds, the state is the summary of what was known before and of what was
   -- learned
   known_done : (request : RequestView) (text : List ℕ) (old heard : Known) → ((day : ℕ) → request ≡ horizon_request day → IsDay day)
       → DoesRequest setting request before (done_with text) after → Hears setting request before after heard → IsKnown old before.desk.state
       → IsKnown (united old heard) after.desk.state
-  known_done (show_request query) text old heard days does hears is =
-      nothing_heard old heard _ _ hears (ap (λ (m : SessionView). m.desk.state) does.1) is
+  known_done (show_request query) text old heard days does hears is = search (rules, nothing_heard)
   known_done renew_request text old heard days does hears is = state_known (renewing setting.name) old heard hears is
   known_done (take_request file) text old heard days does hears is = file_known file old heard hears is
   known_done (merge_request other) text old heard days does hears is = state_known (events_of other) old heard hears is
@@ -135,58 +120,38 @@ module _ (setting : Setting) (before after : SessionView) where
   -- a refused request doesn't change the state
   pub same_refused : (request : RequestView) (fault : OfficeFault) → DoesRequest setting request before (refused_for fault) after
       → after.desk.state ≡ before.desk.state
-  same_refused (show_request query) fault does = ap (λ (m : SessionView). m.desk.state) does.1
-  same_refused renew_request fault does = refused_renew fault does.result does.opens.read does.told does.opens.ends
-  same_refused (take_request file) fault does = refused_take fault does.result does.opens.read does.told does.opens.ends
-  same_refused (merge_request other) fault does = refused_merge fault does.result does.opens.read does.told does.opens.ends
-  same_refused (horizon_request day) fault does = let told = does.0 in let never : ⊥ = cc in absurd never
-  same_refused save_request fault does = same_saved does.result does.desk
+  same_refused = search (rules, refused_renew, refused_take, refused_merge, same_saved)
 
   -- the answer to a request is never `no_request`
   pub never_unasked : (request : RequestView) → ¬ DoesRequest setting request before no_request after
-  never_unasked (show_request query) does = does.0
-  never_unasked renew_request does = some_answer does.result does.told
-  never_unasked (take_request file) does = some_answer does.result does.told
-  never_unasked (merge_request other) does = some_answer does.result does.told
-  never_unasked (horizon_request day) does = let told = does.0 in let never : ⊥ = cc in never
-  never_unasked save_request does = some_answer does.result does.told
+  never_unasked = search (rules, some_answer)
 
   -- after a line is answered, the state is the summary of what is known after the line
   known_asked : (request : Option RequestView) (answer : AnswerView) (old new : Known) → ((day : ℕ) → request ≡ Some (horizon_request day) → IsDay day)
       → DoesAsked setting request before answer after → Learns setting request before answer after old new → IsKnown old before.desk.state
       → IsKnown new after.desk.state
-  known_asked None answer old new days does learns is =
-      subst (λ (m : SessionView). IsKnown new m.desk.state) (sym does.1) (subst (λ k. IsKnown k before.desk.state) (sym learns) is)
+  known_asked None answer old new days does learns is = search rules
   known_asked (Some request) (done_with text) old new days does learns is =
       subst (λ k. IsKnown k after.desk.state) (sym learns.1.1)
       (known_done request text old learns.0 (λ day same. days day (ap Some same)) does learns.1.0 is)
-  known_asked (Some request) (refused_for fault) old new days does learns is =
-      subst (λ k. IsKnown k after.desk.state) (sym learns) (subst (IsKnown old) (sym (same_refused request fault does)) is)
-  known_asked (Some request) no_request old new days does learns is = absurd (never_unasked request does)
-
--- ---- what is known after each step
+  known_asked (Some request) (refused_for fault) old new days does learns is = search (rules, same_refused)
+  known_asked (Some request) no_request old new days does learns is = search (rules, never_unasked)
 
 -- the day that a `horizon` request names is a valid day number
 pub day_asked : (may_write : Bool) (line : LineView) (request : Option RequestView) (day : ℕ) → AsksOf may_write line request
     → request ≡ Some (horizon_request day) → IsDay day
-day_asked may_write (whole_line line) request day asks same =
-    let asked = subst (λ r. AsksOf may_write (whole_line line) r) same asks in day_made asked.1.verb (after_word line) day asked.1.makes
-day_asked may_write bad_line request day asks same = let never : ⊥ = cc in absurd never
-day_asked may_write cut_line request day asks same = let never : ⊥ = cc in absurd never
+day_asked = search (rules, day_made)
 
 module _ (setting : Setting) where
   -- after a step, the state is the summary of what is known after the step
   known_step : (step : Step) (old new : Known) → IsStep setting step → Learns setting step.request step.before step.answer step.after old new
       → IsKnown old step.before.desk.state → IsKnown new step.after.desk.state
-  known_step step old new does learns is =
-      known_asked setting step.before step.after step.request step.answer old new
-      (λ day same. day_asked setting.may_write step.line step.request day does.asks same) does.does learns is
+  known_step = search (rules, known_asked, day_asked)
 
   -- after a list of steps, the state is the summary of what is known after the last step
   pub known_steps : (first last : SessionView) (steps : List Step) (old new : Known) → IsKnown old first.desk.state → AreSteps setting first steps last
       → AreLearned setting old steps new → IsKnown new last.desk.state
-  known_steps first last [] old new is are learned =
-      subst (λ (m : SessionView). IsKnown new m.desk.state) (sym are) (subst (λ k. IsKnown k first.desk.state) (sym learned) is)
+  known_steps first last [] old new is are learned = search rules
   known_steps first last (step ∷ steps) old new is are learned =
       known_steps step.after last steps learned.0 new
       (known_step step old learned.0 are.1.0 learned.1.0 (subst (λ (m : SessionView). IsKnown old m.desk.state) (sym are.0) is)) are.1.1 learned.1.1

@@ -1,30 +1,21 @@
 -- Reading a line byte by byte, and what the bytes read so far say about the line.
-use Rattle.std.proofs.Common.{◌≡◌, ℕ, ◌+◌, ◌-◌, ◌^◌, ◌≤◌, ◌≢◌, List, [], ◌∷◌, ◌++◌, length, true, false, refl, sym, ◌∙◌}
+use Rattle.std.proofs.Common.{◌≡◌, ℕ, ◌+◌, ◌≤◌, ◌≢◌, List, [], ◌∷◌, ◌++◌, length, true, false, refl, sym, ◌∙◌, rules}
+use Rattle.std.proofs.lemmas.Grind.{common_steps}
 use Rattle.std.proofs.Common.{ap, subst, arith, append_assoc, length-append, append-nil, Some, None, inl, inr, Ok, Err}
-use Rattle.std.specs.Prelude.{Option, option_map, Result, ◌⊎◌}
+use Rattle.std.specs.Prelude.{Option, Result, ◌⊎◌}
 use Rattle.std.specs.List.{AllByRecursion}
-use Rattle.std.proofs.lemmas.List.Elements.{recursion_from_All, All-from_recursion}
+use Rattle.std.proofs.lemmas.List.Elements.{recursion_from_All}
 use Rattle.docker_model.specs.records.Record.{is_printable}
 use Rattle.cif_device.specs.Device.{Reads, IsEnd}
-use Rattle.docker_cmd.specs.JobLine.{ReadsByte, IsLineText}
+use Rattle.docker_cmd.specs.JobLine.{IsLineText}
 use Rattle.docker_desk.specs.declared.lines.Asked.{Asked}
 use Rattle.docker_desk.specs.declared.lines.Asked.TheVariants as asked
 use Rattle.docker_desk.specs.declared.lines.InputFault.{InputFault}
 use Rattle.docker_desk.specs.declared.lines.InputFault.TheVariants.{Failed, Endless}
 use Rattle.docker_desk.specs.Lines.{IsWithoutFeed, ReadsNext, ReadsAsked, ReadsMany, EndsLine, EndsSkipping}
-use Rattle.docker_desk.specs.Lines.{SkipsLine, SkipsAll, whole_line, cut_line, with_ahead, cut_or_end}
+use Rattle.docker_desk.specs.Lines.{SkipsLine, SkipsAll, whole_line, cut_or_end}
 
 -- ---- what was read ahead
-
--- if no bytes were read ahead, the bytes to read are the bytes left in the source
-pub none_ahead : (left : Option (List ℕ)) → with_ahead [] left ≡ left
-none_ahead None = refl
-none_ahead (Some rest) = refl
-
--- if bytes were read ahead, the next byte read is the first of these bytes
-pub first_ahead : (byte : ℕ) (old new : List ℕ) (left : Option (List ℕ)) → old ≡ byte ∷ new → ReadsByte (with_ahead old left) (Some byte) (with_ahead new left)
-first_ahead byte old new None same = refl
-first_ahead byte old new (Some rest) same = ap (λ bytes. Some (bytes ++ rest)) same
 
 -- ---- bytes without a line feed
 
@@ -42,31 +33,18 @@ printable_without (b ∷ line) good = (other b good.0, printable_without line go
 
 -- if a printable byte is appended to printable bytes, all bytes are still printable
 pub printable_more : (line : List ℕ) (b : ℕ) → ArePrintable line → is_printable b ≡ true → ArePrintable (line ++ b ∷ [])
-printable_more [] b good here = (here, tt)
-printable_more (y ∷ line) b good here = (good.0, printable_more line b good.1 here)
+printable_more = grind (common_steps, arith)
 
 -- the concatenation of two texts without a line feed has no line feed
 pub without_both : (xs ys : List ℕ) → IsWithoutFeed xs → IsWithoutFeed ys → IsWithoutFeed (xs ++ ys)
-without_both [] ys first second = second
-without_both (x ∷ xs) ys first second = (first.0, without_both xs ys first.1 second)
+without_both = grind (common_steps, arith)
 
 -- ---- one reading after another
 
 -- if the bytes `line` were read and then the bytes `more`, the concatenation `line ++ more` was
 -- read
 pub reads_on : (old now new : Option (List ℕ)) (line more : List ℕ) → Reads old line now → Reads now more new → Reads old (line ++ more) new
-reads_on old now None line more first then_more = first ∙ ap (option_map (λ rest. line ++ rest)) then_more
-reads_on old now (Some rest) line more first then_more =
-    first ∙ ap (option_map (λ rest. line ++ rest)) then_more ∙ ap Some (sym (append_assoc line more rest))
-
--- if a source is unchanged, no bytes were read from it
-pub reads_none : (left : Option (List ℕ)) → Reads left [] left
-reads_none None = refl
-reads_none (Some bytes) = refl
-
--- if no bytes were read, at least 0 bytes were read
-pub many_none : (left : Option (List ℕ)) → ReadsMany 0 left left
-many_none left = record { lost = []; many = omega arith; read = reads_none left }
+reads_on = search (rules, append_assoc)
 
 -- if at least n bytes and then one more were read, at least n + 1 bytes were read
 pub many_more : (n : ℕ) (old now new : Option (List ℕ)) (byte : ℕ) → ReadsMany n old now → Reads now (byte ∷ []) new → ReadsMany (n + 1) old new
@@ -75,10 +53,6 @@ many_more n old now new byte many then_one = record {
   many = (let first = many.many in omega (arith, first, length-append many.lost (byte ∷ [])));
   read = reads_on old now new many.lost (byte ∷ []) many.read then_one;
 }
-
--- if at least n bytes were read, at least 0 bytes were read
-pub some_read : (n : ℕ) (old now new : Option (List ℕ)) → ReadsMany n old now → new ≡ now → ReadsMany 0 old new
-some_read n old now new many same = record { lost = many.lost; many = omega arith; read = subst (Reads old many.lost) (sym same) many.read }
 
 -- if a line and then at least n bytes were read, at least n bytes were read
 pub many_behind : (n : ℕ) (old now new : Option (List ℕ)) (line : List ℕ) → Reads old line now → ReadsMany n now new → ReadsMany n old new
@@ -89,12 +63,6 @@ many_behind n old now new line first many = record {
 }
 
 -- ---- the rest of a bad line
-
--- if the next byte is a line feed, reading this byte skips the rest of the line
-pub skips_feed : (old new : Option (List ℕ)) → Reads old (10 ∷ []) new → SkipsLine old new
-skips_feed None new read = tt
-skips_feed (Some text) None read = let never : ⊥ = cc in absurd never
-skips_feed (Some text) (Some rest) read = record { skipped = []; rest = rest; whole = cc; one = tt; behind = refl }
 
 -- suppose that a byte was read that isn't a line feed, and that the bytes after it on its line were
 -- skipped. Then the rest of the line was skipped, beginning with this byte
@@ -113,64 +81,23 @@ skips_byte (Some text) (Some left) new b read other line =
     behind : (text left : List ℕ) (b : ℕ) (skipped rest : List ℕ) → text ≡ b ∷ left → left ≡ skipped ++ 10 ∷ rest → text ≡ b ∷ skipped ++ 10 ∷ rest
     behind text left b skipped rest first second = cc
 
--- if a source is at its end and nothing was read, the rest of the last line was skipped
-pub skips_end : (old new : Option (List ℕ)) → IsEnd old → new ≡ old → SkipsAll old new
-skips_end None new end same = tt
-skips_end (Some text) new end same = (subst IsWithoutFeed (sym end) tt, same ∙ ap Some end)
-
 -- suppose that a byte was read that isn't a line feed, and that the bytes after it on the last line
 -- were skipped. Then the rest of the last line was skipped, beginning with this byte
 pub skips_before : (old now new : Option (List ℕ)) (b : ℕ) → Reads old (b ∷ []) now → b ≢ 10 → SkipsAll now new → SkipsAll old new
-skips_before None now new b read other line = tt
-skips_before (Some text) None new b read other line = let never : ⊥ = cc in absurd never
-skips_before (Some text) (Some left) new b read other line =
-    let same : text ≡ b ∷ left = cc in (subst IsWithoutFeed (sym same) (other, line.0), line.1)
+skips_before = search rules
 
 -- ---- reading a whole, cut or bad line
 
 -- if at most 255 printable bytes and then a line feed were read, a whole line was read
 pub reads_whole : (old now new : Option (List ℕ)) (line : List ℕ) → Reads old line now → Reads now (10 ∷ []) new → ArePrintable line → length line ≤ 255
     → ReadsNext old (whole_line line) new
-reads_whole old now new line first feed good short = by old new (reads_on old now new line (10 ∷ []) first feed)
-  where
-    is_text : IsLineText line
-    is_text = record { short = short; printable = All-from_recursion _ line good }
-
-    by : (old new : Option (List ℕ)) → Reads old (line ++ 10 ∷ []) new → ReadsNext old (whole_line line) new
-    by None new read = is_text
-    by (Some text) None read = let never : ⊥ = cc in absurd never
-    by (Some text) (Some rest) read =
-        let same : text ≡ (line ++ 10 ∷ []) ++ rest = cc in
-        (rest, (record { whole = same ∙ append_assoc line (10 ∷ []) rest; line_text = is_text }, refl))
+reads_whole = grind (common_steps, arith, reads_on, append_assoc)
 
 -- if the source ends after printable bytes, these bytes were read as a cut line. If there were no
 -- bytes, no line was read
 pub reads_cut : (old now new : Option (List ℕ)) (line : List ℕ) → Reads old line now → IsEnd now → new ≡ now → ArePrintable line
     → ReadsAsked old (cut_or_end line) new
-reads_cut old now new [] read end same good = at_end old now new read end same
-  where
-    at_end : (old now new : Option (List ℕ)) → Reads old [] now → IsEnd now → new ≡ now → IsEnd old × (new ≡ old)
-    at_end None now new read end same = (tt, same ∙ nothing now read)
-      where
-        nothing : (now : Option (List ℕ)) → Reads None [] now → now ≡ None
-        nothing None read = refl
-        nothing (Some rest) read = let never : ⊥ = cc in absurd never
-    at_end (Some text) None new read end same = let never : ⊥ = cc in absurd never
-    at_end (Some text) (Some rest) new read end same = (let one : text ≡ rest = cc in one ∙ end, same ∙ sym read)
-reads_cut old now new (b ∷ line) read end same good = by old now new read end same
-  where
-    by : (old now new : Option (List ℕ)) → Reads old (b ∷ line) now → IsEnd now → new ≡ now → ReadsNext old cut_line new
-    by None now new read end same = tt
-    by (Some text) None new read end same = let never : ⊥ = cc in absurd never
-    by (Some text) (Some rest) new read end same =
-        let one : text ≡ b ∷ line ++ rest = cc in
-        let all : text ≡ b ∷ line = one ∙ ap (λ r. b ∷ line ++ r) end ∙ append-nil (b ∷ line) in (
-          [],
-          (
-            (record { some = λ none. let never : ⊥ = cc in never; one = subst IsWithoutFeed (sym all) (printable_without (b ∷ line) good) }, refl),
-            same ∙ ap Some end,
-          ),
-        )
+reads_cut = search (rules, append-nil, printable_without)
 
 -- this byte makes the line bad: the byte isn't a line feed, and either it isn't printable or the
 -- line already has 255 bytes
@@ -194,10 +121,10 @@ not_text line b more spoiled text = by spoiled.why
 -- if a byte makes a line bad and the rest of the line is skipped, a bad line was read
 pub reads_bad : (old now mid new : Option (List ℕ)) (line : List ℕ) (b : ℕ) (result : Result Asked InputFault) → Reads old line now → Reads now (b ∷ []) mid
     → ArePrintable line → IsSpoiled line b → EndsSkipping mid result new → EndsLine old result new
-reads_bad old now mid new line b result first then_one good spoiled ends = by old mid result (reads_on old now mid line (b ∷ []) first then_one) ends
+reads_bad old now mid new line b result first then_one good spoiled ends = by old mid result (reads_on _ _ _ _ _ first then_one) ends
   where
     front : IsWithoutFeed (line ++ b ∷ [])
-    front = without_both line (b ∷ []) (printable_without line good) (spoiled.other, tt)
+    front = without_both _ _ (printable_without _ good) (spoiled.other, tt)
 
     by : (old mid : Option (List ℕ)) (result : Result Asked InputFault) → Reads old (line ++ b ∷ []) mid → EndsSkipping mid result new → EndsLine old result new
     by None mid (Ok asked.Bad) read ends = tt
@@ -211,8 +138,8 @@ reads_bad old now mid new line b result first then_one good spoiled ends = by ol
             record {
               line = (line ++ b ∷ []) ++ ends.skipped;
               whole = same ∙ ap (λ l. (line ++ b ∷ []) ++ l) ends.whole ∙ sym (append_assoc (line ++ b ∷ []) ends.skipped (10 ∷ ends.rest));
-              one = without_both (line ++ b ∷ []) ends.skipped front ends.one;
-              bad = subst (λ l. ¬ IsLineText l) (sym (append_assoc line (b ∷ []) ends.skipped)) (not_text line b ends.skipped spoiled);
+              one = without_both _ _ front ends.one;
+              bad = subst (λ l. ¬ IsLineText l) (sym (append_assoc line (b ∷ []) ends.skipped)) (not_text _ _ _ spoiled);
             },
             ends.behind,
           ),
@@ -224,7 +151,7 @@ reads_bad old now mid new line b result first then_one good spoiled ends = by ol
             (
               record {
                 some = λ none. nothing line b left (sym same ∙ none);
-                one = subst IsWithoutFeed (sym same) (without_both (line ++ b ∷ []) left front ends.0);
+                one = subst IsWithoutFeed (sym same) (without_both _ _ front ends.0);
               },
               refl,
             ),
@@ -237,5 +164,5 @@ reads_bad old now mid new line b result first then_one good spoiled ends = by ol
         nothing (y ∷ line) b left none = cc
     by old mid (Ok (asked.Line other)) read ends = absurd ends
     by old mid (Ok asked.End) read ends = absurd ends
-    by old mid (Err Failed) read ends = many_behind 0 old mid new (line ++ b ∷ []) read ends
-    by old mid (Err Endless) read ends = many_behind (2 ^ 64 - 1) old mid new (line ++ b ∷ []) read ends
+    by old mid (Err Failed) read ends = many_behind _ _ _ _ _ read ends
+    by old mid (Err Endless) read ends = many_behind _ _ _ _ _ read ends

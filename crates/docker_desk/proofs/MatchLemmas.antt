@@ -1,5 +1,6 @@
 -- How a sink compares a text with the bytes that are written to it.
-use Rattle.std.proofs.Common.{◌≡◌, ◌<◌, ◌+◌, ◌-◌, ℕ, List, [], ◌∷◌, ◌++◌, length, take, drop, Option, None}
+use Rattle.std.proofs.Common.{◌≡◌, ◌<◌, ◌+◌, ◌-◌, ℕ, List, [], ◌∷◌, ◌++◌, length, take, drop, Option, None, rules}
+use Rattle.std.proofs.lemmas.Grind.{common_steps}
 use Rattle.std.proofs.Common.{Some, sym, ◌∙◌, ap, subst, arith, append-nil}
 use Rattle.std.proofs.lemmas.List.{take-append-drop}
 use Rattle.std.proofs.lemmas.List.{length-drop}
@@ -21,11 +22,7 @@ goes_on text piece taken at n same front = take-add at n text ∙ (λ i. front i
 -- the same as `goes_on`, for a sink whose bytes have all agreed with the text so far
 pub goes_on_as : (text piece taken : List ℕ) (other : Option ℕ) (at n : ℕ) → is_some other ≡ false → with_other (take at text) other ≡ taken
     → take n (take (length text - at) (drop at text)) ≡ take n piece → Some (with_other (take (at + n) text) other) ≡ Some (taken ++ take n piece)
-goes_on_as text piece taken None at n none front same = ap Some (goes_on text piece taken at n (ap (take n) (sym rest) ∙ same) front)
-  where
-    rest : take (length text - at) (drop at text) ≡ drop at text
-    rest = ap (λ (many : ℕ). take many (drop at text)) (sym (length-drop at text)) ∙ take-length (drop at text)
-goes_on_as text piece taken (Some byte) at n none front same = let never : ⊥ = cc in absurd never
+goes_on_as = grind (common_steps, arith, goes_on, length-drop, take-length)
 
 -- if a sink has taken a byte that differs from the byte of the text at the same offset, the sink
 -- hasn't taken exactly the text
@@ -44,15 +41,7 @@ pub sent_compares : (text sent before taken own : List ℕ) (bytes : Option (Lis
     → OnErr done (TakesPart (Some before) sent (Some taken)) → CountsFailure (done ≡ Err office.Sink) failures_before failures
     → IfErr done (λ fault. fault ≡ office.Sink) → ok ≡ is_ok done → (IsTrue whole → taken ≡ own) × (taken ≡ own → IsTrue whole)
     → (0 < failures → IsNoFront taken own) → (IsTrue (ok && whole) → text ≡ sent) × (text ≡ sent → IsTrue (ok && whole))
-sent_compares text sent before taken own bytes failures_before failures (Ok done) ok whole none zero named named_too takes part counts only is_ok wholly apart =
-    subst (λ (o : Bool). (IsTrue (o && whole) → text ≡ sent) × (text ≡ sent → IsTrue (o && whole))) (sym is_ok)
-    (λ is. sym same ∙ sym (wholly.0 is) ∙ took, λ is. wholly.1 (took ∙ sym is ∙ sym same))
-  where
-    same : own ≡ text
-    same = cc
-
-    took : taken ≡ sent
-    took = let all : Some taken ≡ Some (before ++ sent) = takes in let one : taken ≡ before ++ sent = cc in one ∙ ap (λ (b : List ℕ). b ++ sent) none
+sent_compares text sent before taken own bytes failures_before failures (Ok done) ok whole none zero named named_too takes part counts only is_ok wholly apart = search rules
 sent_compares text sent before taken own bytes failures_before failures (Err why) ok whole none zero named named_too takes part counts only is_ok wholly apart =
     subst (λ (o : Bool). (IsTrue (o && whole) → text ≡ sent) × (text ≡ sent → IsTrue (o && whole))) (sym is_ok)
     (λ is. let never : ⊥ = cc in absurd never, λ is. absurd (other is))

@@ -18,21 +18,19 @@ pub one_permanent : (first second : Known) (one two : State) → IsKnown first o
     → (place : List ℕ) (day : ℕ) → ¬ IsDayRefused one.horizon day → ¬ IsDayRefused two.horizon day → (text other : List ℕ)
     → IsDockerText (permanent_table (live_table one)) place day text → IsDockerText (permanent_table (live_table two)) place day other → text ≡ other
 one_permanent first second one two left right same place day prints prints_too =
-    permanent_of_files first.files second.files first.horizon second.horizon one two left.good.0 right.good.0 same left.good.1 right.good.1
-    left.is right.is place day (subst (λ h. ¬ IsDayRefused h day) left.is.horizon_is prints)
-    (subst (λ h. ¬ IsDayRefused h day) right.is.horizon_is prints_too)
+    permanent_of_files _ _ _ _ _ _ left.good.0 right.good.0 same left.good.1 right.good.1
+    left.is right.is _ _ (subst (λ h. ¬ IsDayRefused h day) left.is.horizon_is prints) (subst (λ h. ¬ IsDayRefused h day) right.is.horizon_is prints_too)
 
 -- if no two known files have the same moment, each permanent docker of the state is the permanent
 -- docker of the plain table
 pub plain_permanent : (known : Known) (state : State) → IsKnown known state → HaveDistinctMoments known.files
     → (plain : Table) × (IsPlainTable known.files plain × KeepsAs state plain)
 plain_permanent known state is distinct =
-    let plain = some_plain_table known.files distinct in (
+    let plain = some_plain_table _ distinct in (
       plain.0,
       (
         plain.1,
-        λ place day text prints.
-            permanent_is_plain known.files known.horizon state plain.0 place day text is.good.0 is.good.1 is.is plain.1
+        λ place day text prints. permanent_is_plain _ _ _ _ _ _ _ is.good.0 is.good.1 is.is plain.1
             (subst (λ h. ¬ IsDayRefused h day) is.is.horizon_is prints),
       ),
     )

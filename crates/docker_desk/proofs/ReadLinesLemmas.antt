@@ -1,13 +1,13 @@
 -- The lines that were read from an input, and the answers that were written to an output.
-use Rattle.std.proofs.Common.{◌≡◌, ℕ, ◌+◌, ◌-◌, ◌^◌, ◌≤◌, List, [], ◌∷◌, ◌++◌, length, take, refl, sym, ◌∙◌, ap, subst}
+use Rattle.std.proofs.Common.{◌≡◌, ℕ, ◌+◌, ◌-◌, ◌^◌, ◌≤◌, List, [], ◌∷◌, ◌++◌, length, take, refl, sym, ◌∙◌, ap, subst, rules}
 use Rattle.std.proofs.Common.{arith, append_assoc, append-nil, length-append, Some, None, Ok, Err}
 use Rattle.std.specs.Prelude.{⊤, Option, option_map}
 use Rattle.std.proofs.lemmas.List.{length-map, map-append}
-use Rattle.std.proofs.lemmas.Grind.{flat_map-append}
-use Rattle.cif_device.specs.Device.{IsEnd, Reads, Takes, TakesPart}
+use Rattle.std.proofs.lemmas.Grind.{flat_map-append, common_steps}
+use Rattle.cif_device.specs.Device.{IsEnd, Takes, TakesPart}
 use Rattle.docker_cmd.specs.Prepared.{DeviceBytes}
 use Rattle.docker_desk.specs.Lines.{AreLines, EndsLine, IsNextLine, LineView, ReadsAsked, ReadsMany}
-use Rattle.docker_desk.specs.Lines.{ReadsNext, asked_meant, whole_line, bad_line, cut_line}
+use Rattle.docker_desk.specs.Lines.{ReadsNext, asked_meant, cut_line}
 use Rattle.docker_desk.specs.declared.lines.Asked.{Asked}
 use Rattle.docker_desk.specs.declared.lines.InputFault.{InputFault}
 use Rattle.docker_desk.specs.declared.lines.InputFault.TheVariants.{Endless}
@@ -28,16 +28,14 @@ ReadsFirst (Some text) lines left = (rest : List ℕ) × (AreFirstLines text lin
 
 -- if no line has been read, all bytes of the input are left
 pub reads_none : (input : DeviceBytes) → ReadsFirst input [] input
-reads_none None = tt
-reads_none (Some text) = (text, (refl, refl))
+reads_none = search rules
 
 -- if a text begins with lines, and the bytes after them begin with more lines, the text begins with
 -- all these lines
 pub first_lines_more : (text : List ℕ) (lines more : List LineView) (rest last : List ℕ) → AreFirstLines text lines rest → AreFirstLines rest more last
     → AreFirstLines text (lines ++ more) last
 first_lines_more text [] more rest last first then_more = subst (λ t. AreFirstLines t more last) first then_more
-first_lines_more text (line ∷ lines) more rest last first then_more =
-    (first.0, (first.1.0, first_lines_more first.0 lines more rest last first.1.1 then_more))
+first_lines_more text (line ∷ lines) more rest last first then_more = (first.0, (first.1.0, first_lines_more _ lines _ rest _ first.1.1 then_more))
 
 lines_more : (text : List ℕ) (lines more : List LineView) (rest : List ℕ) → AreFirstLines text lines rest → AreLines rest more → AreLines text (lines ++ more)
 lines_more text [] more rest first then_more = subst (λ t. AreLines t more) first then_more
@@ -45,14 +43,7 @@ lines_more text (line ∷ lines) more rest first then_more = (first.0, (first.1.
 
 -- each line has at least one byte
 line_is_some : (text : List ℕ) (line : LineView) (rest : List ℕ) → IsNextLine text line rest → 1 + length rest ≤ length text
-line_is_some text (whole_line line) rest next =
-    let size : length text ≡ length (line ++ 10 ∷ rest) = ap length next.whole in let both = length-append line (10 ∷ rest) in omega (arith, size, both)
-line_is_some text bad_line rest next =
-    let size : length text ≡ length (next.line ++ 10 ∷ rest) = ap length next.whole in
-    let both = length-append next.line (10 ∷ rest) in
-    omega (arith, size, both)
-line_is_some [] cut_line rest next = absurd (next.0.some refl)
-line_is_some (byte ∷ text) cut_line rest next = let size : length rest ≡ 0 = ap length next.1 in omega (arith, size)
+line_is_some = grind (common_steps, arith, length-append)
 
 first_lines_some : (text : List ℕ) (lines : List LineView) (rest : List ℕ) → AreFirstLines text lines rest → length lines + length rest ≤ length text
 first_lines_some text [] rest first = let size : length rest ≡ length text = ap length first in omega (arith, size)
@@ -62,62 +53,30 @@ first_lines_some text (line ∷ lines) rest first =
 module _ (old now : DeviceBytes) (lines : List LineView) where
   -- if lines were read from an input and then one more line, all these lines were read in order
   pub reads_more : (new : DeviceBytes) (line : LineView) → ReadsFirst old lines now → ReadsNext now line new → ReadsFirst old (lines ++ line ∷ []) new
-  reads_more new line = by old
-    where
-      by : (old : DeviceBytes) → ReadsFirst old lines now → ReadsNext now line new → ReadsFirst old (lines ++ line ∷ []) new
-      by None first next = tt
-      by (Some text) first next =
-          let there : ReadsNext (Some first.0) line new = subst (λ d. ReadsNext d line new) first.1.1 next in
-          (there.0, (first_lines_more text lines (line ∷ []) first.0 there.0 first.1.0 (there.0, (there.1.0, refl)), there.1.1))
+  reads_more = search (rules, first_lines_more)
 
   -- if lines were read, and the bytes left begin with more lines, the input begins with all these
   -- lines
   pub begins_more : (more : List LineView) → ReadsFirst old lines now → BeginsWith now more → BeginsWith old (lines ++ more)
-  begins_more more = by old
-    where
-      by : (old : DeviceBytes) → ReadsFirst old lines now → BeginsWith now more → BeginsWith old (lines ++ more)
-      by None first next = tt
-      by (Some text) first next =
-          let there : BeginsWith (Some first.0) more = subst (λ d. BeginsWith d more) first.1.1 next in
-          (there.0, first_lines_more text lines more first.0 there.0 first.1.0 there.1)
+  begins_more = search (rules, first_lines_more)
 
   -- if lines were read, and the bytes left consist of more lines, the input consists of all these
   -- lines
   pub has_more : (more : List LineView) → ReadsFirst old lines now → HasLines now more → HasLines old (lines ++ more)
-  has_more more = by old
-    where
-      by : (old : DeviceBytes) → ReadsFirst old lines now → HasLines now more → HasLines old (lines ++ more)
-      by None first next = tt
-      by (Some text) first next = lines_more text lines more first.0 first.1.0 (subst (λ d. HasLines d more) first.1.1 next)
+  has_more = search (rules, lines_more)
 
   -- if the bytes left in an input are endless, the input is endless
   pub endless_more : ReadsFirst old lines now → IsEndless now → IsEndless old
-  endless_more = by old
-    where
-      by : (old : DeviceBytes) → ReadsFirst old lines now → IsEndless now → IsEndless old
-      by None first next = tt
-      by (Some text) first next =
-          let there : IsEndless (Some first.0) = subst IsEndless first.1.1 next in
-          let some = first_lines_some text lines first.0 first.1.0 in
-          omega (arith, there, some)
+  endless_more = search (rules, first_lines_some)
 
   -- if 2 ^ 64 - 1 lines were read from an input, the input is endless
   pub endless_lines : ReadsFirst old lines now → length lines ≡ 2 ^ 64 - 1 → IsEndless old
-  endless_lines = by old
-    where
-      by : (old : DeviceBytes) → ReadsFirst old lines now → length lines ≡ 2 ^ 64 - 1 → IsEndless old
-      by None first many = tt
-      by (Some text) first many = let some = first_lines_some text lines first.0 first.1.0 in omega (arith, some, many)
+  endless_lines = search (rules, first_lines_some)
 
   -- an input begins with the lines that were read from it
   pub begins_so_far : ReadsFirst old lines now → BeginsWith old lines
-  begins_so_far = by old
-    where
-      by : (old : DeviceBytes) → ReadsFirst old lines now → BeginsWith old lines
-      by None first = tt
-      by (Some text) first = (first.0, first.1.0)
+  begins_so_far = search rules
 
--- if reading returned a line, this line is the next line of the input
 pub next_read : (old new : DeviceBytes) (read : Asked) (line : LineView) → asked_meant read ≡ Some line → EndsLine old (Ok read) new → ReadsNext old line new
 next_read old new read line is ends = subst (λ (met : Option LineView). ReadsAsked old met new) is ends
 
@@ -127,30 +86,17 @@ next_endless old new fault is ends = subst (λ (f : InputFault). EndsLine old (E
 
 -- if at least 2 ^ 64 - 1 bytes were read from an input, the input is endless
 pub endless_line : (old new : DeviceBytes) → ReadsMany (2 ^ 64 - 1) old new → IsEndless old
-endless_line None new many = tt
-endless_line (Some text) new many = by new many.read
-  where
-    by : (new : DeviceBytes) → Reads (Some text) many.lost new → 2 ^ 64 - 1 ≤ length text
-    by None read = let never : ⊥ = cc in absurd never
-    by (Some rest) read =
-        let same : text ≡ many.lost ++ rest = cc in
-        let size : length text ≡ length (many.lost ++ rest) = ap length same in
-        let both = length-append many.lost rest in
-        let least = many.many in
-        omega (arith, size, both, least)
+endless_line = search (rules, length-append)
 
 -- ---- writing to the output
 
 -- if an output is unchanged, no bytes were written to it
 pub takes_none : (output : DeviceBytes) → Takes output [] output
-takes_none None = refl
-takes_none (Some taken) = ap Some (sym (append-nil taken))
+takes_none = search (rules, append-nil)
 
 -- if a piece was written and then a second piece, their concatenation was written
 pub takes_more : (old now new : DeviceBytes) (first second : List ℕ) → Takes old first now → Takes now second new → Takes old (first ++ second) new
-takes_more None now new first second one two = two ∙ ap (option_map (λ taken. taken ++ second)) one
-takes_more (Some taken) now new first second one two =
-    two ∙ ap (option_map (λ taken. taken ++ second)) one ∙ ap Some (append_assoc taken first second)
+takes_more = search (rules, append_assoc)
 
 -- ---- the steps of a session
 
@@ -171,15 +117,13 @@ pub ends_on : (ending : Ending) (steps more : List Step) (input input_now output
 ends_on ending steps more input input_now output output_now output_last read told = by ending
   where
     lines : lines_of steps ++ lines_of more ≡ lines_of (steps ++ more)
-    lines = sym (lines_both steps more)
+    lines = sym (lines_both _ _)
 
     begins : BeginsWith input_now (lines_of more) → BeginsWith input (lines_of (steps ++ more))
-    begins next = subst (BeginsWith input) lines (begins_more input input_now (lines_of steps) (lines_of more) read next)
+    begins next = subst (BeginsWith input) lines (begins_more _ input_now (lines_of steps) (lines_of more) read next)
 
     gained : Takes output_now (answers_text more) output_last → Takes output (answers_text (steps ++ more)) output_last
-    gained next =
-        subst (λ text. Takes output text output_last) (sym (told_both steps more))
-        (takes_more output output_now output_last (answers_text steps) (answers_text more) told next)
+    gained next = subst (λ text. Takes output text output_last) (sym (told_both _ _)) (takes_more _ _ _ _ _ told next)
 
     breaks : BreaksOff more output_now output_last → BreaksOff (steps ++ more) output output_last
     breaks next = record {
@@ -187,34 +131,30 @@ ends_on ending steps more input input_now output output_now output_last read tol
       last = next.last;
       whole = ap (λ all. steps ++ all) next.whole ∙ sym (append_assoc steps next.earlier (next.last ∷ []));
       between = next.between;
-      told =
-          subst (λ text. Takes output text next.between) (sym (told_both steps next.earlier))
-          (takes_more output output_now next.between (answers_text steps) (answers_text next.earlier) told next.told);
+      told = subst (λ text. Takes output text next.between) (sym (told_both _ _)) (takes_more _ _ _ _ _ told next.told);
       part = next.part;
     }
 
     by : (ending : Ending) → EndsSession ending input_now more output_now output_last → EndsSession ending input (steps ++ more) output output_last
-    by Ended ends = (subst (HasLines input) lines (has_more input input_now (lines_of steps) (lines_of more) read ends.0), gained ends.1)
+    by Ended ends = (subst (HasLines input) lines (has_more _ input_now (lines_of steps) (lines_of more) read ends.0), gained ends.1)
     by InputFailed ends = (begins ends.0, gained ends.1)
     by InputEndless ends = (begins ends.0, (endless_more input input_now (lines_of steps) read ends.1.0, gained ends.1.1))
     by OutputFailed ends = (begins ends.0, breaks ends.1)
 
 -- each input begins with the empty list of lines
 pub begins_none : (input : DeviceBytes) → BeginsWith input []
-begins_none None = tt
-begins_none (Some text) = (text, refl)
+begins_none = search rules
 
 -- if the input is at its end, all its lines have been read
 pub has_none : (input : DeviceBytes) → IsEnd input → HasLines input []
-has_none None end = tt
-has_none (Some text) end = end
+has_none = search rules
 
 -- if only a part of the answer to a line is written, the session ends at this line
 pub broken_at : (step : Step) (input input_now output output_now : DeviceBytes) → ReadsNext input step.line input_now
     → TakesPart output (answer_bytes step.answer) output_now → EndsSession OutputFailed input (step ∷ []) output output_now
 broken_at step input input_now output output_now read part = (
   begins_one input read,
-  record { earlier = []; last = step; whole = refl; between = output; told = takes_none output; part = part },
+  record { earlier = []; last = step; whole = refl; between = output; told = takes_none _; part = part },
 )
   where
     begins_one : (input : DeviceBytes) → ReadsNext input step.line input_now → BeginsWith input (step.line ∷ [])
@@ -224,14 +164,7 @@ broken_at step input input_now output output_now read part = (
 -- if a line is cut and its answer is written, the session ends, because no line follows
 pub ended_at : (step : Step) (input input_now output output_now : DeviceBytes) → step.line ≡ cut_line → ReadsNext input cut_line input_now
     → Takes output (answer_bytes step.answer) output_now → EndsSession Ended input (step ∷ []) output output_now
-ended_at step input input_now output output_now cut read told = (
-  subst (λ (line : LineView). HasLines input (line ∷ [])) (sym cut) (has_one input read),
-  subst (λ text. Takes output text output_now) (sym (append-nil (answer_bytes step.answer))) told,
-)
-  where
-    has_one : (input : DeviceBytes) → ReadsNext input cut_line input_now → HasLines input (cut_line ∷ [])
-    has_one None read = tt
-    has_one (Some text) read = (read.0, (read.1.0, read.1.0.1))
+ended_at = search (rules, append-nil)
 
 -- if an output that had taken nothing took the answers of a session, an output that had taken `base` takes
 -- them too

@@ -1,8 +1,6 @@
 -- A text can be divided into lines in at most one way.
-use Rattle.std.proofs.Common.{◌≡◌, ◌≢◌, ℕ, List, [], ◌∷◌, ◌++◌, true, refl, sym, ◌∙◌, ap, subst}
-use Rattle.std.specs.List.{AllByRecursion}
+use Rattle.std.proofs.Common.{◌≡◌, ℕ, List, [], ◌∷◌, ◌++◌, refl, sym, ◌∙◌, ap, subst, rules}
 use Rattle.std.proofs.lemmas.List.Elements.{recursion_from_All}
-use Rattle.docker_model.specs.records.Record.{is_printable}
 use Rattle.docker_cmd.specs.JobLine.{IsJobLine, IsLineText}
 use Rattle.docker_desk.specs.Lines.{AreLines, IsBadLine, IsNextLine, IsWithoutFeed, LineView, whole_line, bad_line, cut_line}
 
@@ -31,14 +29,7 @@ no_split (a ∷ text) (b ∷ line) rest without same = let tail : text ≡ line 
 
 -- a line of printable bytes has no line feed
 text_without : (line : List ℕ) → IsLineText line → IsWithoutFeed line
-text_without line text = by line (recursion_from_All (λ byte. is_printable byte ≡ true) line text.printable)
-  where
-    other : (byte : ℕ) → is_printable byte ≡ true → byte ≢ 10
-    other byte here = λ same. let feed : is_printable 10 ≡ true = subst (λ c. is_printable c ≡ true) same here in cc
-
-    by : (line : List ℕ) → AllByRecursion (λ byte. is_printable byte ≡ true) line → IsWithoutFeed line
-    by [] good = tt
-    by (byte ∷ line) good = (other byte good.0, by line good.1)
+text_without = search (rules, recursion_from_All)
 
 -- ---- the next line
 
@@ -54,9 +45,8 @@ module _ (text rest last : List ℕ) where
       second.bad (subst IsLineText split.0 first.line_text)
 
   two_bad : IsBadLine text rest → IsBadLine text last → rest ≡ last
-  two_bad first second = (one_split first.line second.line rest last first.one second.one (sym first.whole ∙ second.whole)).1
+  two_bad = search (rules, one_split)
 
--- a text determines its next line and the bytes after that line
 one_line : (text rest last : List ℕ) (line other : LineView) → IsNextLine text line rest → IsNextLine text other last → (line ≡ other) × (rest ≡ last)
 one_line text rest last (whole_line line) (whole_line other) first second = two_whole text rest last line other first second
 one_line text rest last (whole_line line) bad_line first second = absurd (not_both text rest last line first second)

@@ -1,36 +1,20 @@
 -- The words of a line determine its request.
-use Rattle.std.proofs.Common.{◌≡◌, ◌∙◌, ℕ, Bool, true, false, cond, List, [], ◌∷◌, Some, None, refl, sym, ap, subst}
+use Rattle.std.proofs.Common.{◌≡◌, ◌∙◌, ℕ, Bool, true, false, cond, List, [], ◌∷◌, Some, None, refl, sym, ap, subst, rules}
 use Rattle.std.specs.Prelude.{Option, find}
 use Rattle.std.specs.Str.{bytes_eq}
 use Rattle.std.proofs.lemmas.Slice.Eq.{bytes_eq-Decides}
 use Rattle.docker_model.specs.records.Date.{IsDay}
 use Rattle.docker_cmd.specs.Words.{NamesDay, OfOne, Text, word_named}
-use Rattle.docker_cmd.specs.JobLine.{words_in}
 use Rattle.docker_desk.specs.Requests.{AsksFor, FindsRequest, IsRequestOf, MakesRequest, RequestView, after_word, first_word, horizon_request, is_writing}
 use Rattle.docker_desk.specs.Requests.{name_of, verb_named, verbs}
-use Rattle.docker_desk.specs.declared.query.DockerKind.TheVariants as kind
 use Rattle.docker_desk.specs.declared.requests.Verb.{Verb}
-use Rattle.docker_desk.specs.declared.requests.Verb.TheVariants as verb
 
 -- ---- looking up a verb by its name
 
 -- if a verb's name is looked up, the result is this verb
 named_back : (v : Verb) → verb_named (name_of v) ≡ Some v
 unfolding word_named
-named_back (verb.Docker kind.Ordinary) = refl
-named_back (verb.Docker kind.Permanent) = refl
-named_back (verb.Docker kind.Detailed) = refl
-named_back (verb.Docker kind.PermanentDetailed) = refl
-named_back verb.Train = refl
-named_back verb.Trains = refl
-named_back verb.Files = refl
-named_back verb.Places = refl
-named_back verb.Known = refl
-named_back verb.Renew = refl
-named_back verb.Take = refl
-named_back verb.Merge = refl
-named_back verb.Horizon = refl
-named_back verb.Save = refl
+named_back = search rules
 
 -- if looking up a name returns a verb, the verb has that name
 found_name : (word : Text) (v : Verb) (vs : List Verb) → find (λ u. bytes_eq (name_of u) word) vs ≡ Some v → word ≡ name_of v
@@ -52,16 +36,12 @@ name_back word v found = found_name word v verbs found
 
 -- if the first word of a line isn't a verb, the line isn't a request
 pub no_verb : (may_write : Bool) (line : List ℕ) (word : Text) → word ≡ first_word line → None ≡ verb_named word → AsksFor may_write line None
-no_verb may_write line word first none = λ request is.
-    let never : None ≡ Some is.verb = none ∙ ap verb_named (first ∙ is.name) ∙ named_back is.verb in
-    cc
+no_verb = search (rules, named_back)
 
 module _ (may_write : Bool) (line : List ℕ) (word : Text) (v : Verb) (first : word ≡ first_word line) (found : Some v ≡ verb_named word) where
   -- the verb of a line's request is the verb that the line's first word names
   of_request : (request : RequestView) (is : IsRequestOf may_write line request) → is.verb ≡ v
-  of_request request is =
-      let one : Some v ≡ Some is.verb = found ∙ ap verb_named (first ∙ is.name) ∙ named_back is.verb in
-      cc
+  of_request = search (rules, named_back)
 
   -- if the verb of a line requires a desk that may write, and this desk may not, the line isn't a
   -- request
@@ -76,15 +56,8 @@ module _ (may_write : Bool) (line : List ℕ) (word : Text) (v : Verb) (first : 
   -- is the request with this verb and with the words in the rest of the line
   pub asked_by : (rest : List ℕ) (request : Option RequestView) → rest ≡ after_word line → (is_writing v ≡ true → may_write ≡ true)
       → FindsRequest (MakesRequest v rest) request → AsksFor may_write line request
-  asked_by rest None behind allowed none = λ request is. none request (subst (λ r. MakesRequest v r request) (sym behind) (made request is))
-  asked_by rest (Some request) behind allowed makes = record {
-    verb = v;
-    name = sym first ∙ name_back word v (sym found);
-    makes = subst (λ r. MakesRequest v r request) behind makes;
-    allowed = allowed;
-  }
+  asked_by = search (rules, made, name_back)
 
--- if the first word of a line is the name of this verb, the verb and the rest of the line make the
 -- line's request
 pub with_verb : (may_write : Bool) (line : List ℕ) (v : Verb) (request : RequestView) → first_word line ≡ name_of v → IsRequestOf may_write line request
     → MakesRequest v (after_word line) request
@@ -94,21 +67,8 @@ with_verb may_write line v request first is = made may_write line (name_of v) v 
 
 -- the day that a word names is a valid day number
 one_day : (words : List Text) (day : ℕ) → OfOne (λ date. NamesDay date day) words → IsDay day
-one_day [] day of = absurd of
-one_day (word ∷ []) day of = of.within
-one_day (word ∷ second ∷ more) day of = absurd of
+one_day = search rules
 
 -- the day that a `horizon` request names is a valid day number
 pub day_made : (v : Verb) (rest : List ℕ) (day : ℕ) → MakesRequest v rest (horizon_request day) → IsDay day
-day_made verb.Horizon rest day makes =
-    let same : makes.0 ≡ day = cc in subst IsDay same (one_day (words_in rest) makes.0 makes.1.0)
-day_made (verb.Docker kind) rest day makes = let other = makes.1.1.1 in let never : ⊥ = cc in absurd never
-day_made verb.Train rest day makes = let other = makes.1.1.1 in let never : ⊥ = cc in absurd never
-day_made verb.Trains rest day makes = let other = makes.1.1.1 in let never : ⊥ = cc in absurd never
-day_made verb.Files rest day makes = let other = makes.1 in let never : ⊥ = cc in absurd never
-day_made verb.Places rest day makes = let other = makes.1 in let never : ⊥ = cc in absurd never
-day_made verb.Known rest day makes = let other = makes.1 in let never : ⊥ = cc in absurd never
-day_made verb.Renew rest day makes = let other = makes.1 in let never : ⊥ = cc in absurd never
-day_made verb.Take rest day makes = let other = makes.1.1 in let never : ⊥ = cc in absurd never
-day_made verb.Merge rest day makes = let other = makes.1.1 in let never : ⊥ = cc in absurd never
-day_made verb.Save rest day makes = let other = makes.1 in let never : ⊥ = cc in absurd never
+day_made = search (rules, one_day)

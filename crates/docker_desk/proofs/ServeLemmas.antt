@@ -1,8 +1,9 @@
 -- How a session ends.
-use Rattle.std.proofs.Common.{◌≡◌, ◌+◌, ℕ, Bool, List, ◌++◌, [], ◌∷◌, length, arith, inl, inr, Some, None, Ok, ap, append-nil, subst, sym, ◌∙◌, false, true}
-use Rattle.std.specs.Prelude.{Option, IfSome, ◌&&◌}
+use Rattle.std.proofs.Common.{◌≡◌, ◌+◌, ℕ, Bool, List, ◌++◌, [], length, arith, inl, inr, Ok, ap, append-nil, subst, ◌∙◌, false, true}
+use Rattle.std.proofs.Common.{rules}
+use Rattle.std.specs.Prelude.{◌&&◌}
 use Rattle.cif_device.specs.Device.{Takes, TakesPart}
-use Rattle.docker_host.specs.History.{Event, Text, looked}
+use Rattle.docker_host.specs.History.{Event, Text}
 use Rattle.docker_host.specs.SessionHost.{SessionHostView}
 use Rattle.docker_desk.specs.Answering.{AnswersLines, CountsStreams, LeavesNone}
 use Rattle.docker_cmd.specs.FaultLine.{IsCounted, fault_line, status_of}
@@ -10,7 +11,7 @@ use Rattle.docker_office.specs.declared.fault.OfficeFault.{OfficeFault}
 use Rattle.docker_cmd.specs.declared.fault.Fault.TheVariants.{Office}
 use Rattle.docker_host.specs.FaultSink.{FaultsView, TellsText}
 use Rattle.docker_desk.specs.Desk.{DeskView, IsWhyNot, RefusesToReceive}
-use Rattle.docker_desk.specs.Reading.{LooksAndOpens, Reading, StopsInState, opening_of}
+use Rattle.docker_desk.specs.Reading.{LooksAndOpens}
 use Rattle.docker_desk.specs.declared.ending.Ending.{Ending}
 use Rattle.docker_desk.specs.declared.ending.Ending.TheVariants.{Ended}
 use Rattle.docker_desk.specs.SessionViews.{SessionView, session_view, setting}
@@ -32,21 +33,14 @@ tells_both first second piece behind old middle new one two sound whole tells = 
 -- if writing the first text failed partway, only a part of the concatenation was written
 pub tells_first : (first second piece : List ℕ) (old new : FaultsView) → piece ≡ first → new.failures ≡ old.failures + 1 → TakesPart old.taken piece new.taken
     → TellsText (first ++ second) old new
-tells_first first second piece old new one failed part =
-    inr (failed, part_of_front old.taken new.taken first second (subst (λ text. TakesPart old.taken text new.taken) one part))
+tells_first = search (rules, part_of_front)
 
 -- if the state's file was looked at, opened and read, the session begins with the desk whose state
 -- was read
 pub begins : {T : Type 0} (desk_in : T → DeskView) (name : Text) (old new : List Event) (made : T) (look failures : ℕ)
     → LooksAndOpens name (EndsOpening desk_in (Ok made)) old new → look ≡ length old
     → BeginsAt name old (session_view (desk_in made) look new failures)
-begins desk_in name old new made look failures opens same = by opens.read opens.asked opens.stops opens.ends
-  where
-    by : (read : Option Reading) → new ≡ old ++ looked name ∷ opening_of name read → IfSome read StopsInState → EndsOpening desk_in (Ok made) read
-        → BeginsAt name old (session_view (desk_in made) look new failures)
-    by (Some read) asked stops ends =
-        record { held = read.held; left = read.left; asked = asked; stops = stops; state = ends.0; saved = ends.1; look = same }
-    by None asked stops ends = absurd ends.0
+begins = search rules
 
 -- if the status is 0, the folder's failure count is unchanged
 pub still : (before after : ℕ) → IsCounted 0 before after → after ≡ before
@@ -109,16 +103,4 @@ pub refused_as : (words : List Text) (names_bytes : Bool) (seen old new : Sessio
     → LooksAndOpens name (IsWhyNot RefusesToReceive fault) seen.history new.history
     → IsCounted (status_of (Office fault)) seen.folder_failures new.folder_failures → new.streams ≡ seen.streams → status ≡ status_of (Office fault)
     → TellsText (fault_line (Office fault) ++ []) seen.faults new.faults → ServesSession words names_bytes old new status
-refused_as words names_bytes seen old new status name may_write fault is named opens counted streams status_is tells =
-    subst (λ (host : SessionHostView). ServesSession words names_bytes host new status) is
-    (inr (inl (record {
-      name = name;
-      may_write = may_write;
-      words_are = named;
-      fault = fault;
-      opens = opens;
-      counted = subst (λ (n : ℕ). IsCounted n seen.folder_failures new.folder_failures) (sym status_is) counted;
-      streams = streams;
-      status_is = status_is;
-      tells = subst (λ (line : List ℕ). TellsText line seen.faults new.faults) (append-nil (fault_line (Office fault))) tells;
-    })))
+refused_as = search (rules, append-nil)

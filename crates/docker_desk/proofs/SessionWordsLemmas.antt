@@ -1,5 +1,6 @@
 -- The words of a session: the words with which a desk is started.
-use Rattle.std.proofs.Common.{◌≡◌, ◌<◌, ◌≤◌, Bool, true, List, [], ◌∷◌, length, get_or, refl, sym, ◌∙◌, ap, subst, arith, Some, None, Bor}
+use Rattle.std.proofs.Common.{◌≡◌, ◌<◌, ◌≤◌, Bool, true, List, [], ◌∷◌, length, get_or, arith, Bor, rules}
+use Rattle.std.proofs.lemmas.Grind.{common_steps}
 use Rattle.std.specs.Prelude.{Option, IfSome, codes}
 use Rattle.docker_cmd.specs.Words.{Text, texts}
 use Rattle.docker_desk.specs.Requests.{NamesFile}
@@ -8,10 +9,7 @@ use Rattle.docker_desk.specs.Serving.{NamesSession}
 -- a list of exactly two words consists of its first and its second word
 two_words : (words : List (Bor Text)) (none : Bor Text) → 2 ≤ length words → length words < 3
     → texts words ≡ (get_or words 0 none).now ∷ (get_or words 1 none).now ∷ []
-two_words [] none some few = absurd (omega arith)
-two_words (one ∷ []) none some few = absurd (omega arith)
-two_words (one ∷ two ∷ []) none some few = refl
-two_words (one ∷ two ∷ three ∷ more) none some few = absurd (omega arith)
+two_words = grind (common_steps, arith)
 
 -- if there are two words and the first is `--write`, the words name a session in which the desk may
 -- write
@@ -19,11 +17,4 @@ pub named_to_write : {T : Type 0} (name_in : T → Text) (writes : T → Bool) (
     → 2 ≤ length words → length words < 3 → (get_or words 0 none).now ≡ codes "--write"
     → IfSome found (λ it. (name_in it ≡ (get_or words 1 none).now) × (writes it ≡ true) × NamesFile (get_or words 1 none).now (get_or words 1 none).now)
     → IfSome found (λ it. NamesSession (texts words) (name_in it) (writes it))
-named_to_write name_in writes words none None some few first is = tt
-named_to_write name_in writes words none (Some it) some few first is =
-    let second = (get_or words 1 none).now in
-    subst (λ n. NamesSession (texts words) n (writes it)) (sym is.0)
-    (subst (λ w. NamesSession (texts words) second w) (sym is.1) (record {
-      words_are = two_words words none some few ∙ ap (λ (word : Text). word ∷ second ∷ []) first;
-      named = is.2;
-    }))
+named_to_write = search (rules, two_words)

@@ -1,5 +1,5 @@
 -- How queries are answered.
-use Rattle.std.proofs.Common.{◌≡◌, ℕ, List, [], ◌++◌, Option, Some, Ok, Err, IsOk, IsErr, refl, subst, sym}
+use Rattle.std.proofs.Common.{◌≡◌, ℕ, List, [], Some, IsOk, IsErr, subst, rules}
 use Rattle.std.specs.Prelude.{OnOk, Result, ⊤}
 use Rattle.docker_model.specs.state.Lapse.{IsDayRefused}
 use Rattle.docker_model.specs.state.State.{State, live_table}
@@ -13,19 +13,14 @@ use Rattle.docker_desk.specs.declared.query.Query.TheVariants as query
 
 -- if a text was written to a sink that had taken nothing, the sink has taken exactly this text
 written_whole : (own text new : List ℕ) → own ≡ [] → Takes (Some own) text (Some new) → new ≡ text
-written_whole own text new none whole =
-    let same : ◌≡◌ {A = Option (List ℕ)} (Some new) (Some text) =
-    subst (λ (front : List ℕ). ◌≡◌ {A = Option (List ℕ)} (Some new) (Some (front ++ text))) none whole in cc
+written_whole = search rules
 
 -- suppose that a day isn't refused, and that a text for which `Is` holds was written on an empty
 -- page. The answer on this page is right, and so is a refusal if there was no memory for the page
 pub answers_on : {E : Type 0} (Is : List ℕ → Type 0) (IsRefused : Type 0) (text own new : List ℕ) (written : Result ⊤ E) (answer : AnswerView) → ¬ IsRefused
     → Is text → own ≡ [] → OnOk written (Takes (Some own) text (Some new)) → (IsOk written → answer ≡ done_with new)
     → (IsErr written → answer ≡ refused_for office.Memory) → IsAnswer Is IsRefused answer
-answers_on Is IsRefused text own new (Ok done) answer allowed is empty takes told refused =
-    subst (IsAnswer Is IsRefused) (sym (told refl)) (subst Is (sym (written_whole own text new empty takes)) is, allowed)
-answers_on Is IsRefused text own new (Err failed) answer allowed is empty takes told refused =
-    subst (IsAnswer Is IsRefused) (sym (refused refl)) allowed
+answers_on = search (rules, written_whole)
 
 -- an answer to the query for a docker of this kind, made from the state `own`, is an answer for every
 -- state that equals `own`

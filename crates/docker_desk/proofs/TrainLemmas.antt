@@ -70,7 +70,7 @@ one_list_known fixes first second one two left right same identity day from from
 pub plain_list_known : ListIsPlain → (known : Known) (state : State) → IsKnown known state → HaveDistinctMoments known.files
     → (plain : Table) × IsPlainTable known.files plain × ListsTrainsAs state plain
 plain_list_known is_plain known state is distinct =
-    let plain = some_plain_table known.files distinct in (
+    let plain = some_plain_table _ distinct in (
       plain.0,
       plain.1,
       λ identity day text from.

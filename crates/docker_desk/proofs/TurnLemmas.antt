@@ -1,13 +1,14 @@
 -- The order of the reads and the writes of a session.
-use Rattle.std.proofs.Common.{◌≡◌, ◌-◌, ◌^◌, List, [], ◌∷◌, ◌++◌, length, take, refl, sym, ◌∙◌, ap, subst}
+use Rattle.std.proofs.Common.{◌≡◌, ◌-◌, ◌^◌, List, [], ◌∷◌, ◌++◌, length, take, refl, sym, ◌∙◌, ap, subst, arith, rules}
+use Rattle.std.proofs.lemmas.Grind.{common_steps}
 use Rattle.std.proofs.Common.{append_assoc, append-nil, Some, Ok, inl, inr}
-use Rattle.std.specs.Prelude.{Option, Result, ◌⊎◌}
+use Rattle.std.specs.Prelude.{Result, ◌⊎◌}
 use Rattle.docker_host.specs.History.{Text}
 use Rattle.docker_host.specs.Exchanges.{Exchange, IsRead, IsWrite, AreReads, AreWrites, read, unread, wrote, unwritten, bytes_read, bytes_written}
 use Rattle.docker_host.specs.Streams.{StreamsView, Writes, WritesPart, WritesWhole}
 use Rattle.docker_host.proofs.StreamsLemmas.{read_append, reads_write_none, writes_read_none, written_append}
-use Rattle.docker_desk.specs.Lines.{EndsLine, IsNextLine, IsWithoutFeed, LineView, ReadsAsked, ReadsInLine, ReadsNext, UsesLine}
-use Rattle.docker_desk.specs.Lines.{asked_meant, whole_line, bad_line, cut_line}
+use Rattle.docker_desk.specs.Lines.{EndsLine, IsNextLine, IsWithoutFeed, LineView, ReadsInLine, ReadsNext, UsesLine}
+use Rattle.docker_desk.specs.Lines.{asked_meant, cut_line}
 use Rattle.docker_desk.specs.declared.lines.Asked.{Asked}
 use Rattle.docker_desk.specs.declared.lines.InputFault.{InputFault}
 use Rattle.docker_desk.specs.Replies.{AnswerView, answer_bytes}
@@ -29,22 +30,11 @@ ReadsOpen text (line ∷ lines) rest = (next : Text) × (IsFollowed line × (IsN
 
 open_first : (text : Text) (lines : List LineView) (rest : Text) → ReadsOpen text lines rest → AreFirstLines text lines rest
 open_first text [] rest open_lines = open_lines
-open_first text (line ∷ lines) rest open_lines =
-    (open_lines.0, (open_lines.1.1.0, open_first open_lines.0 lines rest open_lines.1.1.1))
+open_first text (line ∷ lines) rest open_lines = (open_lines.0, (open_lines.1.1.0, open_first _ lines _ open_lines.1.1.1))
 
 -- more bytes after a text don't change its lines, unless a line is cut
 next_append : (text more : Text) (line : LineView) (rest : Text) → IsFollowed line → IsNextLine text line rest → IsNextLine (text ++ more) line (rest ++ more)
-next_append text more (whole_line line) rest followed next = record {
-  whole = ap (λ (t : Text). t ++ more) next.whole ∙ append_assoc line (10 ∷ rest) more;
-  line_text = next.line_text;
-}
-next_append text more bad_line rest followed next = record {
-  line = next.line;
-  whole = ap (λ (t : Text). t ++ more) next.whole ∙ append_assoc next.line (10 ∷ rest) more;
-  one = next.one;
-  bad = next.bad;
-}
-next_append text more cut_line rest followed next = absurd followed
+next_append = search (rules, append_assoc)
 
 open_append : (text more : Text) (lines : List LineView) (rest : Text) → ReadsOpen text lines rest → ReadsOpen (text ++ more) lines (rest ++ more)
 open_append text more [] rest open_lines = ap (λ (t : Text). t ++ more) open_lines
@@ -52,14 +42,13 @@ open_append text more (line ∷ lines) rest open_lines = (
   open_lines.0 ++ more,
   (
     open_lines.1.0,
-    (next_append text more line open_lines.0 open_lines.1.0 open_lines.1.1.0, open_append open_lines.0 more lines rest open_lines.1.1.1),
+    (next_append text _ line _ open_lines.1.0 open_lines.1.1.0, open_append open_lines.0 _ lines _ open_lines.1.1.1),
   ),
 )
 
 open_more : (text : Text) (lines : List LineView) (rest : Text) (line : LineView) (next : Text) → ReadsOpen text lines rest → IsFollowed line
     → IsNextLine rest line next → ReadsOpen text (lines ++ line ∷ []) next
-open_more text [] rest line next open_lines followed is =
-    (next, (followed, (subst (λ (t : Text). IsNextLine t line next) open_lines is, refl)))
+open_more text [] rest line next open_lines followed is = search rules
 open_more text (first ∷ lines) rest line next open_lines followed is =
     (open_lines.0, (open_lines.1.0, (open_lines.1.1.0, open_more open_lines.0 lines rest line next open_lines.1.1.1 followed is)))
 
@@ -73,8 +62,7 @@ Stands one two before after exchange =
 
 stands : (one two before after : List Exchange) (exchange : Exchange) → one ++ two ≡ before ++ exchange ∷ after → Stands one two before after exchange
 stands [] two before after exchange same = inr (before, (refl, same))
-stands (first ∷ one) two [] after exchange same =
-    let head : first ≡ exchange = cc in inl (one, ap (λ (e : Exchange). e ∷ one) head)
+stands (first ∷ one) two [] after exchange same = search rules
 stands (first ∷ one) two (other ∷ before) after exchange same = by (stands one two before after exchange tails)
   where
     heads : first ≡ other
@@ -107,10 +95,7 @@ write_at (first ∷ before) exchange after are = write_at before exchange after 
 
 -- no write is a read
 no_write_reads : (exchange : Exchange) → IsWrite exchange → IsRead exchange → ⊥
-no_write_reads (read bytes) writes reads = writes
-no_write_reads unread writes reads = writes
-no_write_reads (wrote bytes) writes reads = reads
-no_write_reads unwritten writes reads = reads
+no_write_reads = search rules
 
 -- ---- each line is answered before the next read
 
@@ -118,27 +103,11 @@ no_write_reads unwritten writes reads = reads
 -- was read
 pub order_once : (ahead : Text) (steps : List Step) (reads writes : List Exchange) → ReadsInLine ahead reads → AreWrites writes
     → AnswersBeforeReading ahead steps (reads ++ writes)
-order_once ahead steps reads writes are_reads are_writes =
-    λ before after exchange same is_read. by before after exchange is_read (stands reads writes before after exchange same)
-  where
-    by : (before after : List Exchange) (exchange : Exchange) → IsRead exchange → Stands reads writes before after exchange → HasAnswered ahead steps before
-    by before after exchange is_read (inl is) =
-        let at = in_line_at ahead before exchange is.0 (subst (ReadsInLine ahead) is.1 are_reads) in record {
-          earlier = [];
-          later = steps;
-          first = refl;
-          rest = ahead ++ bytes_read before;
-          lines = refl;
-          one = at.0;
-          told = reads_write_none before at.1;
-        }
-    by before after exchange is_read (inr is) =
-        absurd (no_write_reads exchange (write_at is.0 exchange after (subst AreWrites is.1.1 are_writes)) is_read)
+order_once = search (rules, stands, in_line_at, reads_write_none, no_write_reads, write_at)
 
 -- the same as `order_once`, for exchanges that are reads only
 pub order_reads : (ahead : Text) (steps : List Step) (reads : List Exchange) → ReadsInLine ahead reads → AnswersBeforeReading ahead steps reads
-order_reads ahead steps reads are_reads =
-    subst (AnswersBeforeReading ahead steps) (append-nil reads) (order_once ahead steps reads [] are_reads tt)
+order_reads ahead steps reads are_reads = subst (AnswersBeforeReading ahead steps) (append-nil reads) (order_once _ _ _ _ are_reads tt)
 
 module _ (ahead middle : Text) (steps more : List Step) (one two : List Exchange) where
   -- if each line was answered before the next read in the first part of a session, and in the second part,
@@ -146,8 +115,7 @@ module _ (ahead middle : Text) (steps more : List Step) (one two : List Exchange
   pub order_both : AnswersBeforeReading ahead steps one → ReadsOpen (ahead ++ bytes_read one) (lines_of steps) middle
       → bytes_written one ≡ answers_text steps → AnswersBeforeReading middle more two
       → AnswersBeforeReading ahead (steps ++ more) (one ++ two)
-  order_both first open_lines told second =
-      λ before after exchange same is_read. by before after exchange is_read (stands one two before after exchange same)
+  order_both first open_lines told second = λ before after exchange same is_read. by before after exchange is_read (stands _ two _ after _ same)
     where
       in_first : (before : List Exchange) → HasAnswered ahead steps before → HasAnswered ahead (steps ++ more) before
       in_first before has = record {
@@ -161,8 +129,7 @@ module _ (ahead middle : Text) (steps more : List Step) (one two : List Exchange
       }
 
       total : (before : List Exchange) → (ahead ++ bytes_read one) ++ bytes_read before ≡ ahead ++ bytes_read (one ++ before)
-      total before =
-          append_assoc ahead (bytes_read one) (bytes_read before) ∙ ap (λ (t : Text). ahead ++ t) (sym (read_append one before))
+      total before = append_assoc ahead (bytes_read one) (bytes_read before) ∙ ap (λ (t : Text). ahead ++ t) (sym (read_append one _))
 
       in_second : (before : List Exchange) → HasAnswered middle more before → HasAnswered ahead (steps ++ more) (one ++ before)
       in_second before has = record {
@@ -170,15 +137,12 @@ module _ (ahead middle : Text) (steps more : List Step) (one two : List Exchange
         later = has.later;
         first = ap (λ (all : List Step). steps ++ all) has.first ∙ sym (append_assoc steps has.earlier has.later);
         rest = has.rest;
-        lines =
-            subst (λ (ls : List LineView). AreFirstLines (ahead ++ bytes_read (one ++ before)) ls has.rest) (sym (lines_both steps has.earlier))
+        lines = subst (λ (ls : List LineView). AreFirstLines (ahead ++ bytes_read (one ++ before)) ls has.rest) (sym (lines_both steps _))
             (subst (λ (t : Text). AreFirstLines t (lines_of steps ++ lines_of has.earlier) has.rest) (total before)
-            (first_lines_more ((ahead ++ bytes_read one) ++ bytes_read before) (lines_of steps) (lines_of has.earlier) (middle ++ bytes_read before)
-            has.rest
-            (open_first ((ahead ++ bytes_read one) ++ bytes_read before) (lines_of steps) (middle ++ bytes_read before)
-            (open_append (ahead ++ bytes_read one) (bytes_read before) (lines_of steps) middle open_lines)) has.lines));
+            (first_lines_more ((ahead ++ bytes_read one) ++ bytes_read before) _ (lines_of has.earlier) _ has.rest (open_first _ (lines_of steps) _
+            (open_append (ahead ++ bytes_read one) _ (lines_of steps) _ open_lines)) has.lines));
         one = has.one;
-        told = written_append one before ∙ (λ i. told i ++ has.told i) ∙ sym (told_both steps has.earlier);
+        told = written_append one _ ∙ (λ i. told i ++ has.told i) ∙ sym (told_both steps _);
       }
 
       by : (before after : List Exchange) (exchange : Exchange) → IsRead exchange → Stands one two before after exchange
@@ -208,42 +172,36 @@ turned_none ahead exchanges none = record {
 }
 
 gained_both : (exchanges middle last one two : List Exchange) → middle ≡ exchanges ++ one → last ≡ middle ++ two → last ≡ exchanges ++ (one ++ two)
-gained_both exchanges middle last one two first second =
-    second ∙ ap (λ (es : List Exchange). es ++ two) first ∙ append_assoc exchanges one two
+gained_both = search (rules, append_assoc)
 
 module _ (steps : List Step) (ahead : Text) (exchanges exchanges_now : List Exchange) (turned : HasTurned steps ahead exchanges exchanges_now) where
   -- the lines of the steps so far, if more bytes are read
   lines_on : (two : List Exchange) → ReadsOpen (bytes_read (turned.gained ++ two)) (lines_of steps) (ahead ++ bytes_read two)
-  lines_on two =
-      subst (λ (t : Text). ReadsOpen t (lines_of steps) (ahead ++ bytes_read two)) (sym (read_append turned.gained two))
-      (open_append (bytes_read turned.gained) (bytes_read two) (lines_of steps) ahead turned.lines)
+  lines_on = search (rules, read_append, open_append)
 
   -- the bytes read within one turn
   turn_read : (reads writes : List Exchange) → AreWrites writes → bytes_read (reads ++ writes) ≡ bytes_read reads
-  turn_read reads writes are =
-      read_append reads writes ∙ ap (λ (t : Text). bytes_read reads ++ t) (writes_read_none writes are) ∙ append-nil (bytes_read reads)
+  turn_read = search (rules, read_append, writes_read_none, append-nil)
 
   -- one more line was read and answered
   pub turned_more : (step : Step) (next : Text) (exchanges_next : List Exchange) → IsFollowed step.line
       → TakesOneTurn step.line step.answer ahead next exchanges_now exchanges_next → HasTurned (steps ++ step ∷ []) next exchanges exchanges_next
   turned_more step next exchanges_next followed turn = record {
     gained = turned.gained ++ (turn.reads ++ turn.writes);
-    exchanged = gained_both exchanges exchanges_now exchanges_next turned.gained (turn.reads ++ turn.writes) turned.exchanged turn.exchanged;
-    lines =
-        subst (λ (ls : List LineView). ReadsOpen (bytes_read (turned.gained ++ (turn.reads ++ turn.writes))) ls next) (sym (lines_both steps (step ∷ [])))
-        (open_more (bytes_read (turned.gained ++ (turn.reads ++ turn.writes))) (lines_of steps) (ahead ++ bytes_read (turn.reads ++ turn.writes)) step.line
-        next (lines_on (turn.reads ++ turn.writes)) followed
-        (subst (λ (t : Text). IsNextLine (ahead ++ t) step.line next) (sym (turn_read turn.reads turn.writes turn.are_writes)) turn.line_is));
-    told = written_append turned.gained (turn.reads ++ turn.writes) ∙ (λ i. turned.told i ++ answered i)
-        ∙ sym (told_both steps (step ∷ []));
-    order =
-        order_both [] ahead steps (step ∷ []) turned.gained (turn.reads ++ turn.writes) turned.order turned.lines turned.told
-        (order_once ahead (step ∷ []) turn.reads turn.writes turn.are_reads turn.are_writes);
+    exchanged = gained_both _ exchanges_now _ turned.gained _ turned.exchanged turn.exchanged;
+    lines = subst (λ (ls : List LineView). ReadsOpen (bytes_read (turned.gained ++ (turn.reads ++ turn.writes))) ls next) (sym (lines_both steps _))
+        (open_more (bytes_read (turned.gained ++ (turn.reads ++ turn.writes))) _ (ahead ++ bytes_read (turn.reads ++ turn.writes)) _
+        next (lines_on _) followed
+        (subst (λ (t : Text). IsNextLine (ahead ++ t) step.line next) (sym (turn_read turn.reads _ turn.are_writes)) turn.line_is));
+    told = written_append turned.gained _ ∙ (λ i. turned.told i ++ answered i)
+        ∙ sym (told_both steps _);
+    order = order_both [] ahead steps (step ∷ []) turned.gained (turn.reads ++ turn.writes) turned.order turned.lines turned.told
+        (order_once ahead _ turn.reads _ turn.are_reads turn.are_writes);
   }
     where
       answered : bytes_written (turn.reads ++ turn.writes) ≡ answers_text (step ∷ [])
-      answered = written_append turn.reads turn.writes
-          ∙ ap (λ (t : Text). t ++ bytes_written turn.writes) (reads_write_none turn.reads (in_line_are_reads ahead turn.reads turn.are_reads))
+      answered = written_append turn.reads _
+          ∙ ap (λ (t : Text). t ++ bytes_written turn.writes) (reads_write_none turn.reads (in_line_are_reads _ turn.reads turn.are_reads))
           ∙ turn.told ∙ sym (append-nil (answer_bytes step.answer))
 
   -- the rest of the session ended in this way
@@ -251,20 +209,15 @@ module _ (steps : List Step) (ahead : Text) (exchanges exchanges_now : List Exch
       → TakesTurns ending ahead more exchanges_now exchanges_last → TakesTurns ending [] (steps ++ more) exchanges exchanges_last
   turned_last ending more exchanges_last turns = record {
     gained = turned.gained ++ turns.gained;
-    exchanged = gained_both exchanges exchanges_now exchanges_last turned.gained turns.gained turned.exchanged turns.exchanged;
-    ends =
-        subst (λ (t : Text). EndsSession ending (Some (bytes_read (turned.gained ++ turns.gained))) (steps ++ more) (Some []) (Some t))
-        (sym (written_append turned.gained turns.gained))
-        (ends_on ending steps more (Some (bytes_read (turned.gained ++ turns.gained))) (Some (ahead ++ bytes_read turns.gained)) (Some [])
-        (Some (bytes_written turned.gained)) (Some (bytes_written turned.gained ++ bytes_written turns.gained)) (
+    exchanged = gained_both _ exchanges_now _ turned.gained _ turned.exchanged turns.exchanged;
+    ends = subst (λ (t : Text). EndsSession ending (Some (bytes_read (turned.gained ++ turns.gained))) (steps ++ more) (Some []) (Some t))
+        (sym (written_append turned.gained _)) (ends_on ending _ more _ (Some (ahead ++ bytes_read turns.gained)) _ (Some (bytes_written turned.gained)) _ (
           ahead ++ bytes_read turns.gained,
           (
-            open_first (bytes_read (turned.gained ++ turns.gained)) (lines_of steps) (ahead ++ bytes_read turns.gained) (lines_on turns.gained),
+            open_first (bytes_read (turned.gained ++ turns.gained)) _ (ahead ++ bytes_read turns.gained) (lines_on _),
             refl,
           ),
-        )
-        (ap Some turned.told)
-        (ends_behind ending more (Some (ahead ++ bytes_read turns.gained)) (bytes_written turned.gained) (bytes_written turns.gained) turns.ends));
+        ) (ap Some turned.told) (ends_behind ending _ (Some (ahead ++ bytes_read turns.gained)) _ (bytes_written turns.gained) turns.ends));
     order = order_both [] ahead steps more turned.gained turns.gained turned.order turned.lines turned.told turns.order;
   }
 
@@ -290,10 +243,7 @@ module _ (steps : List Step) (ahead : Text) (exchanges exchanges_now : List Exch
 
 -- the bytes of the line that was read
 line_read : (old : Text) (line : LineView) (new : Text) → ReadsNext (Some old) line (Some new) → IsNextLine old line new
-line_read old line new is = subst (IsNextLine old line) (sym (unsome new is.0 is.1.1)) is.1.0
-  where
-    unsome : (one two : Text) → Some one ≡ Some two → one ≡ two
-    unsome one two same = cc
+line_read = search rules
 
 module _ (ahead ahead_now : Text) (old mid : StreamsView) (result : Result Asked InputFault) (uses : UsesLine EndsLine ahead ahead_now old mid result) where
   -- the exchanges of the reads
@@ -302,78 +252,43 @@ module _ (ahead ahead_now : Text) (old mid : StreamsView) (result : Result Asked
 
   all_gained : (text : Text) (gained : List Exchange) (new : StreamsView) → Writes text gained mid new
       → new.exchanges ≡ old.exchanges ++ (uses.gained ++ gained)
-  all_gained text gained new writes =
-      gained_both old.exchanges mid.exchanges new.exchanges uses.gained gained reads_gained (ap (λ (s : StreamsView). s.exchanges) writes.only)
+  all_gained = search (rules, gained_both, reads_gained)
 
   -- the line that was read, in terms of the reads
   next_of : (found : Asked) (line : LineView) → result ≡ Ok found → asked_meant found ≡ Some line
       → ReadsNext (Some (ahead ++ bytes_read uses.gained)) line (Some ahead_now)
-  next_of found line is meant =
-      subst (λ (met : Option LineView). ReadsAsked (Some (ahead ++ bytes_read uses.gained)) met (Some ahead_now)) meant
-      (subst (λ (r : Result Asked InputFault). EndsLine (Some (ahead ++ bytes_read uses.gained)) r (Some ahead_now)) is uses.ends)
+  next_of = search rules
 
   -- a line was read and its whole answer was written
   pub turn_of : (found : Asked) (line : LineView) (answer : AnswerView) (new : StreamsView) → result ≡ Ok found → asked_meant found ≡ Some line
       → WritesWhole (answer_bytes answer) mid new → TakesOneTurn line answer ahead ahead_now old.exchanges new.exchanges
-  turn_of found line answer new is meant whole = record {
-    reads = uses.gained;
-    writes = whole.gained;
-    exchanged = all_gained (answer_bytes answer) whole.gained new whole.writes;
-    are_reads = uses.reads.reads;
-    are_writes = whole.writes.writes;
-    line_is = line_read (ahead ++ bytes_read uses.gained) line ahead_now (next_of found line is meant);
-    told = whole.writes.are;
-  }
+  turn_of = grind (common_steps, arith, all_gained, line_read, next_of)
 
   -- the bytes read and written in reads and then writes
   read_is : (gained : List Exchange) → AreWrites gained → bytes_read (uses.gained ++ gained) ≡ bytes_read uses.gained
-  read_is gained are =
-      read_append uses.gained gained ∙ ap (λ (t : Text). bytes_read uses.gained ++ t) (writes_read_none gained are)
-      ∙ append-nil (bytes_read uses.gained)
+  read_is = search (rules, read_append, writes_read_none, append-nil)
 
   written_is : (gained : List Exchange) → bytes_written (uses.gained ++ gained) ≡ bytes_written gained
-  written_is gained =
-      written_append uses.gained gained
-      ∙ ap (λ (t : Text). t ++ bytes_written gained) (reads_write_none uses.gained (in_line_are_reads ahead uses.gained uses.reads.reads))
+  written_is = search (rules, written_append, reads_write_none, in_line_are_reads)
 
   -- a session that ended after the reads and these writes
   ended_by : (ending : Ending) (steps : List Step) (text : Text) (gained : List Exchange) (new : StreamsView) → Writes text gained mid new
       → EndsSession ending (Some (ahead ++ bytes_read uses.gained)) steps (Some []) (Some (bytes_written gained))
       → TakesTurns ending ahead steps old.exchanges new.exchanges
-  ended_by ending steps text gained new writes ends = record {
-    gained = uses.gained ++ gained;
-    exchanged = all_gained text gained new writes;
-    ends =
-        subst (λ (t : Text). EndsSession ending (Some (ahead ++ t)) steps (Some []) (Some (bytes_written (uses.gained ++ gained))))
-        (sym (read_is gained writes.writes))
-        (subst (λ (t : Text). EndsSession ending (Some (ahead ++ bytes_read uses.gained)) steps (Some []) (Some t)) (sym (written_is gained)) ends);
-    order = order_once ahead steps uses.gained gained uses.reads.reads writes.writes;
-  }
+  ended_by = grind (common_steps, arith, all_gained, read_is, written_is, order_once)
 
   -- a session that ended after the reads
   pub ended_unread : (ending : Ending) → EndsSession ending (Some (ahead ++ bytes_read uses.gained)) [] (Some []) (Some [])
       → TakesTurns ending ahead [] old.exchanges mid.exchanges
-  ended_unread ending ends = record {
-    gained = uses.gained;
-    exchanged = reads_gained;
-    ends =
-        subst (λ (t : Text). EndsSession ending (Some (ahead ++ bytes_read uses.gained)) [] (Some []) (Some t))
-        (sym (reads_write_none uses.gained (in_line_are_reads ahead uses.gained uses.reads.reads))) ends;
-    order = order_reads ahead [] uses.gained uses.reads.reads;
-  }
+  ended_unread = search (rules, reads_gained, reads_write_none, in_line_are_reads, order_reads)
 
   -- only a part of the answer to a line was written
   pub turns_broken : (found : Asked) (step : Step) (new : StreamsView) → result ≡ Ok found → asked_meant found ≡ Some step.line
       → WritesPart (answer_bytes step.answer) mid new → TakesTurns OutputFailed ahead (step ∷ []) old.exchanges new.exchanges
-  turns_broken found step new is meant part =
-      ended_by OutputFailed (step ∷ []) (take part.n (answer_bytes step.answer)) part.gained new part.writes
-      (broken_at step (Some (ahead ++ bytes_read uses.gained)) (Some ahead_now) (Some []) (Some (bytes_written part.gained)) (next_of found step.line is meant)
-      (part.n, part.short, ap Some part.writes.are))
+  turns_broken found step new is meant part = ended_by OutputFailed _ (take part.n (answer_bytes step.answer)) _ new part.writes
+      (broken_at _ (Some (ahead ++ bytes_read uses.gained)) _ (Some []) _ (next_of found _ is meant) (part.n, part.short, ap Some part.writes.are))
 
   -- a line was cut, and its answer was written
   pub turns_cut : (found : Asked) (step : Step) (new : StreamsView) → step.line ≡ cut_line → result ≡ Ok found → asked_meant found ≡ Some cut_line
       → WritesWhole (answer_bytes step.answer) mid new → TakesTurns Ended ahead (step ∷ []) old.exchanges new.exchanges
-  turns_cut found step new cut is meant whole =
-      ended_by Ended (step ∷ []) (answer_bytes step.answer) whole.gained new whole.writes
-      (ended_at step (Some (ahead ++ bytes_read uses.gained)) (Some ahead_now) (Some []) (Some (bytes_written whole.gained)) cut
-      (next_of found cut_line is meant) (ap Some whole.writes.are))
+  turns_cut = search (rules, ended_by, ended_at, next_of)

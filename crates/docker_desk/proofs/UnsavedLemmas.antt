@@ -1,14 +1,14 @@
 -- At every point of a session at which nothing is unsaved, the state's file has held the text of the
 -- desk's state.
 use Rattle.std.proofs.Common.{◌≡◌, ℕ, ◌+◌, List, [], ◌∷◌, ◌++◌, length, refl, sym, ◌∙◌, ap, subst, arith, append_assoc, append-nil, length-append}
-use Rattle.std.proofs.Common.{Some, None, Ok, Err, inl, inr, true≢false}
+use Rattle.std.proofs.Common.{Some, None, Ok, Err, inl, inr, true≢false, rules}
 use Rattle.std.specs.Prelude.{Option, Result, ⊤, Bool, true, false}
 use Rattle.docker_model.specs.state.State.{State}
 use Rattle.docker_model.specs.state.StateText.{dks_2, state_text}
 use Rattle.docker_bytes.specs.SourceRead.{ReadsState}
 use Rattle.docker_cmd.specs.Prepared.{most_bytes}
 use Rattle.cif_device.specs.Device.{Held}
-use Rattle.docker_host.specs.History.{Bytes, Event, Text, closed, drafted, dropped, looked, named_if, opened, placed, undrafted, unplaced}
+use Rattle.docker_host.specs.History.{Bytes, Event, Text, closed, drafted, looked, named_if, opened, placed}
 use Rattle.docker_host.specs.Asked.{FailsToStore}
 use Rattle.docker_host.specs.Standing.{IsStandingOf, IsStill, Standing}
 use Rattle.docker_office.specs.declared.fault.OfficeFault.{OfficeFault}
@@ -20,7 +20,7 @@ use Rattle.docker_desk.specs.declared.compared.Compared.TheVariants as compared
 use Rattle.docker_desk.specs.Requests.{RequestView, show_request, renew_request, take_request, merge_request, horizon_request, save_request}
 use Rattle.docker_desk.specs.Replies.{AnswerView, refused_for}
 use Rattle.docker_desk.specs.SessionViews.{SessionView, Setting, Step}
-use Rattle.docker_desk.specs.Doing.{AreSteps, DoesAsked, DoesRequest, answer_of, desk_by}
+use Rattle.docker_desk.specs.Doing.{AreSteps, DoesAsked, DoesRequest, desk_by}
 use Rattle.docker_desk.specs.Looking.{IsOwnText, WasInState}
 use Rattle.docker_desk.specs.Serving.{BeginsAt}
 use Rattle.docker_desk.proofs.ReplacingLemmas.{opened_own, placed_own}
@@ -72,9 +72,8 @@ module _ (name : Text) where
   -- or placed
   own_same : (old new more : List Event) (look look_now : ℕ) (state state_now : State) → new ≡ old ++ more → look_now ≡ look → state_now ≡ state
       → IsOwnText name old look (state_text dks_2 state) → IsOwnText name new look_now (state_text dks_2 state_now)
-  own_same old new more look look_now state state_now grown same is own =
-      subst (λ (l : ℕ). IsOwnText name new l (state_text dks_2 state_now)) (sym same)
-      (subst (λ (s : State). IsOwnText name new look (state_text dks_2 s)) (sym is) (own_more old new more look (state_text dks_2 state) grown own))
+  own_same old new more look look_now state state_now grown same is own = subst (λ (l : ℕ). IsOwnText name new l (state_text dks_2 state_now)) (sym same)
+      (subst (λ (s : State). IsOwnText name new look (state_text dks_2 s)) (sym is) (own_more _ _ _ _ _ grown own))
 
   -- a text that was read after the look is the desk's own
   own_opened : (old new : List Event) (held left : Bytes) (look : ℕ) (state read : State)
@@ -111,10 +110,8 @@ module _ (name : Text) where
   own_found : (found : Compared) (old new : List Event) (read : Reading) (look : ℕ) (after : DeskView) (received : State)
       → new ≡ old ++ looked name ∷ opening_of name (Some read) → look ≡ length old → ReadsState dks_2 most_bytes read.held received
       → IsFound found after.state read → after.unsaved ≡ unsaved_if found → after.unsaved ≡ false → IsOwnText name new look (state_text dks_2 after.state)
-  own_found compared.Same old new read look after received grown number reads is flag clear =
-      own_opened old new read.held read.left look after.state received grown number reads is
-  own_found compared.Other old new read look after received grown number reads is flag clear = absurd (not_set after.unsaved flag clear)
-  own_found compared.Unknown old new read look after received grown number reads is flag clear = absurd (not_set after.unsaved flag clear)
+  own_found compared.Same old new read look after received grown number reads is flag clear = search (rules, own_opened)
+  own_found _ old new read look after received grown number reads is flag clear = absurd (not_set after.unsaved flag clear)
 
   -- after `renew`: nothing is unsaved only if the file held the text of the new state, or if `renew`
   -- was refused and the desk is unchanged
@@ -122,8 +119,7 @@ module _ (name : Text) where
       → new ≡ old ++ looked name ∷ opening_of name read → EndsRenewing own after result read → look_now ≡ look_by result (length old) look
       → (own.unsaved ≡ false → IsOwnText name old look (state_text dks_2 own.state)) → after.unsaved ≡ false
       → IsOwnText name new look_now (state_text dks_2 after.state)
-  own_renewed (Some read) (Ok found) old new own after look look_now grown ends same saved clear =
-      own_found found old new read look_now after ends.0.0.received grown same ends.0.0.read ends.0.1 ends.1 clear
+  own_renewed (Some read) (Ok found) old new own after look look_now grown ends same saved clear = search (rules, own_found)
   own_renewed None (Ok found) old new own after look look_now grown ends same saved clear = absurd ends.0.0
   own_renewed read (Err fault) old new own after look look_now grown ends same saved clear =
       own_same old new (looked name ∷ opening_of name read) look look_now own.state after.state grown same (ap (λ (desk : DeskView). desk.state) ends.1)
@@ -133,20 +129,16 @@ module _ (name : Text) where
   own_kept : (old new more : List Event) (own after : DeskView) (look look_now : ℕ) → new ≡ old ++ more → look_now ≡ look → after ≡ own
       → (own.unsaved ≡ false → IsOwnText name old look (state_text dks_2 own.state)) → after.unsaved ≡ false
       → IsOwnText name new look_now (state_text dks_2 after.state)
-  own_kept old new more own after look look_now grown same is saved clear =
-      own_same old new more look look_now own.state after.state grown same (ap (λ (desk : DeskView). desk.state) is)
+  own_kept old new more own after look look_now grown same is saved clear = own_same _ _ _ _ _ _ _ grown same (ap (λ (desk : DeskView). desk.state) is)
       (saved (sym (ap (λ (desk : DeskView). desk.unsaved) is) ∙ clear))
 
   own_unsaved : (names_bytes : Bool) (text : List ℕ) (old new : List Event) (from : ℕ) (own after : DeskView) (look look_now : ℕ)
       → FailsToStore names_bytes name from text old new → look_now ≡ look → after ≡ own
       → (own.unsaved ≡ false → IsOwnText name old look (state_text dks_2 own.state)) → after.unsaved ≡ false
       → IsOwnText name new look_now (state_text dks_2 after.state)
-  own_unsaved names_bytes text old new from own after look look_now (inl grown) same is saved clear =
-      own_kept old new (undrafted name from ∷ []) own after look look_now grown same is saved clear
-  own_unsaved names_bytes text old new from own after look look_now (inr (inl grown)) same is saved clear =
-      own_kept old new (drafted name from ∷ dropped name ∷ []) own after look look_now grown same is saved clear
-  own_unsaved names_bytes text old new from own after look look_now (inr (inr grown)) same is saved clear =
-      own_kept old new (drafted name from ∷ unplaced name (named_if names_bytes text) ∷ []) own after look look_now grown same is saved clear
+  own_unsaved names_bytes text old new from own after look look_now (inl grown) same is saved clear = search (rules, own_kept)
+  own_unsaved names_bytes text old new from own after look look_now (inr (inl grown)) same is saved clear = search (rules, own_kept)
+  own_unsaved names_bytes text old new from own after look look_now (inr (inr grown)) same is saved clear = search (rules, own_kept)
 
   own_saved : (result : Result ⊤ OfficeFault) (names_bytes : Bool) (old new : List Event) (from : ℕ) (own after : DeskView) (look look_now : ℕ)
       → EndsSaving names_bytes name from (state_text dks_2 own.state) old new result → look_now ≡ look_by result (length old + 2) look
@@ -156,14 +148,9 @@ module _ (name : Text) where
       subst (λ (s : State). IsOwnText name new look_now (state_text dks_2 s)) (sym (ap (λ (desk : DeskView). desk.state) is))
       (own_placed old new (named_if names_bytes (state_text dks_2 own.state)) from look_now (state_text dks_2 own.state) grown same
       (named_text names_bytes (state_text dks_2 own.state)))
-  own_saved (Err office.Sink) names_bytes old new from own after look look_now failed same is saved clear =
-      own_unsaved names_bytes (state_text dks_2 own.state) old new from own after look look_now failed same is saved clear
-  own_saved (Err office.Memory) names_bytes old new from own after look look_now grown same is saved clear =
-      own_kept old new (undrafted name from ∷ []) own after look look_now grown same is saved clear
-  own_saved (Err office.Source) names_bytes old new from own after look look_now never same is saved clear = absurd never
-  own_saved (Err office.Lapsed) names_bytes old new from own after look look_now never same is saved clear = absurd never
-  own_saved (Err (office.File fault)) names_bytes old new from own after look look_now never same is saved clear = absurd never
-  own_saved (Err (office.State fault)) names_bytes old new from own after look look_now never same is saved clear = absurd never
+  own_saved (Err office.Sink) names_bytes old new from own after look look_now failed same is saved clear = search (rules, own_unsaved)
+  own_saved (Err office.Memory) names_bytes old new from own after look look_now grown same is saved clear = search (rules, own_kept)
+  own_saved _ names_bytes old new from own after look look_now never same is saved clear = absurd never
 
 module _ (setting : Setting) where
   -- if nothing is unsaved at this point, the state's file has held the text of the desk's state
@@ -175,32 +162,21 @@ module _ (setting : Setting) where
 
   taken_same : (own after : State) (result : Result ⊤ OfficeFault) (read : Option Reading) → EndsTaking own after result read → (fault : OfficeFault)
       → result ≡ Err fault → after ≡ own
-  taken_same own after (Ok done) read ends fault is = let never : ⊥ = cc in absurd never
-  taken_same own after (Err cause) read ends fault is = ends.1
+  taken_same = search rules
 
   received_same : (own after : State) (result : Result ⊤ OfficeFault) (read : Option Reading) → EndsReceiving own after result read → (fault : OfficeFault)
       → result ≡ Err fault → after ≡ own
-  received_same own after (Ok done) read ends fault is = let never : ⊥ = cc in absurd never
-  received_same own after (Err cause) read ends fault is = ends.1
+  received_same = search rules
 
   -- each request keeps this true
   saved_request : (request : RequestView) (before after : SessionView) (answer : AnswerView) → DoesRequest setting request before answer after → IsSaved before
       → IsSaved after
   saved_request (show_request query) before after answer does saved = saved_kept before after does.1 saved
-  saved_request renew_request before after answer does saved =
-      own_renewed setting.name does.opens.read does.result before.history after.history before.desk after.desk before.look after.look
-      does.opens.asked does.opens.ends does.look saved
-  saved_request (take_request file) before after answer does saved =
-      own_joined setting.name does.result before.history after.history (opening_of file does.opens.read) before.look after.look before.desk after.desk
-      does.opens.asked does.look does.unsaved (taken_same before.desk.state after.desk.state does.result does.opens.read does.opens.ends) saved
-  saved_request (merge_request other) before after answer does saved =
-      own_joined setting.name does.result before.history after.history (opening_of other does.opens.read) before.look after.look before.desk after.desk
-      does.opens.asked does.look does.unsaved (received_same before.desk.state after.desk.state does.result does.opens.read does.opens.ends) saved
-  saved_request (horizon_request day) before after answer does saved =
-      λ clear. absurd (not_set after.desk.unsaved (ap (λ (point : SessionView). point.desk.unsaved) does.1) clear)
-  saved_request save_request before after answer does saved =
-      own_saved setting.name does.result setting.names_bytes before.history after.history before.look before.desk after.desk before.look after.look
-      does.stores does.look does.desk saved
+  saved_request renew_request before after answer does saved = search (rules, own_renewed)
+  saved_request (take_request file) before after answer does saved = search (rules, own_joined, taken_same)
+  saved_request (merge_request other) before after answer does saved = search (rules, own_joined, received_same)
+  saved_request (horizon_request day) before after answer does saved = search (rules, not_set)
+  saved_request save_request before after answer does saved = search (rules, own_saved)
 
   saved_asked : (request : Option RequestView) (before after : SessionView) (answer : AnswerView) → DoesAsked setting request before answer after
       → IsSaved before → IsSaved after
@@ -208,16 +184,13 @@ module _ (setting : Setting) where
   saved_asked None before after answer does saved = saved_kept before after does.1 saved
 
   saved_steps : (first last : SessionView) (steps : List Step) → IsSaved first → AreSteps setting first steps last → IsSaved last
-  saved_steps first last [] saved are = saved_kept first last are saved
-  saved_steps first last (step ∷ steps) saved are =
-      saved_steps step.after last steps
-      (saved_asked step.request step.before step.after step.answer are.1.0.does (saved_kept first step.before are.0 saved)) are.1.1
+  saved_steps first last [] saved are = saved_kept first _ are saved
+  saved_steps first last (step ∷ steps) saved are = saved_steps step.after _ steps
+      (saved_asked _ step.before _ step.answer are.1.0.does (saved_kept _ step.before are.0 saved)) are.1.1
 
   -- at the beginning of a session, the file has held the text of the desk's state
   saved_first : (old : List Event) (first : SessionView) → BeginsAt setting.name old first → IsSaved first
-  saved_first old first begins clear =
-      own_opened setting.name old first.history begins.held begins.left first.look first.desk.state first.desk.state begins.asked begins.look begins.state
-      (read_text begins.held first.desk.state begins.state)
+  saved_first old first begins clear = own_opened _ _ _ _ _ _ _ first.desk.state begins.asked begins.look begins.state (read_text _ _ begins.state)
 
   -- at every point at which nothing is unsaved, the file has held the text of the desk's state
   pub was_in_state : (old : List Event) (first last : SessionView) (steps : List Step) → BeginsAt setting.name old first → AreSteps setting first steps last
@@ -240,9 +213,4 @@ module _ (setting : Setting) where
   -- a `renew` that is refused changes neither the desk nor its look
   pub refused_renewal : (before after : SessionView) (fault : OfficeFault) → DoesRequest setting renew_request before (refused_for fault) after
       → (after.desk ≡ before.desk) × (after.look ≡ before.look)
-  refused_renewal before after fault does = by does.result does.told does.opens.ends does.look
-    where
-      by : (result : Result Compared OfficeFault) → refused_for fault ≡ answer_of result → EndsRenewing before.desk after.desk result does.opens.read
-          → after.look ≡ look_by result (length before.history) before.look → (after.desk ≡ before.desk) × (after.look ≡ before.look)
-      by (Ok found) told ends look = let never : ⊥ = cc in absurd never
-      by (Err cause) told ends look = (ends.1, look)
+  refused_renewal = search rules

@@ -1,7 +1,7 @@
 -- A session that asks for the files of a state without files.
-use Rattle.std.proofs.Common.{◌≡◌, ◌≢◌, ℕ, ◌≤◌, Bool, true, false, List, [], ◌∷◌, ◌++◌, length, get_or, refl}
+use Rattle.std.proofs.Common.{◌≡◌, ◌≢◌, ℕ, ◌≤◌, Bool, true, List, [], ◌∷◌, ◌++◌, length, refl, rules}
 use Rattle.std.proofs.Common.{sym, ◌∙◌, ap, subst, arith, append-nil, Some, None, ◌⊎◌, inl, inr}
-use Rattle.std.specs.Prelude.{Option, codes, decimal}
+use Rattle.std.specs.Prelude.{Option, codes}
 use Rattle.std.proofs.lemmas.Fmt.{decimal_digit}
 use Rattle.std.proofs.lemmas.List.Sums.{AllPass-from_list_all}
 use Rattle.docker_model.specs.records.Record.{is_printable}
@@ -19,23 +19,21 @@ use Rattle.docker_desk.specs.Requests.{AsksFor, IsRequestOf, RequestView, show_r
 use Rattle.docker_desk.specs.Desk.{IsShown}
 use Rattle.docker_desk.specs.declared.query.Query.TheVariants as query
 use Rattle.docker_desk.specs.declared.requests.Verb.TheVariants as verb
-use Rattle.docker_desk.specs.Replies.{AnswerView, answer_bytes, done_with, memory_answer, no_request, refused_for}
+use Rattle.docker_desk.specs.Replies.{AnswerView, answer_bytes, done_with, memory_answer}
 use Rattle.docker_desk.specs.SessionViews.{SessionView, Setting, Step, setting}
 use Rattle.docker_desk.specs.Doing.{AreSteps, AsksOf, DoesAsked}
 use Rattle.docker_desk.specs.Answering.{EndsSession, answers_text, lines_of}
 use Rattle.docker_desk.specs.Help.{word_of}
 use Rattle.docker_desk.specs.declared.help.Question.{Question}
-use Rattle.docker_desk.specs.declared.help.Question.TheVariants.{Help, Version}
 use Rattle.docker_desk.specs.Serving.{BeginsAt, Serves, ending_status, session_words}
 use Rattle.docker_desk.specs.declared.ending.Ending.{Ending}
-use Rattle.docker_desk.specs.declared.ending.Ending.TheVariants.{Ended, InputFailed, InputEndless, OutputFailed}
+use Rattle.docker_desk.specs.declared.ending.Ending.TheVariants.{Ended}
 use Rattle.docker_desk.proofs.ReadingLemmas.{one_reading}
 use Rattle.docker_desk.proofs.KnownLemmas.{one_read}
 use Rattle.docker_desk.proofs.RequestLemmas.{with_verb}
 use Rattle.state_laws.proofs.texts.ReportedWithHorizon.{valid_is_told}
 use Rattle.docker_office.specs.Office.{HoldsState, no_state}
 use Rattle.docker_office.specs.declared.fault.OfficeFault.{OfficeFault}
-use Rattle.docker_office.specs.declared.fault.OfficeFault.TheVariants as office
 
 -- the line `files`, which requests the list of files
 abbrev asked_line : List ℕ
@@ -49,24 +47,15 @@ IsAnswered output = (output ≡ Some (codes "0 0 0\n")) ⊎ (output ≡ Some mem
 
 -- the status of a fault is never 0
 some_status : (fault : OfficeFault) → status_of (Office fault) ≢ 0
-some_status (office.File fault) none = let never : ⊥ = omega (arith, none) in never
-some_status (office.State fault) none = let never : ⊥ = omega (arith, none) in never
-some_status office.Lapsed none = let never : ⊥ = omega (arith, none) in never
-some_status office.Source none = let never : ⊥ = omega (arith, none) in never
-some_status office.Sink none = let never : ⊥ = omega (arith, none) in never
-some_status office.Memory none = let never : ⊥ = omega (arith, none) in never
+some_status = search rules
 
 -- if the status of an ending is 0, the session ended at the end of its input
 ended_well : (ending : Ending) (unsaved : Bool) → ending_status ending unsaved ≡ 0 → ending ≡ Ended
-ended_well Ended unsaved none = refl
-ended_well InputFailed unsaved none = let never : ⊥ = omega (arith, none) in absurd never
-ended_well InputEndless unsaved none = let never : ⊥ = omega (arith, none) in absurd never
-ended_well OutputFailed unsaved none = let never : ⊥ = omega (arith, none) in absurd never
+ended_well = search rules
 
 -- if a session is started with only one word, this word names the state's file
 named_so : (word name : Text) (may_write : Bool) → word ∷ [] ≡ session_words name may_write → name ≡ word
-named_so word name false same = cc
-named_so word name true same = let never : ⊥ = cc in absurd never
+named_so = search rules
 
 -- ---- the line `files` is a request
 
@@ -90,41 +79,24 @@ asked_files may_write (Some request) asks = ap Some (with_verb may_write asked_l
 
 -- if a request succeeded and its answer has no text, the answer consists of `0 0 0` and a line feed
 empty_told : answer_bytes (done_with []) ≡ codes "0 0 0\n"
-empty_told = ap (λ (zero : List ℕ). zero ++ codes " " ++ zero ++ codes " " ++ zero ++ codes "\n" ++ []) zero_told
-  where
-    zero_told : decimal 0 ≡ 48 ∷ []
-    zero_told = decimal_digit 0 (omega arith)
+empty_told = search (rules, decimal_digit)
 
 -- if the state knows no files, then after the answer to `files` the output lists no files or
 -- reports that memory ran out
 answered : (output : Bytes) (state : State) (answer : AnswerView) → state ≡ no_state → IsShown state query.Files answer
     → Takes (Some []) (answer_bytes answer ++ []) output → IsAnswered output
-answered output state (done_with text) same is takes =
-    let none : text ≡ [] = (subst (λ (s : State). IsShown s query.Files (done_with text)) same is).0 in
-    inl (takes ∙ ap (λ (t : List ℕ). Some (answer_bytes (done_with t) ++ [])) none ∙ ap Some (append-nil (answer_bytes (done_with [])) ∙ empty_told))
-answered output state (refused_for office.Memory) same is takes = inr (takes ∙ ap Some (append-nil (answer_bytes (refused_for office.Memory))))
-answered output state (refused_for office.Lapsed) same is takes = absurd is
-answered output state (refused_for (office.File fault)) same is takes = absurd is
-answered output state (refused_for (office.State fault)) same is takes = absurd is
-answered output state (refused_for office.Source) same is takes = absurd is
-answered output state (refused_for office.Sink) same is takes = absurd is
-answered output state no_request same is takes = absurd is
+answered = search (rules, append-nil, empty_told)
 
 -- ---- the file holds the state without files
 
 -- an opened file holds the text that was last placed under its name on the shelf
 held_there : (text name : Text) (held left : Bytes) → name ≡ codes "S"
     → IsShelfHistory (placed (codes "S") (Some text) ∷ looked name ∷ opened name held ∷ closed left ∷ []) → held ≡ Some text
-held_there text name held left same met =
-    (subst (λ (n : Text). IsShelfHistory (placed (codes "S") (Some text) ∷ looked n ∷ opened n held ∷ closed left ∷ [])) same met).1.1.0.0
+held_there = search rules
 
 -- a file that holds the text of `no_state`, the state without files, holds this state
 holds_none : (text : List ℕ) → text ≡ state_text dks_2 no_state → length text ≤ 100 → IsValid no_state → HoldsState dks_2 most_bytes (Some text) no_state
-holds_none text is few valid = record {
-  text = text;
-  told = refl;
-  is = record { valid = (valid_is_told no_state valid, omega arith, omega arith); is = is; within = omega (arith, few) };
-}
+holds_none = search (rules, valid_is_told)
 
 -- ---- the session answers the request
 
@@ -135,13 +107,13 @@ module _ (text : List ℕ) (holds : HoldsState dks_2 most_bytes (Some text) no_s
   one_step : (its : Setting) (first last : SessionView) (step : Step) → BeginsAt its.name old first → its.name ≡ codes "S" → step.line ≡ whole_line asked_line
       → AreSteps its first (step ∷ []) last → IsShelfHistory last.history → Takes (Some []) (answer_bytes step.answer ++ []) output → IsAnswered output
   one_step its first last step begins named line are met takes =
-      answered output step.before.desk.state step.answer (ap (λ (m : SessionView). m.desk.state) are.0 ∙ read) does.0 takes
+      answered output _ step.answer (ap (λ (m : SessionView). m.desk.state) are.0 ∙ read) does.0 takes
     where
       asks : AsksOf its.may_write (whole_line asked_line) step.request
       asks = subst (λ (l : LineView). AsksOf its.may_write l step.request) line are.1.0.asks
 
       request : step.request ≡ Some files_request
-      request = asked_files its.may_write step.request asks.1
+      request = asked_files _ step.request asks.1
 
       does : DoesAsked its (Some files_request) step.before step.answer step.after
       does = subst (λ (r : Option RequestView). DoesAsked its r step.before step.answer step.after) request are.1.0.does
@@ -154,11 +126,10 @@ module _ (text : List ℕ) (holds : HoldsState dks_2 most_bytes (Some text) no_s
           ∙ ap (λ (events : List Event). events ++ looked its.name ∷ opened its.name begins.held ∷ closed begins.left ∷ []) before
 
       held : begins.held ≡ Some text
-      held = held_there text its.name begins.held begins.left named (subst IsShelfHistory history met)
+      held = held_there _ its.name _ begins.left named (subst IsShelfHistory history met)
 
       read : first.desk.state ≡ no_state
-      read = one_read most_bytes begins.held first.desk.state no_state begins.state
-          (subst (λ (h : Bytes). HoldsState dks_2 most_bytes h no_state) (sym held) holds)
+      read = one_read _ begins.held _ no_state begins.state (subst (λ (h : Bytes). HoldsState dks_2 most_bytes h no_state) (sym held) holds)
 
   -- if the only line of the steps is `files`, the output lists no files or reports that memory ran
   -- out
@@ -168,14 +139,10 @@ module _ (text : List ℕ) (holds : HoldsState dks_2 most_bytes (Some text) no_s
   all_steps its first last [] begins named lines are met takes = let never : ⊥ = cc in absurd never
   all_steps its first last (step ∷ []) begins named lines are met takes =
       let line : step.line ≡ whole_line asked_line = cc in one_step its first last step begins named line are met takes
-  all_steps its first last (step ∷ next ∷ steps) begins named lines are met takes = let never : ⊥ = cc in absurd never
+  all_steps its first last (step ∷ next ∷ steps) begins named lines are met takes = cc
 
--- the word `S` asks no question
 asks_nothing : (question : Question) → codes "S" ∷ [] ≡ word_of question ∷ [] → ⊥
-asks_nothing Help same =
-    let width : ◌≡◌ {A = ℕ} 1 6 = ap (λ (words : List Text). length (get_or words 0 [])) same in omega (arith, width)
-asks_nothing Version same =
-    let width : ◌≡◌ {A = ℕ} 1 9 = ap (λ (words : List Text). length (get_or words 0 [])) same in omega (arith, width)
+asks_nothing = search rules
 
 -- suppose that STATE holds the text of a state without files, and that `files` is the only line of
 -- the input. Then the desk answers that there are no files, or that memory ran out
@@ -183,10 +150,8 @@ pub files_answered : (text : List ℕ) (old new : SessionHostView) (status : ℕ
     → old.history ≡ placed (codes "S") (Some text) ∷ [] → old.streams.input ≡ Some (codes "files\n") → old.streams.output ≡ Some []
     → IsShelfHistory new.history → status ≡ 0 → Serves (codes "S" ∷ []) true old new status → IsAnswered new.streams.output
 files_answered text old new status holds history input output met none (inl asked) = absurd (asks_nothing asked.question asked.words_are)
-files_answered text old new status holds history input output met none (inr (unasked, inl misused)) =
-    let two = misused.status_is in absurd (omega (arith, none, two))
-files_answered text old new status holds history input output met none (inr (unasked, inr (inl refused))) =
-    absurd (some_status refused.fault (sym refused.status_is ∙ none))
+files_answered text old new status holds history input output met none (inr (unasked, inl misused)) = cc
+files_answered text old new status holds history input output met none (inr (unasked, inr (inl refused))) = search (rules, some_status)
 files_answered text old new status holds history input output met none (inr (unasked, inr (inr served))) =
     all_steps text holds old.history new.streams.output history (setting served.name served.may_write true) served.first served.last served.answers.steps
     served.begins (named_so (codes "S") served.name served.may_write served.words_are.words_are)
@@ -206,29 +171,17 @@ files_answered text old new status holds history input output met none (inr (una
 
 pub sent_text : (text before after : List ℕ) (state : State) → before ≡ [] → Takes (Some before) (state_text dks_2 state) (Some after) → state ≡ no_state
     → text ≡ after → text ≡ state_text dks_2 no_state
-sent_text text before after state none takes is same =
-    same ∙ unsome after (before ++ state_text dks_2 state) takes ∙ (λ i. none i ++ state_text dks_2 (is i))
-  where
-    unsome : (one two : List ℕ) → Some one ≡ Some two → one ≡ two
-    unsome one two equal = cc
+sent_text = search rules
 
 -- a sink in memory that satisfies `IsAnswered` has the bytes of one of the two answers
 bytes_answered : (taken : List ℕ) → IsAnswered (Some taken) → (taken ≡ codes "0 0 0\n") ⊎ (taken ≡ memory_answer)
-bytes_answered taken (inl done) = inl (unsome taken (codes "0 0 0\n") done)
-  where
-    unsome : (one two : List ℕ) → Some one ≡ Some two → one ≡ two
-    unsome one two equal = cc
-bytes_answered taken (inr refused) = inr (unsome taken memory_answer refused)
-  where
-    unsome : (one two : List ℕ) → Some one ≡ Some two → one ≡ two
-    unsome one two equal = cc
+bytes_answered = search rules
 
 -- the same as `files_answered`, for a host `seen` that equals the new host
 pub files_told : (text : List ℕ) (old seen new : SessionHostView) (status : ℕ) (taken : List ℕ) → Serves (codes "S" ∷ []) true old new status → seen ≡ new
     → text ≡ state_text dks_2 no_state → length text ≤ 100 → IsValid no_state → old.history ≡ placed (codes "S") (Some text) ∷ []
     → old.streams.input ≡ Some (codes "files\n") → old.streams.output ≡ Some [] → IsShelfHistory seen.history → status ≡ 0 → seen.streams.output ≡ Some taken
     → (taken ≡ codes "0 0 0\n") ⊎ (taken ≡ memory_answer)
-files_told text old seen new status taken serves same is few valid history input output met none told =
-    bytes_answered taken (subst IsAnswered told
-    (files_answered text old seen status (holds_none text is few valid) history input output met none
+files_told text old seen new status taken serves same is few valid history input output met none told = bytes_answered _ (subst IsAnswered told
+    (files_answered _ _ _ _ (holds_none _ is few valid) history input output met none
     (subst (λ (host : SessionHostView). Serves (codes "S" ∷ []) true old host status) (sym same) serves)))

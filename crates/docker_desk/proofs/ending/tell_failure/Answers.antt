@@ -6,11 +6,7 @@ use Rattle.docker_desk.proofs.ServeLemmas.{tells_both, tells_first}
 use Rattle.docker_desk.proofs.ending.tell_failure.Goals as goal
 
 pub returns-in-Ok-clause-tells : goal.returns-in-Ok-clause-tells
-returns-in-Ok-clause-tells g c =
-    tells_both (fault_line c.args.fault.now) (unsaved_text c.args.unsaved) c.as_slice.result.now c.unsaved_line-behind.result.now
-    (faults_view (g.L.Sink.taken c.args.faults.now) (g.L.Sink.failures c.args.faults.now))
-    (faults_view (g.L.Sink.taken c.write_all.new.sink) (g.L.Sink.failures c.write_all.new.sink))
-    (faults_view (g.L.Sink.taken c.tell_text.new.faults) (g.L.Sink.failures c.tell_text.new.faults))
+returns-in-Ok-clause-tells g c = tells_both _ _ _ _ _ _ _
     (search rules) c.unsaved_line-behind.ensures c.in-Ok.ensures.no_failure c.in-Ok.ensures.whole c.tell_text.ensures
 
 pub returns-in-Err-clause-tells : goal.returns-in-Err-clause-tells

@@ -1,8 +1,6 @@
 use Rattle.std.proofs.Common.{ap}
 use Rattle.docker_host.proofs.StreamsLemmas.{writes_none}
-use Rattle.docker_desk.specs.Requests.{row_meant, row_of}
 use Rattle.docker_desk.specs.Help.{request_line}
-use Rattle.docker_desk.specs.declared.requests.Verb.{Verb}
 use Rattle.docker_desk.proofs.HelpLemmas.{part_at, whole_at, whole_end}
 use Rattle.docker_desk.proofs.help.write_requests.Goals as goal
 
@@ -11,19 +9,11 @@ loop-verb-init g c = record { so_far = writes_none c.args.streams.now }
 
 pub loop-verb-preserved : goal.loop-verb-preserved
 loop-verb-preserved g c = record {
-  so_far =
-      whole_at (λ (verb : Verb). request_line (row_of verb)) c.args.verbs.now c.loop-verb.verb-index _ (request_line (row_meant c.row.result))
-      c.args.streams.now c.loop-verb.streams c.write_request.new.streams c.loop-verb-test.true (ap request_line c.row.ensures)
-      c.loop-verb.invariant.so_far c.in-Ok.ensures;
+  so_far = whole_at _ _ _ _ _ _ _ _ c.loop-verb-test.true (ap request_line c.row.ensures) c.loop-verb.invariant.so_far c.in-Ok.ensures;
 }
 
 pub returns-in-Err : goal.returns-in-Err
-returns-in-Err g c =
-    part_at (λ (verb : Verb). request_line (row_of verb)) c.args.verbs.now c.loop-verb.verb-index _ (request_line (row_meant c.row.result))
-    c.args.streams.now c.loop-verb.streams c.write_request.new.streams c.loop-verb-test.true (ap request_line c.row.ensures)
-    c.loop-verb.invariant.so_far c.in-Err.ensures
+returns-in-Err g c = part_at _ _ _ _ _ _ _ _ c.loop-verb-test.true (ap request_line c.row.ensures) c.loop-verb.invariant.so_far c.in-Err.ensures
 
 pub returns : goal.returns
-returns g c =
-    whole_end (λ (verb : Verb). request_line (row_of verb)) c.args.verbs.now c.loop-verb.verb-index c.args.streams.now c.loop-verb.streams
-    c.loop-verb-test.false c.loop-verb.invariant.so_far
+returns g c = whole_end _ _ _ _ _ c.loop-verb-test.false c.loop-verb.invariant.so_far

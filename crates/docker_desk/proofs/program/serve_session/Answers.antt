@@ -21,8 +21,5 @@ returns-in-Ok g c =
     (ap (λ (unsaved : Bool). c.in-Some.named.may_write && unsaved) c.is_unsaved-unsaved.ensures)
 
 pub returns-in-Err : goal.returns-in-Err
-returns-in-Err g c =
-    refused_as (texts c.args.words.now) g.D.Folder.names_bytes _ _ _ c.tell_failure.result c.in-Some.named.name.now c.in-Some.named.may_write
-    c.in-Err.fault c.host.view_is c.in-Some.ensures.named c.in-Err.ensures.opens c.in-Err.ensures.counted
-    refl
+returns-in-Err g c = refused_as _ _ _ _ _ _ _ _ _ c.host.view_is c.in-Some.ensures.named c.in-Err.ensures.opens c.in-Err.ensures.counted refl
     c.tell_failure.ensures.status c.tell_failure.ensures.tells

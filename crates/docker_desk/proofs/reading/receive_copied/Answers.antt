@@ -7,24 +7,16 @@ use Rattle.docker_desk.proofs.ReadFiles.{compares, refuses_as, stops_as}
 use Rattle.docker_desk.proofs.reading.receive_copied.Goals as goal
 
 pub returns-in-Err-clause-stops : goal.returns-in-Err-clause-stops
-returns-in-Err-clause-stops g c =
-    stops_as (g.S.Source.left c.args.source) (g.S.Source.left c.into_parts-source.result.0) _ _ c.receive-received.ensures.reads.few
-    c.new-copying.ensures.left c.into_parts-source.ensures.left
+returns-in-Err-clause-stops g c = stops_as _ _ _ _ c.receive-received.ensures.reads.few c.new-copying.ensures.left c.into_parts-source.ensures.left
 
 pub returns-in-Err-clause-ends : goal.returns-in-Err-clause-ends
-returns-in-Err-clause-ends g c =
-    refuses_as (g.S.Source.left c.args.source) (g.S.Source.left c.into_parts-source.result.0) _ _ c.args.office.now c.receive-received.new.self
-    c.in-Err.fault c.in-Err.ensures.reads.outcome (c.in-Err.ensures.unchanged refl) c.new-copying.ensures.left c.into_parts-source.ensures.left
+returns-in-Err-clause-ends g c = refuses_as _ _ _ _ _ _
+    _ c.in-Err.ensures.reads.outcome (c.in-Err.ensures.unchanged refl) c.new-copying.ensures.left c.into_parts-source.ensures.left
 
 pub returns-clause-stops : goal.returns-clause-stops
-returns-clause-stops g c =
-    stops_as (g.S.Source.left c.args.source) (g.S.Source.left c.into_parts-source.result.0) _ _ c.receive-received.ensures.reads.few
-    c.new-copying.ensures.left c.into_parts-source.ensures.left
+returns-clause-stops g c = stops_as _ _ _ _ c.receive-received.ensures.reads.few c.new-copying.ensures.left c.into_parts-source.ensures.left
 
 pub returns-clause-ends : goal.returns-clause-ends
-returns-clause-ends g c =
-    compares (g.S.Source.left c.args.source) g.B.Begun.bytes (g.S.Source.left c.into_parts-source.result.0) c.into_parts-source.result.1
-    c.args.office.now c.receive-received.new.self c.compared_with-found.result c.requires.begun c.into_parts-source.ensures.copy
-    c.compared_with-found.ensures
+returns-clause-ends g c = compares _ _ _ _ _ _ _ c.requires.begun c.into_parts-source.ensures.copy c.compared_with-found.ensures
     (subst (λ (bytes : Bytes). JoinsState dks_2 most_bytes bytes c.args.office.now c.receive-received.new.self) c.new-copying.ensures.left
     c.in-Ok.ensures.reads.outcome)

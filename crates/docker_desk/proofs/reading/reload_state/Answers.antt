@@ -6,9 +6,7 @@ use Rattle.docker_desk.proofs.reading.reload_state.Goals as goal
 pub returns-clause-opens : goal.returns-clause-opens
 returns-clause-opens g c = record {
   read = Some (record { held = g.D.File.Source.left c.in-Ok.file; left = g.D.File.Source.left c.reload-read.new.source });
-  asked = then_closed c.args.name.now _ _ _ _ _ c.in-Ok.ensures.asked c.close.ensures.asked;
+  asked = then_closed _ _ _ _ _ _ c.in-Ok.ensures.asked c.close.ensures.asked;
   stops = c.reload-read.ensures.reads.few;
-  ends =
-      reloads (g.D.File.Source.left c.in-Ok.file) (g.D.File.Source.left c.reload-read.new.source) c.reload-read.new.self
-      c.reload-read.result c.reload-read.ensures.reads.outcome;
+  ends = reloads _ _ _ _ c.reload-read.ensures.reads.outcome;
 }

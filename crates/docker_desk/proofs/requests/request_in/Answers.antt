@@ -8,13 +8,9 @@ returns-in_err-verb c = rw c.from_residual-in_err-verb.ensures
     (no_verb c.args.may_write c.args.line.now c.in_ok-name.name.now (c.in_ok-name.ensures.word ∙ ap first_word c.text_of.ensures) c.in_err-verb.ensures)
 
 pub returns-then-is_allowed : goal.returns-then-is_allowed
-returns-then-is_allowed c =
-    asked_by c.args.may_write c.args.line.now c.in_ok-name.name.now c.in_ok-verb.verb
-    (c.in_ok-name.ensures.word ∙ ap first_word c.text_of.ensures) c.in_ok-verb.ensures
-    c.in_ok-name.rest.now _ (c.in_ok-name.ensures.behind ∙ ap after_word c.text_of.ensures) (c.is_allowed.ensures.0 c.if-is_allowed.true) c.request_of.ensures
+returns-then-is_allowed c = asked_by _ _ _ _ (c.in_ok-name.ensures.word ∙ ap first_word c.text_of.ensures) c.in_ok-verb.ensures
+    _ _ (c.in_ok-name.ensures.behind ∙ ap after_word c.text_of.ensures) (c.is_allowed.ensures.0 c.if-is_allowed.true) c.request_of.ensures
 
 pub returns : goal.returns
-returns c =
-    not_allowed c.args.may_write c.args.line.now c.in_ok-name.name.now c.in_ok-verb.verb
-    (c.in_ok-name.ensures.word ∙ ap first_word c.text_of.ensures) c.in_ok-verb.ensures
+returns c = not_allowed _ _ _ _ (c.in_ok-name.ensures.word ∙ ap first_word c.text_of.ensures) c.in_ok-verb.ensures
     (λ allowed. true≢false (sym (c.is_allowed.ensures.1 allowed) ∙ c.if-is_allowed.false))

@@ -37,8 +37,7 @@ returns-in-Some-clause-answers g c =
 pub returns-clause-answers : goal.returns-clause-answers
 returns-clause-answers g c =
     let full : c.loop.counter ≡ 2 ^ 64 - 1 = omega arith in
-    ended_endless _ c.loop.counter _ _ c.args.streams.now.input c.args.streams.now.output c.loop.ahead c.args.streams.now.exchanges c.loop.streams
-    c.loop.invariant.so_far full
+    ended_endless _ _ _ _ _ _ _ _ c.loop.streams c.loop.invariant.so_far full
 
 pub returns-in-Some-clause-not_passed : goal.returns-in-Some-clause-not_passed
 returns-in-Some-clause-not_passed g c = λ before.

@@ -8,9 +8,7 @@ use Rattle.docker_desk.proofs.WitnessLemmas.{files_told, sent_text}
 use Rattle.docker_desk.proofs.witness.files_of_none.Goals as goal
 
 pub returns : goal.returns
-returns c =
-    files_told c.bytes-bytes.result.now _ _ _ c.serve-status.result c.into_parts-output.result.1.taken c.serve-status.ensures c.host.view_is
-    (sent_text c.bytes-bytes.result.now c.in_ok-text.text.taken c.send.new.sink.taken c.new-office.result c.in_ok-text.ensures.empty
+returns c = files_told _ _ _ _ _ _ c.serve-status.ensures c.host.view_is (sent_text _ _ _ _ c.in_ok-text.ensures.empty
     c.in-Ok.ensures.whole c.new-office.ensures.empty c.bytes-bytes.ensures.bytes)
     (search (rules, tests)) (subst IsValid c.new-office.ensures.empty c.state-state.ensures.valid)
     (ap (λ (it : ShelfView). it.events) c.folder.view_is ∙ c.in_ok-put.ensures.placed

@@ -20,8 +20,8 @@ none_left bytes at end order within none =
 pub returns : goal.returns
 returns c =
     let bytes = c.self.inside.bytes in (
-      λ same. sym c.self.view_is ∙ at_end bytes c.self.inside.at c.self.inside.end c.self.invariant.1 (search (rules, tests)),
+      λ same. sym c.self.view_is ∙ at_end _ _ _ c.self.invariant.1 (search (rules, tests)),
       λ none.
           let same : c.self.inside.at ≡ c.self.inside.end =
-          none_left bytes c.self.inside.at c.self.inside.end c.self.invariant.0 c.self.invariant.1 (c.self.view_is ∙ none) in search (rules, tests),
+          none_left _ _ _ c.self.invariant.0 c.self.invariant.1 (c.self.view_is ∙ none) in search (rules, tests),
     )

@@ -4,6 +4,5 @@ use Rattle.docker_desk.proofs.MatchLemmas.{goes_on_as}
 use Rattle.docker_desk.proofs.matching.MatchingSink.write.Goals as goal
 
 pub returns-then-n-gt0-clause-moved : goal.returns-then-n-gt0-clause-moved
-returns-then-n-gt0-clause-moved g c =
-    goes_on_as c.self.inside.text.now c.args.piece.now c.args.self.now.taken c.self.inside.other c.self.inside.at c.matching_front-n.result
+returns-then-n-gt0-clause-moved g c = goes_on_as _ _ _ _ _ _
     (sym c.is_some.ensures ∙ c.if-is_some.false) (ap (λ (it : MatchView). it.taken) c.self.view_is) c.matching_front-n.ensures.same
