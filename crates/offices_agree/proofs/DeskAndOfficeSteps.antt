@@ -1,6 +1,6 @@
 -- The commands before and after the session of the desk, and what the desk and the office print.
-use Rattle.std.proofs.Common.{◌≡◌, ℕ, List, [], ◌∷◌, ◌++◌, Some, refl, sym, ◌∙◌, ap, subst, arith, codes}
-use Rattle.std.specs.Prelude.{Option, decimal}
+use Rattle.std.proofs.Common.{◌≡◌, ℕ, List, [], ◌∷◌, ◌++◌, Some, refl, sym, ◌∙◌, ap, subst, arith, codes, rules}
+use Rattle.std.specs.Prelude.{decimal}
 use Rattle.std.proofs.lemmas.Fmt.{decimal_digit, decimal-digits_of}
 use Rattle.docker_model.specs.state.StateText.{dks_2}
 use Rattle.docker_model.specs.run.Run.{Known, nothing, united}
@@ -24,52 +24,51 @@ pub taken_apart : (a b c d e f : HostView)
     → After (codes "take" ∷ north ∷ full_name ∷ []) c d → After (codes "take" ∷ south ∷ update_name ∷ []) d e
     → After (codes "take" ∷ south ∷ update_name ∷ []) e f → LearnApart a f
 taken_apart a b c d e f to_b to_c to_d to_e to_f full update first then = record {
-  north = keeps (λ (x : Bytes). HoldsKnown dks_2 x known_d) e f south north known_f gains_f refl
-      (keeps (λ (x : Bytes). HoldsKnown dks_2 x known_d) d e south north known_e gains_e refl (holds_own c d north known_d gains_d refl));
-  south = holds_own e f south known_f gains_f refl;
+  north = keeps (λ (x : Bytes). HoldsKnown dks_2 x known_d) _ f _ north _ gains_f refl
+      (keeps (λ (x : Bytes). HoldsKnown dks_2 x known_d) _ e _ north _ gains_e refl (holds_own c _ north _ gains_d refl));
+  south = holds_own e _ south _ gains_f refl;
   unprinted = gains_f.unprinted ∙ gains_e.unprinted ∙ gains_d.unprinted ∙ gains_c.unprinted ∙ gains_b.unprinted;
 }
   where
     gains_b : IsGained a b north nothing
-    gains_b = new_leaves north a b to_b.0
+    gains_b = new_leaves north _ b to_b.0
 
     gains_c : IsGained b c south nothing
-    gains_c = new_leaves south b c to_c.0
+    gains_c = new_leaves _ b _ to_c.0
 
     has_c : HasBoth c full update
-    has_c =
-        still_both b c south nothing full update gains_c refl refl
-        (still_both a b north nothing full update gains_b refl refl (record { first = first; second = then }))
+    has_c = still_both b _ south _ full _ gains_c refl refl
+        (still_both a _ north _ full _ gains_b refl refl (record { first = first; second = then }))
 
     north_c : HoldsKnown dks_2 (text_under c.history north) nothing
-    north_c = keeps (λ (x : Bytes). HoldsKnown dks_2 x nothing) b c south north nothing gains_c refl (holds_own a b north nothing gains_b refl)
+    north_c = keeps (λ (x : Bytes). HoldsKnown dks_2 x nothing) _ c _ north _ gains_c refl (holds_own a _ north _ gains_b refl)
 
     known_d : Known
     known_d = united nothing (of_file full)
 
     gains_d : IsGained c d north known_d
-    gains_d = take_leaves north full_name full nothing c d refl to_d.1 north_c has_c.first to_d.0
+    gains_d = take_leaves north _ full _ c _ refl to_d.1 north_c has_c.first to_d.0
 
     has_d : HasBoth d full update
-    has_d = still_both c d north known_d full update gains_d refl refl has_c
+    has_d = still_both c _ north _ full _ gains_d refl refl has_c
 
     south_d : HoldsKnown dks_2 (text_under d.history south) nothing
-    south_d = keeps (λ (x : Bytes). HoldsKnown dks_2 x nothing) c d north south known_d gains_d refl (holds_own b c south nothing gains_c refl)
+    south_d = keeps (λ (x : Bytes). HoldsKnown dks_2 x nothing) _ d _ south _ gains_d refl (holds_own b _ south _ gains_c refl)
 
     known_e : Known
     known_e = united nothing (of_file update)
 
     gains_e : IsGained d e south known_e
-    gains_e = take_leaves south update_name update nothing d e refl to_e.1 south_d has_d.second to_e.0
+    gains_e = take_leaves south _ update _ d _ refl to_e.1 south_d has_d.second to_e.0
 
     has_e : HasBoth e full update
-    has_e = still_both d e south known_e full update gains_e refl refl has_d
+    has_e = still_both d _ south _ full _ gains_e refl refl has_d
 
     known_f : Known
     known_f = united known_e (of_file update)
 
     gains_f : IsGained e f south known_f
-    gains_f = take_leaves south update_name update known_e e f refl to_f.1 (holds_own d e south known_e gains_e refl) has_e.second to_f.0
+    gains_f = take_leaves south _ update _ e _ refl to_f.1 (holds_own d _ south _ gains_e refl) has_e.second to_f.0
 
 -- after the last commands `south` has printed the docker of what `north` knew
 pub shown_south : (a b c d : HostView) → After (codes "new" ∷ south ∷ []) a b → After (codes "merge" ∷ south ∷ north ∷ []) b c
@@ -81,18 +80,17 @@ shown_south a b c d to_b to_c to_d known holds = record {
 }
   where
     gains_b : IsGained a b south nothing
-    gains_b = new_leaves south a b to_b.0
+    gains_b = new_leaves _ a _ to_b.0
 
     north_b : HoldsKnown dks_2 (text_under b.history north) known
-    north_b = keeps (λ (x : Bytes). HoldsKnown dks_2 x known) a b south north nothing gains_b refl holds
+    north_b = keeps (λ (x : Bytes). HoldsKnown dks_2 x known) _ b _ north _ gains_b refl holds
 
     gains_c : IsGained b c south (united nothing known)
-    gains_c = merge_leaves south north nothing known b c refl to_c.1 (holds_own a b south nothing gains_b refl) north_b to_c.0
+    gains_c = merge_leaves south _ nothing _ b _ refl to_c.1 (holds_own a _ south _ gains_b refl) north_b to_c.0
 
     printed : IsPrinted c d (united nothing known) place 23537
-    printed =
-        print_shows south place (codes "2024-06-10") 23537 (united nothing known) c d refl refl date_is to_d.1
-        (holds_own b c south (united nothing known) gains_c refl) to_d.0
+    printed = print_shows south _ (codes "2024-06-10") _ (united nothing known) _ d refl refl date_is to_d.1
+        (holds_own _ c _ (united nothing known) gains_c refl) to_d.0
 
 -- ---- what both print
 
@@ -131,8 +129,7 @@ both_agree a b c d x y answers full update learn same serves also empty kept sho
     known_south = united (united nothing (of_file update_file)) (of_file update_file)
 
     served : IsServedNorth y answers known_north known_south
-    served = serves known_north known_south
-        (subst (λ (h : List Event). HoldsKnown dks_2 (text_under h north) known_north) (sym same) knows.north)
+    served = serves known_north known_south (subst (λ (h : List Event). HoldsKnown dks_2 (text_under h north) known_north) (sym same) knows.north)
         (subst (λ (h : List Event). HoldsKnown dks_2 (text_under h south) known_south) (sym same) knows.south)
 
     shown : IsShownSouth c d (united known_north known_south)
@@ -140,22 +137,13 @@ both_agree a b c d x y answers full update learn same serves also empty kept sho
         (subst (λ (h : List Event). HoldsKnown dks_2 (text_under h north) (united known_north known_south)) (sym also) served.north)
 
     desk_is : served.docker ≡ the_docker
-    desk_is = docker_of_both (united known_north known_south) served.docker (same_files full_file update_file) served.is
+    desk_is = docker_of_both _ _ (same_files _ _) served.is
 
     south_is : shown.docker ≡ the_docker
-    south_is = docker_of_both (united nothing (united known_north known_south)) shown.docker (same_files full_file update_file) shown.is
+    south_is = docker_of_both _ _ (same_files _ _) shown.is
 
 -- the sinks have taken what was printed
 pub sinks_have : (desk south : List ℕ) (output : Bytes) → Some south ≡ output
     → (desk ≡ codes "0 0 0\n" ++ codes "0 0 0\n" ++ codes "0 4 228\n" ++ the_docker) × (output ≡ Some the_docker)
     → (desk ≡ codes "0 0 0\n" ++ codes "0 0 0\n" ++ codes "0 4 228\n" ++ south) × (south ≡ the_docker)
-sinks_have desk south output is both = (
-  both.0 ∙ ap (λ (t : List ℕ). codes "0 0 0\n" ++ codes "0 0 0\n" ++ codes "0 4 228\n" ++ t) (sym south_is),
-  south_is,
-)
-  where
-    unsome : (one two : List ℕ) → ◌≡◌ {A = Option (List ℕ)} (Some one) (Some two) → one ≡ two
-    unsome one two equal = cc
-
-    south_is : south ≡ the_docker
-    south_is = unsome south the_docker (is ∙ both.1)
+sinks_have = search (rules, both, codes, south, the_docker)

@@ -1,7 +1,7 @@
 -- What a session of the desk on `north` leaves in its folder, and what it answers.
-use Rattle.std.proofs.Common.{◌≡◌, ℕ, ◌+◌, ◌<◌, Bool, true, false, List, [], ◌∷◌, ◌++◌, length, refl, sym, ◌∙◌, ap, subst, arith, append-nil}
-use Rattle.std.proofs.Common.{Some, None, Ok, Err, inl, inr, codes}
-use Rattle.std.specs.Prelude.{Option, Result, ⊤, decimal, slice_index}
+use Rattle.std.proofs.Common.{◌≡◌, ℕ, ◌+◌, ◌<◌, Bool, true, List, [], ◌∷◌, ◌++◌, refl, sym, ◌∙◌, ap, subst, arith, append-nil}
+use Rattle.std.proofs.Common.{Some, None, codes, rules}
+use Rattle.std.specs.Prelude.{Option, slice_index}
 use Rattle.std.proofs.lemmas.Fmt.{decimal_digit}
 use Rattle.std.proofs.lemmas.List.Sums.{AllPass-from_list_all}
 use Rattle.docker_model.specs.records.Record.{is_printable}
@@ -15,29 +15,28 @@ use Rattle.docker_host.specs.SessionHost.{SessionHostView}
 use Rattle.docker_host.specs.Shelf.{IsShelfHistory, ShelfView, no_texts, text_under}
 use Rattle.docker_bytes.specs.SourceRead.{JoinsState}
 use Rattle.docker_office.specs.declared.fault.OfficeFault.{OfficeFault}
-use Rattle.docker_office.specs.declared.fault.OfficeFault.TheVariants as office
 use Rattle.docker_cmd.specs.FaultLine.{IsCounted, status_of}
 use Rattle.docker_cmd.specs.Prepared.{most_bytes}
 use Rattle.docker_cmd.specs.declared.fault.Fault.TheVariants.{Office}
 use Rattle.docker_program.specs.Commands.{HoldsKnown, PrintsKnown}
 use Rattle.docker_program.proofs.CommandLemmas.{IsKnown, known_held, known_joined, known_text}
-use Rattle.docker_desk.specs.Answers.{answer_text, line_count}
+use Rattle.docker_desk.specs.Answers.{answer_text}
 use Rattle.docker_desk.specs.Lines.{AreLines, LineView, whole_line}
-use Rattle.docker_desk.specs.Requests.{IsRequestOf, RequestView, show_request, merge_request, save_request}
+use Rattle.docker_desk.specs.Requests.{IsRequestOf, RequestView, show_request}
 use Rattle.docker_desk.specs.declared.query.DockerKind.TheVariants as kind
 use Rattle.docker_desk.specs.declared.query.Query.{Query}
 use Rattle.docker_desk.specs.declared.query.Query.TheVariants as query
 use Rattle.docker_desk.specs.declared.requests.Verb.TheVariants as verb
-use Rattle.docker_desk.specs.Desk.{DeskView, EndsReceiving, EndsSaving, IsShown}
+use Rattle.docker_desk.specs.Desk.{EndsReceiving, IsShown}
 use Rattle.docker_desk.proofs.RequestLemmas.{with_verb}
-use Rattle.docker_desk.specs.Reading.{Reading, StopsInState, opening_of}
-use Rattle.docker_desk.specs.Replies.{AnswerView, answer_body, answer_bytes, answer_status, done_with, no_request, refused_for}
+use Rattle.docker_desk.specs.Reading.{StopsInState}
+use Rattle.docker_desk.specs.Replies.{AnswerView, answer_bytes, answer_status, done_with}
 use Rattle.docker_desk.specs.SessionViews.{SessionView, Setting, Step, setting}
-use Rattle.docker_desk.specs.Doing.{AreSteps, AsksOf, DoesAsked, DoesRequest, IsStep, Joins, Saves, answer_of, desk_by}
+use Rattle.docker_desk.specs.Doing.{AreSteps, AsksOf, DoesAsked, DoesRequest, IsStep, Joins, Saves}
 use Rattle.docker_desk.specs.Answering.{EndsSession, answers_text, lines_of}
 use Rattle.docker_desk.specs.Serving.{BeginsAt, IsServed, Serves, ending_status, session_words}
 use Rattle.docker_desk.specs.declared.ending.Ending.{Ending}
-use Rattle.docker_desk.specs.declared.ending.Ending.TheVariants.{Ended, InputFailed, InputEndless, OutputFailed}
+use Rattle.docker_desk.specs.declared.ending.Ending.TheVariants.{Ended}
 use Rattle.offices_agree.specs.DeskAndOffice.{AreDone, IsServedNorth}
 use Rattle.offices_agree.proofs.TwoOfficesFiles.{place}
 use Rattle.offices_agree.proofs.TwoOfficesSteps.{after_append, date_is, met_behind, met_front, north, one_place, south}
@@ -89,32 +88,18 @@ docker_query there day = query.Docker kind.Ordinary there day
 
 -- the first byte of an answer is the digit of its status
 first_digit : (status : ℕ) (text more : List ℕ) → status < 10 → slice_index (answer_text status text ++ more) 0 ≡ 48 + status
-first_digit status text more small =
-    ap (λ (digits : List ℕ). slice_index (digits ++ codes " " ++ decimal (line_count text) ++ codes " " ++ decimal (length text)
-    ++ codes "\n" ++ text ++ more) 0) (decimal_digit status small)
+first_digit = search (rules, codes, decimal_digit)
 
 -- the status of a fault is a digit other than 0
 fault_status : (fault : OfficeFault) → (0 < status_of (Office fault)) × (status_of (Office fault) < 10)
-fault_status (office.File fault) = (omega arith, omega arith)
-fault_status (office.State fault) = (omega arith, omega arith)
-fault_status office.Lapsed = (omega arith, omega arith)
-fault_status office.Source = (omega arith, omega arith)
-fault_status office.Sink = (omega arith, omega arith)
-fault_status office.Memory = (omega arith, omega arith)
+fault_status = search rules
 
 -- if an answer begins with the digit 0, its request succeeded
 abbrev IsDone : AnswerView → Type 0
 IsDone answer = (text : List ℕ) × (answer ≡ done_with text)
 
 done_by : (answer : AnswerView) (more : List ℕ) → slice_index (answer_bytes answer ++ more) 0 ≡ 48 → IsDone answer
-done_by (done_with text) more first = (text, refl)
-done_by (refused_for fault) more first =
-    let few = fault_status fault in
-    let digit = first_digit (status_of (Office fault)) (answer_body (refused_for fault)) more few.1 in
-    let never : ⊥ = omega (arith, first, digit, few.0) in
-    absurd never
-done_by no_request more first =
-    let digit = first_digit 2 (answer_body no_request) more (omega arith) in let never : ⊥ = omega (arith, first, digit) in absurd never
+done_by = search (rules, fault_status, first_digit)
 
 -- an answer with status 0 and no text
 empty_told : answer_bytes (done_with []) ≡ codes "0 0 0\n"
@@ -131,14 +116,7 @@ pub record IsMerged (other : Text) (before after : SessionView) : Type 0 where
 
 merged : (other : Text) (text : List ℕ) (before after : SessionView) → Joins other StopsInState EndsReceiving before (done_with text) after
     → (text ≡ []) × IsMerged other before after
-merged other text before after does = by does.result does.opens.read does.told does.opens.asked does.opens.ends
-  where
-    by : (result : Result ⊤ OfficeFault) (read : Option Reading) → done_with text ≡ answer_of result
-        → after.history ≡ before.history ++ opening_of other read
-        → EndsReceiving before.desk.state after.desk.state result read → (text ≡ []) × IsMerged other before after
-    by (Ok done) (Some read) told asked ends = (cc, record { held = read.held; left = read.left; history = asked; joins = ends })
-    by (Ok done) None told asked ends = absurd ends
-    by (Err fault) read told asked ends = let never : ⊥ = cc in absurd never
+merged = search rules
 
 -- `save` replaced the state's file with the text of the desk's state
 pub record IsStoredSo (name : Text) (before after : SessionView) : Type 0 where
@@ -148,13 +126,7 @@ pub record IsStoredSo (name : Text) (before after : SessionView) : Type 0 where
 
 stored_so : (name : Text) (text : List ℕ) (before after : SessionView) → Saves (setting name true true) before (done_with text) after
     → (text ≡ []) × IsStoredSo name before after
-stored_so name text before after does = by does.result does.told does.stores does.desk
-  where
-    by : (result : Result ⊤ OfficeFault) → done_with text ≡ answer_of result
-        → EndsSaving true name before.look (state_text dks_2 before.desk.state) before.history after.history result
-        → after.desk ≡ desk_by result before.desk → (text ≡ []) × IsStoredSo name before after
-    by (Ok done) told stores same = (cc, record { history = stores; state = ap (λ (desk : DeskView). desk.state) same })
-    by (Err fault) told stores same = let never : ⊥ = cc in absurd never
+stored_so = search rules
 
 -- a step whose request succeeded made the request of its line
 asked_done : (its : Setting) (line text : List ℕ) (request : Option RequestView) (before after : SessionView)
@@ -165,11 +137,7 @@ asked_done its line text None before after asks does = let told = does.0 in let 
 
 module _ (its : Setting) (text : List ℕ) (request : Option RequestView) (before after : SessionView) where
   merge_done : AsksOf true (whole_line merge_line) request → DoesAsked its request before (done_with text) after → (text ≡ []) × IsMerged south before after
-  merge_done asks does =
-      let asked = asked_done its merge_line text request before after asks does in
-      let merge = with_verb true merge_line verb.Merge asked.0 refl asked.1.0 in
-      let same : asked.0 ≡ merge_request south = merge.1.1 ∙ ap merge_request merge.1.0.same in
-      merged south text before after (subst (λ (r : RequestView). DoesRequest its r before (done_with text) after) same asked.1.1)
+  merge_done = search (rules, asked_done, with_verb, south, merged)
 
   print_done : AsksOf true (whole_line print_line) request → DoesAsked its request before (done_with text) after
       → IsShown before.desk.state (docker_query place 23537) (done_with text) × (after ≡ before)
@@ -184,10 +152,7 @@ module _ (its : Setting) (text : List ℕ) (request : Option RequestView) (befor
 
 save_done : (name text : List ℕ) (request : Option RequestView) (before after : SessionView) → AsksOf true (whole_line save_line) request
     → DoesAsked (setting name true true) request before (done_with text) after → (text ≡ []) × IsStoredSo name before after
-save_done name text request before after asks does =
-    let asked = asked_done (setting name true true) save_line text request before after asks does in
-    let same : asked.0 ≡ save_request = (with_verb true save_line verb.Save asked.0 refl asked.1.0).1 in
-    stored_so name text before after (subst (λ (r : RequestView). DoesRequest (setting name true true) r before (done_with text) after) same asked.1.1)
+save_done = search (rules, asked_done, with_verb, stored_so)
 
 -- a day that isn't refused under the state's horizon isn't refused under the known horizon
 not_refused : (known : Known) (state : State) (day : ℕ) → IsKnown known state → ¬ IsDayRefused state.horizon day → ¬ IsDayRefused known.horizon day
@@ -208,9 +173,7 @@ module _ (old : List Event) (first one two three : SessionView) (begins : Begins
   storing = drafted north one.look ∷ placed north (Some (state_text dks_2 one.desk.state)) ∷ looked north ∷ []
 
   history_is : three.history ≡ old ++ opening ++ merging ++ storing
-  history_is =
-      ap (λ (m : SessionView). m.history) same ∙ saves.history
-      ∙ ap (λ (h : List Event). h ++ storing) (merges.history ∙ ap (λ (h : List Event). h ++ merging) begins.asked)
+  history_is = cc
 
   all_met : IsShelfHistory (old ++ opening ++ merging ++ storing)
   all_met = subst IsShelfHistory history_is met
@@ -222,52 +185,30 @@ module _ (old : List Event) (first one two three : SessionView) (begins : Begins
   held_is = (met_behind no_texts old opening (met_front no_texts (old ++ opening) merging two_met)).1.0.0
 
   other_is : merges.held ≡ text_under old south
-  other_is =
-      (met_behind no_texts (old ++ opening) merging two_met).0.0
-      ∙ ap (λ (texts : Text → Option Text). texts south) (after_append no_texts old opening)
+  other_is = search (rules, met_behind, two_met, south, after_append)
 
   text_is : text_under three.history north ≡ Some (state_text dks_2 one.desk.state)
-  text_is =
-      ap (λ (h : List Event). text_under h north) history_is
-      ∙ ap (λ (texts : Text → Option Text). texts north) (after_append no_texts (old ++ opening ++ merging) storing)
+  text_is = search (rules, north, history_is, after_append)
 
   module _ (known heard : Known) (holds : HoldsKnown dks_2 (text_under old north) known) (also : HoldsKnown dks_2 (text_under old south) heard) where
     knows : IsKnown (united known heard) one.desk.state
-    knows =
-        known_joined known heard first.desk.state merges.joins.received one.desk.state
-        (known_held known begins.held first.desk.state (subst (λ (b : Bytes). HoldsKnown dks_2 b known) (sym held_is) holds) begins.state)
-        (known_held heard merges.held merges.joins.received (subst (λ (b : Bytes). HoldsKnown dks_2 b heard) (sym other_is) also) merges.joins.read)
-        merges.joins.join
+    knows = search (rules, known_joined, known_held, held_is, other_is)
 
     pub holds_all : HoldsKnown dks_2 (text_under three.history north) (united known heard)
     holds_all = (state_text dks_2 one.desk.state, text_is, known_text (united known heard) one.desk.state (state_text dks_2 one.desk.state) knows refl)
 
     pub prints_all : (text : List ℕ) → IsShown two.desk.state (docker_query place 23537) (done_with text) → PrintsKnown (united known heard) place 23537 text
-    prints_all text is =
-        let told = subst (λ (s : State). IsShown s (docker_query place 23537) (done_with text)) saves.state is in
-        record {
-          good = knows.good;
-          allowed = not_refused (united known heard) one.desk.state 23537 knows told.1;
-          state = one.desk.state;
-          is = knows.is;
-          docker = told.0;
-        }
-
--- ---- the whole session
+    prints_all = search (rules, place, knows, not_refused)
 
 abbrev pub desk_words : List Text
 desk_words = codes "--write" ∷ north ∷ []
 
 -- the session's name and its right to write
 named_so : (name : Text) (may_write : Bool) → desk_words ≡ session_words name may_write → (name ≡ north) × (may_write ≡ true)
-named_so name true same = (cc, refl)
-named_so name false same = let never : ⊥ = cc in absurd never
+named_so = search rules
 
 ended_well : (ending : Ending) (unsaved : Bool) → ending_status ending unsaved ≡ 0 → ending ≡ Ended
-ended_well Ended unsaved none = refl
-ended_well InputFailed unsaved none = let never : ⊥ = omega (arith, none) in absurd never
-ended_well InputEndless unsaved none = let never : ⊥ = omega (arith, none) in absurd never
-ended_well OutputFailed unsaved none = let never : ⊥ = omega (arith, none) in absurd never
+ended_well = search rules
 
 -- a folder didn't fail in a step whose request succeeded
 counted_none : (text : List ℕ) (before after : ℕ) → IsCounted (answer_status (done_with text)) before after → after ≡ before
@@ -289,14 +230,7 @@ done_step : (its : Setting) (line : List ℕ) (step : Step) → step.line ≡ wh
     → (text : List ℕ) → step.answer ≡ done_with text
     → AsksOf its.may_write (whole_line line) step.request × (DoesAsked its step.request step.before (done_with text) step.after
     × (step.after.failures ≡ step.before.failures))
-done_step its line step is_line is text done = (
-  subst (λ (l : LineView). AsksOf its.may_write l step.request) is_line is.asks,
-  (
-    subst (λ (a : AnswerView). DoesAsked its step.request step.before a step.after) done is.does,
-    counted_none text step.before.failures step.after.failures
-        (subst (λ (a : AnswerView). IsCounted (answer_status a) step.before.failures step.after.failures) done is.counted),
-  ),
-)
+done_step = search (rules, counted_none)
 
 -- the first answer of a text, and the text after it
 module _ (taken : List ℕ) (a b c : AnswerView) (whole : taken ≡ answer_bytes a ++ (answer_bytes b ++ (answer_bytes c ++ []))) (done : AreDone taken) where
@@ -304,24 +238,20 @@ module _ (taken : List ℕ) (a b c : AnswerView) (whole : taken ≡ answer_bytes
   first_done = done_by a (answer_bytes b ++ (answer_bytes c ++ [])) (ap (λ (t : List ℕ). slice_index t 0) (sym whole) ∙ done.0)
 
   after_one : a ≡ done_with [] → taken ≡ codes "0 0 0\n" ++ (answer_bytes b ++ (answer_bytes c ++ []))
-  after_one same = whole ∙ ap (λ (it : AnswerView). answer_bytes it ++ (answer_bytes b ++ (answer_bytes c ++ []))) same
-      ∙ ap (λ (t : List ℕ). t ++ (answer_bytes b ++ (answer_bytes c ++ []))) empty_told
+  after_one = search (rules, empty_told)
 
   second_done : a ≡ done_with [] → IsDone b
   second_done same = done_by b (answer_bytes c ++ []) (ap (λ (t : List ℕ). slice_index t 6) (sym (after_one same)) ∙ done.1)
 
   after_two : a ≡ done_with [] → b ≡ done_with [] → taken ≡ codes "0 0 0\n" ++ (codes "0 0 0\n" ++ (answer_bytes c ++ []))
-  after_two same also = after_one same ∙ ap (λ (it : AnswerView). codes "0 0 0\n" ++ (answer_bytes it ++ (answer_bytes c ++ []))) also
-      ∙ ap (λ (t : List ℕ). codes "0 0 0\n" ++ (t ++ (answer_bytes c ++ []))) empty_told
+  after_two = search (rules, after_one, codes, empty_told)
 
   third_done : a ≡ done_with [] → b ≡ done_with [] → IsDone c
   third_done same also = done_by c [] (ap (λ (t : List ℕ). slice_index t 12) (sym (after_two same also)) ∙ done.2)
 
   after_three : (docker : List ℕ) → a ≡ done_with [] → b ≡ done_with [] → c ≡ done_with docker
       → taken ≡ codes "0 0 0\n" ++ codes "0 0 0\n" ++ answer_text 0 docker
-  after_three docker same also then =
-      after_two same also ∙ ap (λ (it : AnswerView). codes "0 0 0\n" ++ (codes "0 0 0\n" ++ (answer_bytes it ++ []))) then
-      ∙ ap (λ (t : List ℕ). codes "0 0 0\n" ++ (codes "0 0 0\n" ++ t)) (append-nil (answer_text 0 docker))
+  after_three = search (rules, after_two, codes, append-nil)
 
 abbrev the_setting : Setting
 the_setting = setting north true true
@@ -396,9 +326,8 @@ module _ (first last : SessionView) (x y z : Step) (taken : List ℕ) (lines : l
     docker = z_done.0;
     prints = subst (λ (m : SessionView). IsShown m.desk.state (docker_query place 23537) (done_with z_done.0)) z_from z_prints.0;
     same = last_is ∙ z_prints.1 ∙ z_from;
-    told = after_three taken x.answer y.answer z.answer whole done z_done.0 x_is y_is z_done.1;
-    sound =
-        ap (λ (m : SessionView). m.failures) last_is ∙ z_does.1.1 ∙ ap (λ (m : SessionView). m.failures) z_from
+    told = after_three _ x.answer y.answer z.answer whole done z_done.0 x_is y_is z_done.1;
+    sound = ap (λ (m : SessionView). m.failures) last_is ∙ z_does.1.1 ∙ ap (λ (m : SessionView). m.failures) z_from
         ∙ y_does.1.1 ∙ ap (λ (m : SessionView). m.failures) y_from ∙ x_does.1.1 ∙ ap (λ (m : SessionView). m.failures) x_from;
   }
 
@@ -414,14 +343,7 @@ all_steps first last (x ∷ y ∷ z ∷ w ∷ steps) taken lines are whole done 
 
 -- a session ended with status 0, so the desk has answered its input
 pub was_served : (old new : SessionHostView) (status : ℕ) → status ≡ 0 → Serves desk_words true old new status → IsServed desk_words true old new 0
-was_served old new status none (inl asked) = let same = asked.words_are in let never : ⊥ = cc in absurd never
-was_served old new status none (inr (unasked, inl misused)) = let two = misused.status_is in absurd (omega (arith, none, two))
-was_served old new status none (inr (unasked, inr (inl refused))) =
-    let some = fault_status refused.fault in
-    let is = refused.status_is in
-    let never : ⊥ = omega (arith, none, is, some.0) in
-    absurd never
-was_served old new status none (inr (unasked, inr (inr served))) = subst (λ (s : ℕ). IsServed desk_words true old new s) none served
+was_served = search (rules, fault_status)
 
 some_text : (one two : List ℕ) → ◌≡◌ {A = Option (List ℕ)} (Some one) (Some two) → one ≡ two
 some_text one two equal = cc
@@ -439,22 +361,14 @@ module _ (old new : SessionHostView) (taken : List ℕ) (input : old.streams.inp
   ended = ended_well served.ending _ (sym served.ends.status_is)
 
   ends_so : EndsSession Ended (Some session_input) served.answers.steps (Some []) (Some taken)
-  ends_so =
-      subst (λ (b : Bytes). EndsSession Ended (Some session_input) served.answers.steps (Some []) b) told
-      (subst (λ (b : Bytes). EndsSession Ended (Some session_input) served.answers.steps b new.streams.output) output
-      (subst (λ (b : Bytes). EndsSession Ended b served.answers.steps old.streams.output new.streams.output) input
-      (subst (λ (e : Ending). EndsSession e old.streams.input served.answers.steps old.streams.output new.streams.output) ended served.answers.ends)))
+  ends_so = search (rules, ended)
 
   steps_are : AreSteps the_setting served.first served.answers.steps served.last
-  steps_are =
-      subst (λ (n : Text). AreSteps (setting n true true) served.first served.answers.steps served.last) named.0
-      (subst (λ (w : Bool). AreSteps (setting served.name w true) served.first served.answers.steps served.last) named.1 served.answers.are)
+  steps_are = search (rules, named)
 
   three : AreThree served.first served.last taken
-  three =
-      all_steps served.first served.last served.answers.steps taken
-      (one_reading session_input (lines_of served.answers.steps) three_lines ends_so.0 lines_are) steps_are
-      (some_text taken (answers_text served.answers.steps) ends_so.1) done
+  three = all_steps _ _ _ _ (one_reading session_input (lines_of served.answers.steps) three_lines ends_so.0 lines_are) steps_are
+      (some_text _ _ ends_so.1) done
 
   -- no call of the folder failed
   pub session_sound : new.folder_failures ≡ old.folder_failures

@@ -1,10 +1,10 @@
 -- The docker of the worked example: what the two files print for ASHFELD on 10 June 2024.
-use Rattle.std.proofs.Common.{◌≡◌, ℕ, zero, suc, ◌+◌, List, [], ◌∷◌, length, refl, inl, inr, Some, None, lit<}
-use Rattle.std.proofs.Common.{◌<◌, arith, ap, sym, ◌∙◌, subst, Contains, get_or, Bool, true, false, ◌⊎◌, ◌++◌, fold, cond}
-use Rattle.std.specs.Prelude.{codes, Option, slice_index}
+use Rattle.std.proofs.Common.{◌≡◌, ℕ, List, [], ◌∷◌, refl, inl, inr, Some, None, lit<, rules}
+use Rattle.std.proofs.Common.{arith, ap, sym, ◌∙◌, subst, Contains, Bool, true, false, ◌⊎◌, ◌++◌, fold, cond}
+use Rattle.std.specs.Prelude.{codes, Option}
 use Rattle.std.specs.Ordering.{is_eq}
 use Rattle.std.specs.declared.cmp.Ordering.{Ordering}
-use Rattle.std.specs.declared.cmp.Ordering.TheVariants.{Less, Equal, Greater}
+use Rattle.std.specs.declared.cmp.Ordering.TheVariants.{Equal, Greater}
 use Rattle.jiff_core.specs.Calendar.{days_from_civil, day_count, days_of_years, days_of_months}
 use Rattle.docker_model.specs.records.Record.{columns}
 use Rattle.docker_model.specs.file.Change.{Key, tiploc_key, schedule_key, association_key, ScheduleKey, Body, schedule_body, association_body}
@@ -12,7 +12,7 @@ use Rattle.docker_model.specs.file.Journey.{arrival, departure}
 use Rattle.docker_model.specs.state.Op.{key_cmp}
 use Rattle.docker_model.specs.state.Stamp.{Moment, moment_of}
 use Rattle.docker_model.specs.state.Summary.{HaveDistinctMoments}
-use Rattle.docker_model.specs.state.Table.{Table, IsPlainTable, after_change, after_files, empty_table}
+use Rattle.docker_model.specs.state.Table.{Table, IsPlainTable, after_files, empty_table}
 use Rattle.docker_model.specs.run.Run.{Files}
 use Rattle.docker_model.specs.run.Knowledge.{HaveSameFiles}
 use Rattle.docker_model.specs.docker.Event.{Event, events_of, event_line, event_day}
@@ -35,21 +35,14 @@ abbrev pub both : Files
 both = full_file ∷ update_file ∷ []
 
 one_of_both : (file : List (List ℕ)) → Contains both file → (full_file ≡ file) ⊎ (update_file ≡ file)
-one_of_both file among = by (Contains-cons full_file (update_file ∷ []) file among)
-  where
-    by : (full_file ≡ file) ⊎ Contains (update_file ∷ []) file → (full_file ≡ file) ⊎ (update_file ≡ file)
-    by (inl same) = inl same
-    by (inr inside) = inr (Contains-single update_file file inside)
+one_of_both = search (rules, full_file, update_file)
 
 day_of_moment : Moment → ℕ
 day_of_moment moment = moment.day
 
 days_differ : moment_of full_file ≡ moment_of update_file → ⊥
 unfolding days_from_civil day_count days_of_years days_of_months day_of_moment
-days_differ same =
-    let days : ◌≡◌ {A = ℕ} 23535 23536 = ap day_of_moment same in
-    let never : ⊥ = omega arith in
-    never
+days_differ = search (rules, day_of_moment)
 
 distinct_by : (first second : List (List ℕ)) → (full_file ≡ first) ⊎ (update_file ≡ first) → (full_file ≡ second) ⊎ (update_file ≡ second)
     → moment_of first ≡ moment_of second → first ≡ second
@@ -94,10 +87,7 @@ listed first second named =
 
 listed_found : (first second named : Bool) → listed first second named ≡ found first second named
 unfolding found
-listed_found true second named = refl
-listed_found false true named = refl
-listed_found false false true = refl
-listed_found false false false = refl
+listed_found = search rules
 
 is_first : Key → Bool
 is_first key = is_eq (key_cmp (schedule_key first_key) key)
@@ -110,19 +100,12 @@ is_place key = is_eq (key_cmp (tiploc_key place) key)
 
 under : (key : Key) → the_table key ≡ found (is_first key) (is_second key) (is_place key)
 unfolding is_first is_second is_place
-under key =
-    (λ i. fold after_change (fold after_change empty_table (changes_of_full i)) (changes_of_update i) key)
-    ∙ listed_found (is_first key) (is_second key) (is_place key)
+under = search (rules, fold, changes_of_full, changes_of_update, listed_found, is_first, is_second, is_place)
 
 equal_by_test : (o : Ordering) → is_eq o ≡ true → o ≡ Equal
-equal_by_test Less h = cc
-equal_by_test Equal h = refl
-equal_by_test Greater h = cc
+equal_by_test = search rules
 
 -- ---- the trains
-
-abbrev Schedules : Type 0
-Schedules = ScheduleKey × List (List ℕ)
 
 schedule_key_of : Key → ScheduleKey
 schedule_key_of (schedule_key key) = key
@@ -155,44 +138,28 @@ IsTrain key lines = ((first_key ≡ key) × (revised_schedule ≡ lines)) ⊎ ((
 
 only_trains : (key : ScheduleKey) (lines : List (List ℕ)) → the_table (schedule_key key) ≡ Some (schedule_body lines) → IsTrain key lines
 unfolding found lines_in
-only_trains key lines live =
-    by (is_first (schedule_key key)) (is_second (schedule_key key)) (is_place (schedule_key key)) refl refl (sym (under (schedule_key key)) ∙ live)
+only_trains key lines live = by (is_first (schedule_key key)) (is_second (schedule_key key)) (is_place (schedule_key key)) refl refl (sym (under _) ∙ live)
   where
     by : (first second named : Bool) → is_first (schedule_key key) ≡ first → is_second (schedule_key key) ≡ second
         → found first second named ≡ Some (schedule_body lines) → IsTrain key lines
-    by true second named one two is = inl (first_same key one, ap lines_in (some_body (schedule_body revised_schedule) (schedule_body lines) is))
-    by false true named one two is = inr (second_same key two, ap lines_in (some_body (schedule_body second_schedule) (schedule_body lines) is))
-    by false false true one two is = absurd (description_no_lines lines (some_body description (schedule_body lines) is))
-    by false false false one two is = absurd (none_some (schedule_body lines) is)
+    by true second named one two is = inl (first_same _ one, ap lines_in (some_body _ _ is))
+    by false true named one two is = inr (second_same _ two, ap lines_in (some_body _ _ is))
+    by false false true one two is = absurd (description_no_lines _ (some_body _ _ is))
+    by false false false one two is = absurd (none_some _ is)
 
 no_association : (key : Key) (line : List ℕ) → the_table key ≡ Some (association_body line) → ⊥
 unfolding found
-no_association key line live = by (is_first key) (is_second key) (is_place key) (sym (under key) ∙ live)
-  where
-    by : (first second named : Bool) → found first second named ≡ Some (association_body line) → ⊥
-    by true second named is = let same : schedule_body revised_schedule ≡ association_body line = some_body _ _ is in cc
-    by false true named is = let same : schedule_body second_schedule ≡ association_body line = some_body _ _ is in cc
-    by false false true is = let same : description ≡ association_body line = some_body _ _ is in cc
-    by false false false is = none_some (association_body line) is
+no_association = search (rules, is_first, is_second, is_place, under, found, revised_schedule, some_body, second_schedule, description, none_some)
 
 -- each train runs on 10 June
 runs_if : (key : ScheduleKey) (lines : List (List ℕ))
     → ((other : ScheduleKey) (others : List (List ℕ)) → IsRunning the_table key.uid 23537 other others → key ≡ other)
     → IsRunning the_table key.uid 23537 key lines → ¬ (schedule_choice_cmp key key ≡ Greater) → ¬ (key.indicator ≡ 67)
     → TrainRuns the_table key.uid 23537 key lines
-runs_if key lines only running level no_cancellation = record {
-  chosen = record {
-    running = running;
-    first = λ other others is greater. level (subst (λ k. schedule_choice_cmp key k ≡ Greater) (sym (only other others is)) greater);
-  };
-  no_cancellation = no_cancellation;
-}
+runs_if = search rules
 
 uids_differ : codes "C10001" ≡ codes "C20002" → ⊥
-uids_differ same =
-    let second : ◌≡◌ {A = ℕ} 49 50 = ap (λ bytes. slice_index bytes 1) same in
-    let never : ⊥ = omega arith in
-    never
+uids_differ = search rules
 
 uid_of : ScheduleKey → List ℕ
 uid_of key = key.uid
@@ -215,15 +182,11 @@ only_second other others running = by (only_trains other others running.is_live)
 
 first_runs : TrainRuns the_table (codes "C10001") 23537 first_key revised_schedule
 unfolding days_from_civil day_count days_of_years days_of_months
-first_runs =
-    runs_if first_key revised_schedule only_first (record { uid_is = refl; is_live = refl; runs_then = refl }) (λ greater. cc)
-    (λ cancelled. omega arith)
+first_runs = grind (arith, runs_if, first_key, revised_schedule, only_first)
 
 second_runs : TrainRuns the_table (codes "C20002") 23537 second_key second_schedule
 unfolding days_from_civil day_count days_of_years days_of_months
-second_runs =
-    runs_if second_key second_schedule only_second (record { uid_is = refl; is_live = refl; runs_then = refl }) (λ greater. cc)
-    (λ cancelled. omega arith)
+second_runs = grind (arith, runs_if, second_key, second_schedule, only_second)
 
 -- ---- the lines of the docker
 
@@ -276,48 +239,23 @@ comes = record {
 }
 
 events_of_first : (event : Event) → Contains (events_of revised_schedule) event → (leaves ≡ event) ⊎ (leaves_off ≡ event)
-events_of_first event among = by among.0 among.1 among.2
-  where
-    by : (k : ℕ) → k < length (events_of revised_schedule) → get_or (events_of revised_schedule) k event ≡ event → (leaves ≡ event) ⊎ (leaves_off ≡ event)
-    by zero below is = inl is
-    by (suc zero) below is = inr is
-    by (suc (suc k)) below is = absurd (omega arith)
+events_of_first = search (rules, revised_schedule)
 
 events_of_second : (event : Event) → Contains (events_of second_schedule) event → (sets_out ≡ event) ⊎ (arrives ≡ event)
-events_of_second event among = by among.0 among.1 among.2
-  where
-    by : (k : ℕ) → k < length (events_of second_schedule) → get_or (events_of second_schedule) k event ≡ event → (sets_out ≡ event) ⊎ (arrives ≡ event)
-    by zero below is = inl is
-    by (suc zero) below is = inr is
-    by (suc (suc k)) below is = absurd (omega arith)
+events_of_second = search (rules, second_schedule)
 
 places_differ : codes "BRAYTON" ≡ codes "ASHFELD" → ⊥
-places_differ same =
-    let first : ◌≡◌ {A = ℕ} 66 65 = ap (λ bytes. slice_index bytes 0) same in
-    let never : ⊥ = omega arith in
-    never
+places_differ = search rules
 
 -- the first train's only event at ASHFELD on 10 June is its departure
 first_there : (start : ℕ) (event : Event) → Contains (events_of revised_schedule) event → columns 3 9 (event_line revised_schedule event) ≡ place
     → event_day start revised_schedule event ≡ 23537 → (leaves ≡ event) × (start ≡ 23537)
-first_there start event among here today = by (events_of_first event among)
-  where
-    by : (leaves ≡ event) ⊎ (leaves_off ≡ event) → (leaves ≡ event) × (start ≡ 23537)
-    by (inl same) =
-        let then : start + 0 ≡ 23537 = subst (λ e. event_day start revised_schedule e ≡ 23537) (sym same) today in
-        (same, omega arith)
-    by (inr same) = absurd (places_differ (subst (λ e. columns 3 9 (event_line revised_schedule e) ≡ place) (sym same) here))
+first_there = search (rules, events_of_first, revised_schedule, places_differ, place)
 
 -- the second train's only event at ASHFELD on 10 June is its arrival
 second_there : (start : ℕ) (event : Event) → Contains (events_of second_schedule) event → columns 3 9 (event_line second_schedule event) ≡ place
     → event_day start second_schedule event ≡ 23537 → (arrives ≡ event) × (start ≡ 23537)
-second_there start event among here today = by (events_of_second event among)
-  where
-    by : (sets_out ≡ event) ⊎ (arrives ≡ event) → (arrives ≡ event) × (start ≡ 23537)
-    by (inl same) = absurd (places_differ (subst (λ e. columns 3 9 (event_line second_schedule e) ≡ place) (sym same) here))
-    by (inr same) =
-        let then : start + 0 ≡ 23537 = subst (λ e. event_day start second_schedule e ≡ 23537) (sym same) today in
-        (same, omega arith)
+second_there = search (rules, events_of_second, places_differ, second_schedule, place)
 
 only_event_lines : (line : DockerLine) → IsEventLine the_table place 23537 line → (arrival_line ≡ line) ⊎ (departure_line ≡ line)
 only_event_lines line made = by (only_trains made.key made.schedule made.train_runs.chosen.running.is_live)
@@ -376,11 +314,9 @@ unfolding days_from_civil day_count days_of_years days_of_months
 the_text = refl
 
 text_of_table : (text : List ℕ) → IsDockerText the_table place 23537 text → text ≡ the_docker
-text_of_table text is =
-    is.2 ∙ ap (docker_text the_table place 23537) (docker_unique _ is.0 the_lines is.1 is_docker) ∙ the_text
+text_of_table text is = is.2 ∙ ap (docker_text the_table place 23537) (docker_unique _ _ _ is.1 is_docker) ∙ the_text
 
 -- the docker of the plain table of the two files
 pub text_of_both : (files : Files) (plain : Table) (text : List ℕ) → HaveSameFiles both files → IsPlainTable files plain
     → IsDockerText plain place 23537 text → text ≡ the_docker
-text_of_both files plain text same is told =
-    text_of_table text (subst (λ (t : Table). IsDockerText t place 23537 text) (plain_is files plain same is) told)
+text_of_both files plain text same is told = text_of_table _ (subst (λ (t : Table). IsDockerText t place 23537 text) (plain_is _ _ same is) told)

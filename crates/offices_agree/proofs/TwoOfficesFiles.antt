@@ -1,5 +1,5 @@
 -- The two files of the worked example are CIF files, and their plain table has a known docker.
-use Rattle.std.proofs.Common.{◌≡◌, ℕ, List, [], ◌∷◌, refl, inl, inr, lit≤, ◌≤◌}
+use Rattle.std.proofs.Common.{◌≡◌, ℕ, List, [], ◌∷◌, refl, inl, inr, lit≤, ◌≤◌, rules}
 use Rattle.std.proofs.Common.{◌++◌}
 use Rattle.std.specs.Prelude.{codes}
 use Rattle.std.proofs.lemmas.List.Elements.{All-from_recursion}
@@ -114,19 +114,13 @@ schedule_of_three basic origin terminus one two three is starts ends good leaves
 }
 
 first_is : IsSchedule first_schedule
-first_is =
-    schedule_of_three first_basic first_origin first_terminus (record_by_test first_basic refl refl) (record_by_test first_origin refl refl)
-    (record_by_test first_terminus refl refl) refl refl refl refl refl refl (lit≤ tt)
+first_is = search (rules, schedule_of_three, record_by_test, lit≤)
 
 second_is : IsSchedule second_schedule
-second_is =
-    schedule_of_three second_basic second_origin second_terminus (record_by_test second_basic refl refl) (record_by_test second_origin refl refl)
-    (record_by_test second_terminus refl refl) refl refl refl refl refl refl (lit≤ tt)
+second_is = search (rules, schedule_of_three, record_by_test, lit≤)
 
 revision_is : IsSchedule revision
-revision_is =
-    schedule_of_three revised_basic revised_origin revised_terminus (record_by_test revised_basic refl refl) (record_by_test revised_origin refl refl)
-    (record_by_test revised_terminus refl refl) refl refl refl refl refl refl (lit≤ tt)
+revision_is = search (rules, schedule_of_three, record_by_test, lit≤)
 
 full_is_file : IsFile full_file
 full_is_file = record {

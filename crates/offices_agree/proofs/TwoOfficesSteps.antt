@@ -1,34 +1,28 @@
 -- What the files of a shelf hold after each command of the two offices.
-use Rattle.std.proofs.Common.{◌≡◌, ◌-◌, ℕ, true, false, List, [], ◌∷◌, ◌++◌, Option, None, Some, length, refl, sym, ◌∙◌, ap}
-use Rattle.std.proofs.Common.{subst, arith, inl, inr, codes, cond, append-nil, ◌⊎◌, Contains}
-use Rattle.std.specs.Prelude.{slice_index}
+use Rattle.std.proofs.Common.{◌≡◌, ℕ, true, false, List, [], ◌∷◌, ◌++◌, Option, None, Some, length, refl, sym, ◌∙◌, ap, rules}
+use Rattle.std.proofs.Common.{subst, inl, inr, codes, cond, append-nil}
 use Rattle.std.specs.Str.{bytes_eq}
 use Rattle.docker_model.specs.records.Date.{date_number}
-use Rattle.docker_model.specs.records.PrintedTime.{spaces}
 use Rattle.docker_model.specs.state.StateText.{dks_2}
 use Rattle.docker_model.specs.run.Run.{Known, nothing, united}
 use Rattle.cif_device.specs.Device.{Takes}
 use Rattle.cif_line.proofs.DateFields.{digits_in, digits_in-day_text}
 use Rattle.docker_host.specs.History.{Bytes, Event, Text, drafted, looked, placed}
-use Rattle.docker_host.specs.Host.{AreFew, HostView}
+use Rattle.docker_host.specs.Host.{HostView}
 use Rattle.docker_host.specs.Shelf.{AreMet, IsShelfHistory, Texts, after_event, after_events, no_texts, text_under, with_text}
-use Rattle.docker_office.specs.declared.fault.OfficeFault.TheVariants as office
-use Rattle.docker_cmd.specs.declared.fault.Fault.{Fault}
-use Rattle.docker_cmd.specs.declared.fault.Fault.TheVariants.{Job, Office}
-use Rattle.docker_cmd.specs.declared.job_fault.JobFault.TheVariants as job
 use Rattle.docker_cmd.specs.Job.{IsJobOf, JobView}
 use Rattle.docker_cmd.specs.Saved.{HoldsFile}
-use Rattle.docker_cmd.specs.Tasks.{TaskView, new_task, check_task, day_task, take_task, merge_task}
-use Rattle.docker_cmd.specs.Tasks.{print_task, files_task, horizon_task, migrate_task, name_of, subcommand_of, AreWordsOf}
+use Rattle.docker_cmd.specs.Tasks.{TaskView, new_task, take_task, merge_task}
+use Rattle.docker_cmd.specs.Tasks.{print_task, name_of, subcommand_of, AreWordsOf}
 use Rattle.docker_cmd.specs.Words.{NamesDay, NamesPlace}
-use Rattle.docker_program.specs.SourceNames.{SourceNames, file_and_input, first_word, names_of, no_source, one_file, standard_input, stored_by, two_files}
+use Rattle.docker_program.specs.SourceNames.{SourceNames, names_of, no_source, one_file, stored_by, two_files}
 use Rattle.docker_program.specs.Sources.{SourcesRead, with_files_read, with_look_at}
-use Rattle.docker_program.specs.Program.{Performs, Tells, ending_status}
+use Rattle.docker_program.specs.Program.{Performs}
 use Rattle.docker_program.specs.Commands.{HoldsKnown, IsDone, IsKnownText, Prints, PrintsKnown, Run, Stores, of_file}
-use Rattle.offices_agree.specs.TwoOffices.{HaveNotFailed, KnowBoth, LearnBoth}
+use Rattle.offices_agree.specs.TwoOffices.{KnowBoth, LearnBoth}
 use Rattle.docker_program.proofs.CommandLemmas.{prints_known, stores_known}
 use Rattle.docker_program.proofs.EndingLemmas.{run_done}
-use Rattle.cif_laws.proofs.lists.Membership.{Contains-cons, Contains-single, cons-Contains, cons-Contains-first}
+use Rattle.cif_laws.proofs.lists.Membership.{cons-Contains, cons-Contains-first}
 use Rattle.jiff_core.specs.Calendar.{days_from_civil, day_count, days_of_years, days_of_months}
 use Rattle.docker_model.specs.run.Knowledge.{HaveSameFiles}
 use Rattle.docker_program.proofs.VersionLemmas.{plain_known_docker}
@@ -36,30 +30,6 @@ use Rattle.offices_agree.proofs.TwoOfficesFiles.{full_file, full_is, full_text, 
 use Rattle.offices_agree.proofs.TwoOfficesDocker.{both, both_distinct, text_of_both, the_docker}
 
 -- ---- no device has failed
-
-pub are_few : (host : HostView) → HaveNotFailed host → AreFew host
-are_few host sound =
-    let devices = sound.devices in
-    let faults = sound.faults in
-    record { input = omega arith; folder = omega arith; output = omega arith; faults = omega arith }
-
-untold : (ending : Option Fault) → ◌≡◌ {A = ℕ} 0 (ending_status ending) → ending ≡ None
-untold None zero = refl
-untold (Some (Job job.Usage)) zero = let never : ⊥ = omega arith in absurd never
-untold (Some (Job job.Memory)) zero = let never : ⊥ = omega arith in absurd never
-untold (Some (Job job.Source)) zero = let never : ⊥ = omega arith in absurd never
-untold (Some (Office (office.File fault))) zero = let never : ⊥ = omega arith in absurd never
-untold (Some (Office (office.State fault))) zero = let never : ⊥ = omega arith in absurd never
-untold (Some (Office office.Lapsed)) zero = let never : ⊥ = omega arith in absurd never
-untold (Some (Office office.Source)) zero = let never : ⊥ = omega arith in absurd never
-untold (Some (Office office.Sink)) zero = let never : ⊥ = omega arith in absurd never
-untold (Some (Office office.Memory)) zero = let never : ⊥ = omega arith in absurd never
-
-pub stay_sound : (words : List Text) (old new : HostView) → HaveNotFailed old → Performs words true old new 0 → HaveNotFailed new
-stay_sound words old new sound performs = record {
-  devices = performs.counted.1 (λ same. omega arith) ∙ sound.devices;
-  faults = (subst (λ (e : Option Fault). Tells e _ _) (untold performs.ending performs.status_is) performs.tells).1 ∙ sound.faults;
-}
 
 -- ---- the texts on a shelf
 
@@ -86,11 +56,7 @@ met_front texts (event ∷ events) more met = (met.0, met_front (after_event tex
 -- reading files changes none of them
 read_keeps : (names : SourceNames) (read : SourcesRead) (history : List Event)
     → after_events no_texts (with_files_read names read history) ≡ after_events no_texts history
-read_keeps no_source read history = refl
-read_keeps standard_input read history = refl
-read_keeps (one_file name) read history = after_append no_texts history _
-read_keeps (file_and_input name) read history = after_append no_texts history _
-read_keeps (two_files name other) read history = after_append no_texts history _
+read_keeps = search (rules, after_append)
 
 -- a look changes no file
 look_keeps : (name : Text) (history : List Event) → after_events no_texts (history ++ looked name ∷ []) ≡ after_events no_texts history
@@ -100,18 +66,13 @@ look_keeps name history = after_append no_texts history (looked name ∷ [])
 stored_texts : (names : SourceNames) (read : SourcesRead) (name : Text) (look : ℕ) (text : List ℕ) (old new : List Event)
     → new ≡ with_files_read names read (old ++ looked name ∷ []) ++ drafted name look ∷ placed name (Some text) ∷ []
     → text_under new ≡ with_text name text (text_under old)
-stored_texts names read name look text old new is =
-    ap (after_events no_texts) is
-    ∙ after_append no_texts (with_files_read names read (old ++ looked name ∷ [])) (drafted name look ∷ placed name (Some text) ∷ [])
-    ∙ ap (with_text name text) (read_keeps names read (old ++ looked name ∷ []) ∙ look_keeps name old)
+stored_texts = search (rules, after_append, read_keeps, look_keeps)
 
 -- two files that were opened held what the shelf held under their names
 two_opened : (name other : Text) (read : SourcesRead) (history more : List Event)
     → AreMet no_texts (with_files_read (two_files name other) read history ++ more)
     → (read.first ≡ text_under history name) × (read.second ≡ text_under history other)
-two_opened name other read history more met =
-    let here = met_behind no_texts history _ (met_front no_texts (with_files_read (two_files name other) read history) more met) in
-    (here.0.0, here.1.0.0)
+two_opened = search (rules, met_behind, met_front)
 
 one_opened : (name : Text) (read : SourcesRead) (history : List Event) → AreMet no_texts (with_files_read (one_file name) read history)
     → read.first ≡ text_under history name
@@ -121,12 +82,6 @@ one_opened name read history met = (met_behind no_texts history _ met).0.0
 
 abbrev job_of : TaskView → List Text → JobView
 job_of task words = record { task = task; words = words }
-
-abbrev first_of : List Text → ℕ
-first_of words = slice_index (first_word words) 0
-
-abbrev second_of : List Text → ℕ
-second_of words = slice_index (first_word words) 1
 
 abbrev behind : List Text → List Text
 behind [] = []
@@ -140,45 +95,21 @@ some_name one two same = cc
 
 -- if the first word is `new`, the task is `new_task`
 new_named : (task : TaskView) (words more : List Text) → codes "new" ∷ more ≡ name_of (subcommand_of task) ∷ words → task ≡ new_task
-new_named new_task words more same = refl
-new_named check_task words more same = let other : ◌≡◌ {A = ℕ} 110 99 = ap first_of same in let never : ⊥ = omega arith in absurd never
-new_named (day_task place day) words more same = let other : ◌≡◌ {A = ℕ} 110 100 = ap first_of same in let never : ⊥ = omega arith in absurd never
-new_named take_task words more same = let other : ◌≡◌ {A = ℕ} 110 116 = ap first_of same in let never : ⊥ = omega arith in absurd never
-new_named merge_task words more same = let other : ◌≡◌ {A = ℕ} 110 109 = ap first_of same in let never : ⊥ = omega arith in absurd never
-new_named (print_task place day) words more same = let other : ◌≡◌ {A = ℕ} 110 112 = ap first_of same in let never : ⊥ = omega arith in absurd never
-new_named files_task words more same = let other : ◌≡◌ {A = ℕ} 110 102 = ap first_of same in let never : ⊥ = omega arith in absurd never
-new_named (horizon_task day) words more same = let other : ◌≡◌ {A = ℕ} 110 104 = ap first_of same in let never : ⊥ = omega arith in absurd never
-new_named migrate_task words more same = let other : ◌≡◌ {A = ℕ} 110 109 = ap first_of same in let never : ⊥ = omega arith in absurd never
+new_named = search rules
 
 new_job : (words : List Text) (job : JobView) → IsJobOf (codes "new" ∷ words) job → job ≡ job_of new_task words
 new_job words job is = λ i. job_of (new_named job.task job.words words is.whole i) (sym (ap behind is.whole) i)
 
 -- if the first word is `take`, the task is `take_task`
 take_named : (task : TaskView) (words more : List Text) → codes "take" ∷ more ≡ name_of (subcommand_of task) ∷ words → task ≡ take_task
-take_named take_task words more same = refl
-take_named new_task words more same = let other : ◌≡◌ {A = ℕ} 116 110 = ap first_of same in let never : ⊥ = omega arith in absurd never
-take_named check_task words more same = let other : ◌≡◌ {A = ℕ} 116 99 = ap first_of same in let never : ⊥ = omega arith in absurd never
-take_named (day_task place day) words more same = let other : ◌≡◌ {A = ℕ} 116 100 = ap first_of same in let never : ⊥ = omega arith in absurd never
-take_named merge_task words more same = let other : ◌≡◌ {A = ℕ} 116 109 = ap first_of same in let never : ⊥ = omega arith in absurd never
-take_named (print_task place day) words more same = let other : ◌≡◌ {A = ℕ} 116 112 = ap first_of same in let never : ⊥ = omega arith in absurd never
-take_named files_task words more same = let other : ◌≡◌ {A = ℕ} 116 102 = ap first_of same in let never : ⊥ = omega arith in absurd never
-take_named (horizon_task day) words more same = let other : ◌≡◌ {A = ℕ} 116 104 = ap first_of same in let never : ⊥ = omega arith in absurd never
-take_named migrate_task words more same = let other : ◌≡◌ {A = ℕ} 116 109 = ap first_of same in let never : ⊥ = omega arith in absurd never
+take_named = search rules
 
 take_job : (words : List Text) (job : JobView) → IsJobOf (codes "take" ∷ words) job → job ≡ job_of take_task words
 take_job words job is = λ i. job_of (take_named job.task job.words words is.whole i) (sym (ap behind is.whole) i)
 
 -- if the first word is `merge`, the task is `merge_task`
 merge_named : (task : TaskView) (words more : List Text) → codes "merge" ∷ more ≡ name_of (subcommand_of task) ∷ words → task ≡ merge_task
-merge_named merge_task words more same = refl
-merge_named new_task words more same = let other : ◌≡◌ {A = ℕ} 109 110 = ap first_of same in let never : ⊥ = omega arith in absurd never
-merge_named check_task words more same = let other : ◌≡◌ {A = ℕ} 109 99 = ap first_of same in let never : ⊥ = omega arith in absurd never
-merge_named (day_task place day) words more same = let other : ◌≡◌ {A = ℕ} 109 100 = ap first_of same in let never : ⊥ = omega arith in absurd never
-merge_named take_task words more same = let other : ◌≡◌ {A = ℕ} 109 116 = ap first_of same in let never : ⊥ = omega arith in absurd never
-merge_named (print_task place day) words more same = let other : ◌≡◌ {A = ℕ} 109 112 = ap first_of same in let never : ⊥ = omega arith in absurd never
-merge_named files_task words more same = let other : ◌≡◌ {A = ℕ} 109 102 = ap first_of same in let never : ⊥ = omega arith in absurd never
-merge_named (horizon_task day) words more same = let other : ◌≡◌ {A = ℕ} 109 104 = ap first_of same in let never : ⊥ = omega arith in absurd never
-merge_named migrate_task words more same = let other : ◌≡◌ {A = ℕ} 101 105 = ap second_of same in let never : ⊥ = omega arith in absurd never
+merge_named = search rules
 
 merge_job : (words : List Text) (job : JobView) → IsJobOf (codes "merge" ∷ words) job → job ≡ job_of merge_task words
 merge_job words job is = λ i. job_of (merge_named job.task job.words words is.whole i) (sym (ap behind is.whole) i)
@@ -188,15 +119,7 @@ abbrev IsPrint : TaskView → Type 0
 IsPrint task = (place : List ℕ) × (day : ℕ) × (task ≡ print_task place day)
 
 print_named : (task : TaskView) (words more : List Text) → codes "print" ∷ more ≡ name_of (subcommand_of task) ∷ words → IsPrint task
-print_named (print_task place day) words more same = (place, day, refl)
-print_named new_task words more same = let other : ◌≡◌ {A = ℕ} 112 110 = ap first_of same in let never : ⊥ = omega arith in absurd never
-print_named check_task words more same = let other : ◌≡◌ {A = ℕ} 112 99 = ap first_of same in let never : ⊥ = omega arith in absurd never
-print_named (day_task place day) words more same = let other : ◌≡◌ {A = ℕ} 112 100 = ap first_of same in let never : ⊥ = omega arith in absurd never
-print_named take_task words more same = let other : ◌≡◌ {A = ℕ} 112 116 = ap first_of same in let never : ⊥ = omega arith in absurd never
-print_named merge_task words more same = let other : ◌≡◌ {A = ℕ} 112 109 = ap first_of same in let never : ⊥ = omega arith in absurd never
-print_named files_task words more same = let other : ◌≡◌ {A = ℕ} 112 102 = ap first_of same in let never : ⊥ = omega arith in absurd never
-print_named (horizon_task day) words more same = let other : ◌≡◌ {A = ℕ} 112 104 = ap first_of same in let never : ⊥ = omega arith in absurd never
-print_named migrate_task words more same = let other : ◌≡◌ {A = ℕ} 112 109 = ap first_of same in let never : ⊥ = omega arith in absurd never
+print_named = search (rules, place)
 
 -- ---- what each command leaves
 
@@ -225,7 +148,7 @@ module _ (words : List Text) (old new : HostView) (name : Text) (known : Known) 
 -- `new` leaves the text of the state that knows no files
 pub new_leaves : (name : Text) (old new : HostView) → Performs (codes "new" ∷ name ∷ []) true old new 0
     → IsGained old new name nothing
-new_leaves name old new performs = by (run_done (run_of words old new) performs)
+new_leaves name old new performs = by (run_done _ performs)
   where
     words : List Text
     words = codes "new" ∷ name ∷ []
@@ -234,29 +157,21 @@ new_leaves name old new performs = by (run_done (run_of words old new) performs)
     the_job = job_of new_task (name ∷ [])
 
     left : (read : SourcesRead) (text : List ℕ) → Stores (run_of words old new) the_job read text → IsGained old new name nothing
-    left read text stores =
-        gained words old new name nothing the_job no_source read text refl refl stores
-        (stores_known (run_of words old new) the_job read text nothing stores refl)
+    left read text stores = gained _ _ _ _ nothing the_job no_source read text refl refl stores (stores_known _ _ _ _ _ stores refl)
 
     by : IsDone (run_of words old new) → IsGained old new name nothing
     by (job, read, text, inl stores) =
-        left read text (subst (λ (j : JobView). Stores (run_of words old new) j read text) (new_job (name ∷ []) job stores.reads.asks.0) stores)
+        left read text (subst (λ (j : JobView). Stores (run_of words old new) j read text) (new_job _ _ stores.reads.asks.0) stores)
     by (job, read, text, inr prints) =
-        let none = subst (λ (j : JobView). stored_by j ≡ None) (new_job (name ∷ []) job prints.reads.asks.0) prints.unstored in
-        absurd (none_some name (sym none))
+        let none = subst (λ (j : JobView). stored_by j ≡ None) (new_job _ _ prints.reads.asks.0) prints.unstored in
+        absurd (none_some _ (sym none))
 
 -- the history after a command read two files and stored a text
 history_two : (words : List Text) (old new : HostView) (task : TaskView) (name other : Text) (read : SourcesRead) (text : List ℕ)
     → names_of (job_of task (name ∷ other ∷ [])) ≡ two_files name other → stored_by (job_of task (name ∷ other ∷ [])) ≡ Some name
     → IsShelfHistory new.history → Stores (run_of words old new) (job_of task (name ∷ other ∷ [])) read text
     → (read.first ≡ text_under old.history name) × (read.second ≡ text_under old.history other)
-history_two words old new task name other read text same stored met stores =
-    let events = stores.history
-    ∙ (λ i. with_files_read (same i) read (with_look_at (stored i) old.history)
-    ++ drafted stores.name (length old.history) ∷ placed stores.name (Some text) ∷ []) in
-    let opened = two_opened name other read (old.history ++ looked name ∷ []) _ (subst IsShelfHistory events met) in
-    let kept = look_keeps name old.history in
-    (opened.0 ∙ ap (λ (texts : Texts). texts name) kept, opened.1 ∙ ap (λ (texts : Texts). texts other) kept)
+history_two = search (rules, two_opened, look_keeps)
 
 -- `take` leaves the text of the summary of what the state knew and of the file
 pub take_leaves : (name file : Text) (content : List (List ℕ)) (known : Known) (old new : HostView)
@@ -264,7 +179,7 @@ pub take_leaves : (name file : Text) (content : List (List ℕ)) (known : Known)
     → HoldsKnown dks_2 (text_under old.history name) known → HoldsFile (text_under old.history file) content
     → Performs (codes "take" ∷ name ∷ file ∷ []) true old new 0
     → IsGained old new name (united known (of_file content))
-take_leaves name file content known old new same met holds is_file performs = by (run_done (run_of words old new) performs)
+take_leaves name file content known old new same met holds is_file performs = by (run_done _ performs)
   where
     words : List Text
     words = codes "take" ∷ name ∷ file ∷ []
@@ -272,12 +187,10 @@ take_leaves name file content known old new same met holds is_file performs = by
     the_job : JobView
     the_job = job_of take_task (name ∷ file ∷ [])
 
-    left : (read : SourcesRead) (text : List ℕ) → Stores (run_of words old new) the_job read text
-        → IsGained old new name (united known (of_file content))
+    left : (read : SourcesRead) (text : List ℕ) → Stores (run_of words old new) the_job read text → IsGained old new name (united known (of_file content))
     left read text stores =
-        let held = history_two words old new take_task name file read text same refl met stores in
-        gained words old new name (united known (of_file content)) the_job (two_files name file) read text same refl stores
-        (stores_known (run_of words old new) the_job read text (united known (of_file content)) stores (
+        let held = history_two _ _ _ _ _ _ _ _ same refl met stores in
+        gained _ _ _ _ (united known (of_file content)) the_job (two_files name file) read text same refl stores (stores_known _ _ _ _ _ stores (
           known,
           content,
           subst (λ (b : Bytes). HoldsKnown dks_2 b known) (sym held.0) holds,
@@ -287,10 +200,10 @@ take_leaves name file content known old new same met holds is_file performs = by
 
     by : IsDone (run_of words old new) → IsGained old new name (united known (of_file content))
     by (job, read, text, inl stores) =
-        left read text (subst (λ (j : JobView). Stores (run_of words old new) j read text) (take_job (name ∷ file ∷ []) job stores.reads.asks.0) stores)
+        left read text (subst (λ (j : JobView). Stores (run_of words old new) j read text) (take_job _ _ stores.reads.asks.0) stores)
     by (job, read, text, inr prints) =
-        let none = subst (λ (j : JobView). stored_by j ≡ None) (take_job (name ∷ file ∷ []) job prints.reads.asks.0) prints.unstored in
-        absurd (none_some name (sym none))
+        let none = subst (λ (j : JobView). stored_by j ≡ None) (take_job _ _ prints.reads.asks.0) prints.unstored in
+        absurd (none_some _ (sym none))
 
 -- `merge` leaves the text of the summary of what the two states knew
 pub merge_leaves : (name other : Text) (known heard : Known) (old new : HostView)
@@ -298,7 +211,7 @@ pub merge_leaves : (name other : Text) (known heard : Known) (old new : HostView
     → HoldsKnown dks_2 (text_under old.history name) known → HoldsKnown dks_2 (text_under old.history other) heard
     → Performs (codes "merge" ∷ name ∷ other ∷ []) true old new 0
     → IsGained old new name (united known heard)
-merge_leaves name other known heard old new same met holds also performs = by (run_done (run_of words old new) performs)
+merge_leaves name other known heard old new same met holds also performs = by (run_done _ performs)
   where
     words : List Text
     words = codes "merge" ∷ name ∷ other ∷ []
@@ -306,12 +219,10 @@ merge_leaves name other known heard old new same met holds also performs = by (r
     the_job : JobView
     the_job = job_of merge_task (name ∷ other ∷ [])
 
-    left : (read : SourcesRead) (text : List ℕ) → Stores (run_of words old new) the_job read text
-        → IsGained old new name (united known heard)
+    left : (read : SourcesRead) (text : List ℕ) → Stores (run_of words old new) the_job read text → IsGained old new name (united known heard)
     left read text stores =
-        let held = history_two words old new merge_task name other read text same refl met stores in
-        gained words old new name (united known heard) the_job (two_files name other) read text same refl stores
-        (stores_known (run_of words old new) the_job read text (united known heard) stores (
+        let held = history_two _ _ _ _ _ _ _ _ same refl met stores in
+        gained _ _ _ _ (united known heard) the_job (two_files name other) read text same refl stores (stores_known _ _ _ _ _ stores (
           known,
           heard,
           subst (λ (b : Bytes). HoldsKnown dks_2 b known) (sym held.0) holds,
@@ -321,10 +232,10 @@ merge_leaves name other known heard old new same met holds also performs = by (r
 
     by : IsDone (run_of words old new) → IsGained old new name (united known heard)
     by (job, read, text, inl stores) =
-        left read text (subst (λ (j : JobView). Stores (run_of words old new) j read text) (merge_job (name ∷ other ∷ []) job stores.reads.asks.0) stores)
+        left read text (subst (λ (j : JobView). Stores (run_of words old new) j read text) (merge_job _ _ stores.reads.asks.0) stores)
     by (job, read, text, inr prints) =
-        let none = subst (λ (j : JobView). stored_by j ≡ None) (merge_job (name ∷ other ∷ []) job prints.reads.asks.0) prints.unstored in
-        absurd (none_some name (sym none))
+        let none = subst (λ (j : JobView). stored_by j ≡ None) (merge_job _ _ prints.reads.asks.0) prints.unstored in
+        absurd (none_some _ (sym none))
 
 -- the output gained a docker of the summary of what is known, and no file changed
 pub record IsPrinted (old new : HostView) (known : Known) (place : List ℕ) (day : ℕ) : Type 0 where
@@ -335,8 +246,7 @@ pub record IsPrinted (old new : HostView) (known : Known) (place : List ℕ) (da
 
 -- the word names only one place, if it has seven bytes
 pub one_place : (word place : List ℕ) → length word ≡ 7 → NamesPlace word place → place ≡ word
-one_place word place long names =
-    names.padded ∙ ap (λ (n : ℕ). word ++ spaces n) (let none : 7 - length word ≡ 0 = omega arith in none) ∙ append-nil word
+one_place = search (rules, append-nil)
 
 -- `print` prints the docker of the summary of what the state knows
 pub print_shows : (name place date : Text) (number : ℕ) (known : Known) (old new : HostView)
@@ -428,26 +338,7 @@ still_both old new name known full update gains one two has = record {
 
 -- an office that knows a full extract, and an update twice, knows these two files
 pub same_files : (full update : List (List ℕ)) → HaveSameFiles (full ∷ update ∷ []) (full ∷ update ∷ update ∷ [])
-same_files full update file = (
-  λ among. there (Contains-cons full (update ∷ []) file among),
-  λ among. back (Contains-cons full (update ∷ update ∷ []) file among),
-)
-  where
-    there : (full ≡ file) ⊎ Contains (update ∷ []) file → Contains (full ∷ update ∷ update ∷ []) file
-    there (inl same) = subst (Contains (full ∷ update ∷ update ∷ [])) same (cons-Contains-first full (update ∷ update ∷ []))
-    there (inr inside) =
-        subst (Contains (full ∷ update ∷ update ∷ [])) (Contains-single update file inside)
-        (cons-Contains full (update ∷ update ∷ []) update (cons-Contains-first update (update ∷ [])))
-
-    second : (update ≡ file) ⊎ Contains (update ∷ []) file → update ≡ file
-    second (inl same) = same
-    second (inr inside) = Contains-single update file inside
-
-    back : (full ≡ file) ⊎ Contains (update ∷ update ∷ []) file → Contains (full ∷ update ∷ []) file
-    back (inl same) = subst (Contains (full ∷ update ∷ [])) same (cons-Contains-first full (update ∷ []))
-    back (inr inside) =
-        subst (Contains (full ∷ update ∷ [])) (second (Contains-cons update (update ∷ []) file inside))
-        (cons-Contains full (update ∷ []) update (cons-Contains-first update []))
+same_files = search (rules, cons-Contains-first, cons-Contains)
 
 abbrev pub After : List Text → HostView → HostView → Type 0
 After words old new = Performs words true old new 0 × IsShelfHistory new.history
@@ -550,13 +441,12 @@ exchanged a b c d e f g h j k to_b to_c to_d to_e to_f to_g to_h to_j to_k full 
 -- an office that knows both files prints the docker of their plain table
 pub printed_both : (old new : HostView) (known : Known) → HaveSameFiles both known.files → old.output ≡ Some [] → IsPrinted old new known place 23537
     → new.output ≡ Some the_docker
-printed_both old new known same empty printed =
-    subst (λ (o : Bytes). Takes o printed.text new.output) empty printed.takes ∙ ap Some text_is
+printed_both old new known same empty printed = subst (λ (o : Bytes). Takes o printed.text new.output) empty printed.takes ∙ ap Some text_is
   where
     text_is : printed.text ≡ the_docker
     text_is =
-        let plain = plain_known_docker known place 23537 printed.text printed.is (both_distinct known.files same) in
-        text_of_both known.files plain.0 printed.text same plain.1 plain.2
+        let plain = plain_known_docker _ _ _ _ printed.is (both_distinct _ same) in
+        text_of_both _ _ _ same plain.1 plain.2
 
 pub date_is : date_number (digits_in (codes "2024-06-10")) ≡ 23537
 unfolding days_from_civil day_count days_of_years days_of_months
@@ -569,27 +459,24 @@ pub both_print : (a k m n p : HostView) → text_under a.history full_name ≡ S
     → n.history ≡ m.history → n.output ≡ Some [] → After (codes "print" ∷ south ∷ place ∷ codes "2024-06-10" ∷ []) n p
     → (m.output ≡ Some the_docker) × (p.output ≡ Some the_docker)
 both_print a k m n p full update empty learn to_m same fresh to_p = (
-  printed_both k m knows.north.known knows.north.same (knows.unprinted ∙ empty) first,
-  printed_both n p knows.south.known knows.south.same fresh second,
+  printed_both _ _ _ knows.north.same (knows.unprinted ∙ empty) first,
+  printed_both _ _ _ knows.south.same fresh second,
 )
   where
     knows : KnowBoth a k full_file update_file
     knows = learn full_file update_file (full_text, full, full_is) (update_text, update, update_is)
 
     first : IsPrinted k m knows.north.known place 23537
-    first =
-        print_shows north place (codes "2024-06-10") 23537 knows.north.known k m refl refl date_is to_m.1 knows.north.holds to_m.0
+    first = print_shows _ _ _ _ _ _ _ refl refl date_is to_m.1 knows.north.holds to_m.0
 
     south_n : HoldsKnown dks_2 (text_under n.history south) knows.south.known
-    south_n =
-        subst (λ (x : Bytes). HoldsKnown dks_2 x knows.south.known)
+    south_n = subst (λ (x : Bytes). HoldsKnown dks_2 x knows.south.known)
         (sym (ap (λ (events : List Event). text_under events south) same ∙ ap (λ (texts : Texts). texts south) first.kept)) knows.south.holds
 
     second : IsPrinted n p knows.south.known place 23537
-    second = print_shows south place (codes "2024-06-10") 23537 knows.south.known n p refl refl date_is to_p.1 south_n to_p.0
+    second = print_shows _ _ _ _ _ _ _ refl refl date_is to_p.1 south_n to_p.0
 
 -- both sinks have taken the docker
 pub sinks_agree : (one two : List ℕ) (first second : Bytes) → Some one ≡ first → Some two ≡ second → (first ≡ Some the_docker) × (second ≡ Some the_docker)
     → (one ≡ two) × (one ≡ the_docker)
-sinks_agree one two first second is also both =
-    (some_name one the_docker (is ∙ both.0) ∙ sym (some_name two the_docker (also ∙ both.1)), some_name one the_docker (is ∙ both.0))
+sinks_agree = search (rules, some_name, the_docker, both)

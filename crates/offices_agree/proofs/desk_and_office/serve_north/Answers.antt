@@ -5,19 +5,14 @@ use Rattle.offices_agree.proofs.DeskSteps.{served_sound, served_told}
 use Rattle.offices_agree.proofs.desk_and_office.serve_north.Goals as goal
 
 pub returns-clause-serves : goal.returns-clause-serves
-returns-clause-serves c =
-    served_told _ _ _ c.serve-status.result c.into_parts-answers.result.1.taken c.host.inside.folder c.args.folder.events c.serve-status.ensures c.host.view_is
-    (search (rules, tests))
+returns-clause-serves c = served_told _ _ _ _ _ _ _ c.serve-status.ensures c.host.view_is (search (rules, tests))
     (ap (λ (streams : StreamsView). streams.input) c.new-4.ensures ∙ ap Some (c.new-3.ensures.left ∙ c.as_bytes.ensures.value))
     (ap (λ (streams : StreamsView). streams.output) c.new-4.ensures ∙ ap Some c.in-Ok-Ok.ensures.empty)
     c.tell.ensures.texts (sym c.into_parts-answers.ensures.output)
     (subst AreDone c.bytes.ensures.bytes c.in_ok-all_done.ensures) c.an_input_has_one_reading.ensures refl refl
 
 pub returns-clause-sound : goal.returns-clause-sound
-returns-clause-sound c =
-    served_sound _ _ _ c.serve-status.result c.into_parts-answers.result.1.taken c.serve-status.ensures c.host.view_is
-    (search (rules, tests))
+returns-clause-sound c = served_sound _ _ _ _ _ c.serve-status.ensures c.host.view_is (search (rules, tests))
     (ap (λ (streams : StreamsView). streams.input) c.new-4.ensures ∙ ap Some (c.new-3.ensures.left ∙ c.as_bytes.ensures.value))
-    (ap (λ (streams : StreamsView). streams.output) c.new-4.ensures ∙ ap Some c.in-Ok-Ok.ensures.empty)
-    (sym c.into_parts-answers.ensures.output)
+    (ap (λ (streams : StreamsView). streams.output) c.new-4.ensures ∙ ap Some c.in-Ok-Ok.ensures.empty) (sym c.into_parts-answers.ensures.output)
     (subst AreDone c.bytes.ensures.bytes c.in_ok-all_done.ensures) c.an_input_has_one_reading.ensures c.requires.sound
