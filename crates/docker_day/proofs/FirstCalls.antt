@@ -41,6 +41,8 @@ module _ (place : List ℕ) (event : events.Occurrence) where
       → HasEvent place before event after
   taken_here = search rules
 
+-- ---- the docker line at a call
+
 -- the train chosen for a UID has this UID
 pub uid_of_train : (live : Table) (rows : List Row) (uid : List ℕ) (day : ℕ) (train : Train) → AreRowsOf live rows → train_in rows uid day ≡ Some train
     → train.key.uid ≡ uid

@@ -96,6 +96,8 @@ module _ (before after : SessionView) (known : Known) where
       → IsUnsaved setting before after fault (MayPlaceKnown setting before after known)
   may_place_known = search (rules, unsaved_by)
 
+-- ---- what a session learns from its steps
+
 -- if `take` succeeded, there is a file that the desk came to know
 takes_heard : (file : Text) (text : List ℕ) (before after : SessionView) → Joins file StopsInFile EndsTaking before (done_with text) after
     → (heard : Known) × HearsFile file before after heard

@@ -137,6 +137,8 @@ module _ (setting : Setting) (before after : SessionView) where
   known_asked (Some request) (refused_for fault) old new days does learns is = search (rules, same_refused)
   known_asked (Some request) no_request old new days does learns is = search (rules, never_unasked)
 
+-- ---- what is known after each step
+
 -- the day that a `horizon` request names is a valid day number
 pub day_asked : (may_write : Bool) (line : LineView) (request : Option RequestView) (day : ℕ) → AsksOf may_write line request
     → request ≡ Some (horizon_request day) → IsDay day

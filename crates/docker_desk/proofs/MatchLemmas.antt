@@ -41,7 +41,8 @@ pub sent_compares : (text sent before taken own : List ℕ) (bytes : Option (Lis
     → OnErr done (TakesPart (Some before) sent (Some taken)) → CountsFailure (done ≡ Err office.Sink) failures_before failures
     → IfErr done (λ fault. fault ≡ office.Sink) → ok ≡ is_ok done → (IsTrue whole → taken ≡ own) × (taken ≡ own → IsTrue whole)
     → (0 < failures → IsNoFront taken own) → (IsTrue (ok && whole) → text ≡ sent) × (text ≡ sent → IsTrue (ok && whole))
-sent_compares text sent before taken own bytes failures_before failures (Ok done) ok whole none zero named named_too takes part counts only is_ok wholly apart = search rules
+sent_compares text sent before taken own bytes failures_before failures (Ok done) ok whole none zero named named_too takes part counts only is_ok wholly apart =
+    search rules
 sent_compares text sent before taken own bytes failures_before failures (Err why) ok whole none zero named named_too takes part counts only is_ok wholly apart =
     subst (λ (o : Bool). (IsTrue (o && whole) → text ≡ sent) × (text ≡ sent → IsTrue (o && whole))) (sym is_ok)
     (λ is. let never : ⊥ = cc in absurd never, λ is. absurd (other is))

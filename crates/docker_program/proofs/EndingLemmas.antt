@@ -77,6 +77,8 @@ module _ (run : Run) (job : JobView) (rest : Bytes) where
     at_history : has.read ≡ history_read run.old.history job has.is.opened.read
     at_history = cc
 
+-- ---- a command that ended with status 0
+
 done_to : (run : Run) (job : JobView) (rest : Bytes) (stored : Option Text)
     (has : HasRead run.old run.new (Writes (from_first_look run.names_bytes run.old)) job rest) → AsksFor run.words run.old.input job rest
     → stored_by job ≡ stored → WritesTo stored (from_first_look run.names_bytes run.old) (writing run.old run.new has.read) has.prepared → IsDone run

@@ -105,7 +105,9 @@ all_known knowns texts (version ∷ versions) are made =
       append_assoc,
       zip_end,
       made_known,
-      (all_known (knowns ++ known_by knowns version.origin ∷ []) (texts ++ version.text ∷ []) versions (zip_end (IsKnownText dks_2) knowns texts (known_by knowns version.origin) version.text are (made_known knowns texts version.origin version.text are made.0)) made.1),
+      (all_known (knowns ++ known_by knowns version.origin ∷ []) (texts ++ version.text ∷ []) versions
+          (zip_end (IsKnownText dks_2) knowns texts (known_by knowns version.origin) version.text are
+          (made_known knowns texts version.origin version.text are made.0)) made.1),
     )
 
 -- the list of what the versions know is as long as the list of their texts

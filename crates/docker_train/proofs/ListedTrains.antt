@@ -168,6 +168,8 @@ module _ (live : Table) (rows : List Row) (are : AreRowsOf live rows) (identity 
   pub is_trains_text : IsTrainsText live identity day (flat_map (row_line rows identity day) rows)
   is_trains_text = search (rules, are_listed, lines_are)
 
+-- ---- one list
+
 uid_total : IsTotalOrder (on (λ (train : Train). train.key.uid) bytes_cmp)
 uid_total = on_total (λ (train : Train). train.key.uid) nat_list_cmp_total
 

@@ -200,6 +200,8 @@ module _ (old : List Event) (first one two three : SessionView) (begins : Begins
     pub prints_all : (text : List ℕ) → IsShown two.desk.state (docker_query place 23537) (done_with text) → PrintsKnown (united known heard) place 23537 text
     prints_all = search (rules, place, knows, not_refused)
 
+-- ---- the whole session
+
 abbrev pub desk_words : List Text
 desk_words = codes "--write" ∷ north ∷ []
 

@@ -62,6 +62,8 @@ module _ (rows : List Row) (tally : Tally) (body : Body) (is : IsTallyOf rows ta
   with_schedule (tiploc_key code) told end last end_is later = absurd (omega (arith, told))
   with_schedule (association_key key) told end last end_is later = cc
 
+-- ---- the greater of two days
+
 -- the lemmas for a list of days whose greatest day is `one`, when the day `other` is added
 module _ (days : List ℕ) (one other : ℕ) (is : IsGreatest days (Some one)) where
   later_wins : one ≤ other → IsGreatest (days ++ other ∷ []) (Some other)
