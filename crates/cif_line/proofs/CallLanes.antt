@@ -164,6 +164,7 @@ module _ (a b c d e : ℕ) (la : a < 256) (lb : b < 256) (lc : c < 256) (ld : d 
       ≡ half_minutes_or_none (a ∷ b ∷ c ∷ d ∷ e ∷ [])
   lane_told = grind (common_steps, arith, scheduled_end, time_masked, mask_set, time_is, value_is)
 
+-- a field is a public time, HHMM or blank, if and only if the field followed by a space is a
 -- scheduled time or blank
 public_lane : (a b c d : ℕ) → is_scheduled_time (a ∷ b ∷ c ∷ d ∷ 32 ∷ []) ≡ is_public_time (a ∷ b ∷ c ∷ d ∷ [])
 public_lane = search rules

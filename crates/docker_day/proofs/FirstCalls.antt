@@ -57,6 +57,8 @@ module _ (trains : List ℕ → ℕ → Option Train) (day start : ℕ) (link : 
       → lines ≡ link_line_with trains day start link (Some occasion) base
   line_at_call = search rules
 
+-- says that the line, if there is one, is the association's line at this event, whatever key the
+-- base train's schedule has
 abbrev pub IsAtEvent : Link → Occasion → events.Occurrence → Visit → Option DockerLine → Type 0
 IsAtEvent link occasion event visit line =
     (rows : List Row) → AreRowsOf (live_in visit.timetable) rows → (base : ScheduleKey) → base.uid ≡ link.key.base

@@ -133,6 +133,7 @@ module _ (live : Table) (rows : List Row) (are : AreRowsOf live rows) (place : L
       → (lines_back view 0 ≡ []) × (lines_back view 1 ≡ []) × (lines_back view 2 ≡ [])
   none_recently = search (rules, none_of_three, idle_back, true_false)
 
+-- appending an empty list leaves the lines unchanged
 nothing : (before : List DockerLine) {more : List DockerLine} → more ≡ [] → before ≡ before ++ more
 nothing before none = sym (append-nil before) ∙ ap (λ out. before ++ out) (sym none)
 

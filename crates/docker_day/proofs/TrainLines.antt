@@ -28,6 +28,7 @@ module _ (place : List ℕ) (day start : ℕ) (key : ScheduleKey) (lines : List 
   pub event_lines_are : lines_there place day start key detail (occurrences lines) ≡ event_lines place day start key lines
   event_lines_are = search (rules, along)
 
+-- a schedule without events has no docker line
 pub no_event_lines : (place : List ℕ) (day start : ℕ) (key : ScheduleKey) (lines : List (List ℕ)) (out : List DockerLine) → occurrences lines ≡ []
     → out ≡ out ++ event_lines place day start key lines
 no_event_lines = search (rules, append-nil, event_lines_are)

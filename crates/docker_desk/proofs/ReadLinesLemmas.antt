@@ -77,6 +77,7 @@ module _ (old now : DeviceBytes) (lines : List LineView) where
   pub begins_so_far : ReadsFirst old lines now → BeginsWith old lines
   begins_so_far = search rules
 
+-- if reading returned a line, this line is the next line of the input
 pub next_read : (old new : DeviceBytes) (read : Asked) (line : LineView) → asked_meant read ≡ Some line → EndsLine old (Ok read) new → ReadsNext old line new
 next_read old new read line is ends = subst (λ (met : Option LineView). ReadsAsked old met new) is ends
 

@@ -47,6 +47,7 @@ module _ (text rest last : List ℕ) where
   two_bad : IsBadLine text rest → IsBadLine text last → rest ≡ last
   two_bad = search (rules, one_split)
 
+-- a text determines its next line and the bytes after that line
 one_line : (text rest last : List ℕ) (line other : LineView) → IsNextLine text line rest → IsNextLine text other last → (line ≡ other) × (rest ≡ last)
 one_line text rest last (whole_line line) (whole_line other) first second = two_whole text rest last line other first second
 one_line text rest last (whole_line line) bad_line first second = absurd (not_both text rest last line first second)

@@ -58,6 +58,7 @@ module _ (may_write : Bool) (line : List ℕ) (word : Text) (v : Verb) (first : 
       → FindsRequest (MakesRequest v rest) request → AsksFor may_write line request
   asked_by = search (rules, made, name_back)
 
+-- if the first word of a line is the name of this verb, the verb and the rest of the line make the
 -- line's request
 pub with_verb : (may_write : Bool) (line : List ℕ) (v : Verb) (request : RequestView) → first_word line ≡ name_of v → IsRequestOf may_write line request
     → MakesRequest v (after_word line) request

@@ -259,6 +259,7 @@ module _ (ahead ahead_now : Text) (old mid new : StreamsView) (read : Asked) (us
       → StopsAtEnd ending old.ended new.ended old.passed new.passed
   stops_cut = search (rules, same_passed, same_ended)
 
+-- after a cut line, no bytes are left
 pub left_at_cut : (ahead ahead_now : Text) (old mid new : StreamsView) (found : Asked) (text : List ℕ) (next ending : Option Ending)
     → EndsLine (with_ahead ahead old.input) (Ok found) (with_ahead ahead_now mid.input) → asked_meant found ≡ Some cut_line
     → TellsAnswer text next mid new ending → LeavesNone (with_ahead ahead old.input) new.input

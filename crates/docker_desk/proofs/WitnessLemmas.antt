@@ -141,6 +141,7 @@ module _ (text : List ℕ) (holds : HoldsState dks_2 most_bytes (Some text) no_s
       let line : step.line ≡ whole_line asked_line = cc in one_step its first last step begins named line are met takes
   all_steps its first last (step ∷ next ∷ steps) begins named lines are met takes = cc
 
+-- the word `S` asks no question
 asks_nothing : (question : Question) → codes "S" ∷ [] ≡ word_of question ∷ [] → ⊥
 asks_nothing = search rules
 

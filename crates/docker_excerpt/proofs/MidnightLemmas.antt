@@ -179,6 +179,7 @@ module _ (day at : ℕ) (same : at ≡ day) (lines : List (List ℕ)) (view : Li
       → passes ≡ may_reach day lines
   reached_later = search (rules, reaches_later, never_today, before_is, put_good)
 
+-- if a schedule calls at the place, but no event of it may be on the day, the excerpt has its thin
 -- records
 pub shortened_lines : (place : List ℕ) (day : ℕ) (lines : List (List ℕ)) → calls_at place lines ≡ true → may_reach day lines ≡ false
     → thin_lines place (first_record lines) ≡ excerpt_lines place day lines

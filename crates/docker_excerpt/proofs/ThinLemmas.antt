@@ -197,6 +197,7 @@ module _ (place : List ℕ) (day : ℕ) (opened : Opened) (near : Bool) where
     act_put : (progress_meant opened.progress).deletion ≡ false → (change_opened opened (basic ∷ others)).act ≡ put (schedule_body renewed)
     act_put = search rules
 
+  -- the thin form of a schedule's change is a deletion if the schedule is a deletion or doesn't run near the day
   pub opened_deletes : (lines : Lines) → HasLines (progress_meant opened.progress) lines → IsSchedule lines → SaysRunsNear day lines near
       → ((progress_meant opened.progress).deletion ≡ true) ⊎ (near ≡ false) → thin_act place day (change_opened opened lines).act ≡ delete
   opened_deletes = search (rules, deletes_itself, act_put, act_far, near_renewed)
@@ -208,6 +209,7 @@ module _ (place : List ℕ) (day : ℕ) (opened : Opened) (near : Bool) where
       → thin_act place day (change_opened opened lines).act ≡ put (schedule_body (lines_for place day (with_new_first lines)))
   opened_puts = search (rules, act_put, near_renewed)
 
+-- a key that may matter at the place of a `Thinned` may matter at the docker's place, since the two places are equal
 pub matters_here : (place : List ℕ) {day : ℕ} (change : Change) {thinned : Thinned} {all : List Change} (has : HasThinned place day thinned all)
     → may_matter thinned.place change.key ≡ true → may_matter place change.key ≡ true
 matters_here place change has matters = ap (λ p. may_matter p change.key) (sym has.place_is) ∙ matters

@@ -81,6 +81,7 @@ module _ (standing : Standing) where
       → IsStandingOf standing run.new.history → ReplacesRead standing run job read
   replaces = search (rules, replaced_by, happens_at)
 
+-- the draft of a command that stored a text replaced what the command read
 pub stores_replace : (standing : Standing) (run : Run) (job : JobView) (read : SourcesRead) (text : List ℕ) → Stores run job read text
     → IsStandingOf standing run.new.history → ReplacesRead standing run job read
 stores_replace = search (rules, replaces)

@@ -28,6 +28,7 @@ module _ {X P : Type 0} (R : P → X → Bool → P → Type 0) (test : X → Bo
   pub kept_by : (xs ys : List X) → IsFiltered R p xs ys → ys ≡ filter test xs
   kept_by = search (rules, told)
 
+-- the lemmas for filtering an ascending list
 module _ {A : Type 0} (cmp : A → A → Ordering) (test : A → Bool) where
   filter_above : (low : A) (xs : List A) → AllByRecursion (IsBelow cmp low) xs → AllByRecursion (IsBelow cmp low) (filter test xs)
   filter_above low [] above = tt
@@ -38,6 +39,7 @@ module _ {A : Type 0} (cmp : A → A → Ordering) (test : A → Bool) where
   filter_ascends [] up = tt
   filter_ascends (x ∷ xs) up = grind (arith, filter_above, (filter_ascends xs up.1))
 
+-- if a test depends only on the value of a function, filtering a list by the test commutes with mapping the function over the list
 pub filter-map : {A B : Type 0} (f : A → B) (test : B → Bool) (xs : List A) → map f (filter (λ x. test (f x)) xs) ≡ filter test (map f xs)
 filter-map f test [] = refl
 filter-map f test (x ∷ xs) = grind (arith, (filter-map f test xs))

@@ -29,6 +29,7 @@ module _ (own day : ℕ) (low : own ≤ day) (ledger : List LedgerItem) (rows af
   pub raised_valid : IsDay day → IsValid (state_meant own ledger rows) → IsValid (state_meant day ledger after)
   raised_valid = search (rules, rows_raised, raised_is_valid)
 
+-- if entries whose bodies ended before a horizon have already lapsed, nothing changes when entries lapse again with the same horizon or an earlier one
 pub under_own : (own day : ℕ) → day ≤ own → (rows : List (Key × Entry)) → HaveLapsed own (map row_meant rows)
     → map row_meant rows ≡ lapse_entries (max own day) (map row_meant rows)
 under_own = search (rules, entries_stay, recursion_from_All, max-eq_left)

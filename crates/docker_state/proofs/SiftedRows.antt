@@ -29,6 +29,7 @@ module _ {A : Type 0} (cmp : A → A → Ordering) (test : A → Bool) where
   filter_ascends [] up = tt
   filter_ascends (x ∷ xs) up = grind (arith, filter_above, (filter_ascends xs up.1))
 
+-- whether a row is at the place: an association there if `links` is true, and otherwise a schedule that calls there
 abbrev passes : Bool → List ℕ → Row → Bool
 passes links place row = is_here links place row.0 row.1
 

@@ -51,6 +51,7 @@ module _ (names : List (List ℕ)) where
       → ArePosted names (spot_at at place ∷ []) old new
   posted_one = search (rules, filter_map-append)
 
+-- memory that was reserved for the places of items, once it is empty, has room for their postings
 pub can_all : (places : Places) (items : List Item) (names listed : List (List ℕ)) → listed ≡ names → IsStrictlyAscending bytes_cmp names
     → length names < 2 ^ 32 → (old new : Vec Posting) → HasRoomAt places items names old → vec_len new ≡ 0 → vec_capacity new ≡ vec_capacity old
     → CanPost listed (places_in places items) new

@@ -50,6 +50,7 @@ module _ (state : State) (valid : IsValid state) (rows : List (Kept × Held)) (a
       → GainsPart (IsPlacesText (live_table state)) old new
   list_begun = search (rules, is_text)
 
+-- the line that is written for a timing point equals the result of `place_line` for the timing
 -- point's key and body
 pub line_is : (state : State) → IsValid state → (key : Key) (body : Body) (code details : List ℕ) (count : ℕ) (bytes : List ℕ)
     → key ≡ tiploc_key code → body ≡ tiploc_body details → IsCallingCount (live_table state) code count

@@ -151,6 +151,7 @@ module _ {X : Type 0} (bytes : List X → List ℕ) (joined : (xs ys : List X) �
     each_fails taken failures old now new b d holds (Ok done) Q first same is part = absurd is
     each_fails taken failures old now new b d holds (Err failed) Q first same is part = search (rules, each_part)
 
+-- the bytes of the concatenation of two lists are the concatenation of their bytes
 pub mapped_join : {A B : Type 0} (f : B → List ℕ) (m : A → B) (xs ys : List A)
     → flat_map f (map m (xs ++ ys)) ≡ flat_map f (map m xs) ++ flat_map f (map m ys)
 mapped_join f m xs ys = ap (flat_map f) (map-append m xs ys) ∙ flat_map-append f (map m xs) (map m ys)

@@ -101,6 +101,7 @@ module _ (state : State) (number : ℕ) (bytes key rest stamp op : List ℕ) (le
   pub bad_stamp : ¬ IsStampIn state.ledger (stamp_in stamp) → (k : Key) (s : Stamp) → ¬ AreParts state (number ∷ bytes) (before_body k s)
   bad_stamp = search (rules, put_read)
 
+-- bytes that are too short don't begin with a put's tag, key, stamp and op
 pub too_short : (state : State) (number n : ℕ) (bytes : List ℕ) → IsLedger state.ledger → n ≡ key_width number + 16 → length bytes < n
     → BeginsWithNoParts IsBeforeBody state (number ∷ bytes)
 too_short state number n bytes ledger size short (before_body key stamp) len ends parts =

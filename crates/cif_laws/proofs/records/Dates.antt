@@ -139,6 +139,7 @@ module _ (y m d : ℕ) (year : 1960 ≤ y) (last : y ≤ 2059) (civil : IsCivilD
   pub day_text-day_number : day_text (day_number y m d) ≡ date_text y m d
   day_text-day_number = search (rules, year_of-day_number, month_of-day_number, day_of_month-day_number)
 
+-- like `day_text-day_number`, for a date that passes the test `is_calendar_day`
 pub day_text-of_calendar : (year month day : ℕ) → 1960 ≤ year → year ≤ 2059 → is_calendar_day year month day ≡ true
     → day_text (day_number year month day) ≡ date_text year month day
 day_text-of_calendar year month day low high h =

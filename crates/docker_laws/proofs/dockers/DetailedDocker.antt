@@ -41,6 +41,7 @@ module _ (place : List ℕ) where
   one_permanent : IsOneText Permanent
   one_permanent = search (rules, one_detailed_text)
 
+-- a detailed docker printed from a summary is the detailed docker of the plain table
 pub detailed_is_plain : (files : List (List (List ℕ))) (horizon : ℕ) (state : State) (table : Table) (place : List ℕ) (day : ℕ) (text : List ℕ)
     → AreFiles files → IsDay horizon → IsSummary files horizon state → IsPlainTable files table → ¬ IsDayRefused horizon day
     → IsDetailedText (live_table state) place day text ↔ IsDetailedText table place day text

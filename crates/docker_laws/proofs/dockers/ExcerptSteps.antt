@@ -240,6 +240,7 @@ module _ (place : List ℕ) (so_far : ExcerptSoFar) where
   drops_elsewhere (tiploc_key code) entry never elsewhere none = elsewhere_then (tiploc_key code, entry) (is_here place (tiploc_key code)) elsewhere none
   drops_elsewhere (association_key key) entry never elsewhere none = search (rules, elsewhere_then)
 
+-- `is_run_named` holds for a list of schedules if and only if the UID of the first schedule is in
 -- `names`
 pub named_iff : (names : List (List ℕ)) (key : ScheduleKey) (entry : Entry) (others : List Keyed)
     → (is_run_named names ((schedule_key key, entry) ∷ others) ≡ true) ↔ Contains names key.uid

@@ -201,6 +201,7 @@ module _ (day : ℕ) (live part : Table) (is : IsNearPart day live part) where
     pub near_list_iff : (place : List ℕ) (lines : List DockerLine) → IsDockerList live place day lines ↔ IsDockerList part place day lines
     near_list_iff = search (rules, list_over, forth, back)
 
+  -- the tables `live` and `part` have the same description of a place, since no TIPLOC is left out
   pub near_description : (place : List ℕ) → description_in (part (tiploc_key place)) ≡ description_in (live (tiploc_key place))
   near_description = search rules
 

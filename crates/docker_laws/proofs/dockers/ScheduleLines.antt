@@ -76,6 +76,7 @@ module _ (place : List ℕ) (day start : ℕ) (key : ScheduleKey) (lines : List 
   unfolding test
   event_lines_apart = grind (common_steps, arith, later_map, test, later_weaker, tied_lines_agree, later_filter, numbers_ascend)
 
+-- the docker lines of a schedule for one start day
 abbrev pub schedule_piece : (List ℕ → ℕ → Option Train) → List ℕ → ℕ → ScheduleKey → List (List ℕ) → ℕ → List DockerLine
 schedule_piece trains place day key lines start = cond (runs_by (trains key.uid start) key) (event_lines place day start key lines) []
 

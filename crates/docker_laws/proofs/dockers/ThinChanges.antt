@@ -275,6 +275,7 @@ module _ (place : List ℕ) (day : ℕ) where
         → IsThinning place day (changes ++ change ∷ []) (without change.key kept ++ thin_change place day change ∷ [])
     thinning_replaced = search (rules, some_more, sublist_filter, enough_replaced)
 
+-- a thinning of some changes can be continued with more changes. For each further change whose key
 -- may matter to the docker of the place, the thin form of this change is kept
 pub thinning_more : (place : List ℕ) (day : ℕ) (all kept more : List Change) → IsThinning place day all kept
     → IsThinning place day (all ++ more) (kept ++ thin_changes place day more)
@@ -308,6 +309,7 @@ module _ (place : List ℕ) (day : ℕ) (lines : List (List ℕ)) where
   pub act_far : runs_near day (first_record lines) ≡ false → thin_act place day (put (schedule_body lines)) ≡ delete
   act_far far = λ i. cond (far i) (put (schedule_body (lines_for place day lines))) delete
 
+-- whether a basic schedule runs on a start day near the day doesn't depend on its transaction
 pub near_of_new : (day : ℕ) (line : List ℕ) → runs_near day (as_new line) ≡ runs_near day line
 near_of_new = search (rules, new_columns)
 

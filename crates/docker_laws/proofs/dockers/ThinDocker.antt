@@ -238,6 +238,7 @@ module _ (one other : Table) (place : List ℕ) (day : ℕ) (forth : Covers one 
       → IsEventLine other place day line ⊎ IsAssociationLine other place day line
   line_over = search (rules, event_line_over, association_line_over)
 
+-- two tables have the same docker list if each has all that the docker needs from the other table
 list_over : (one other : Table) (place : List ℕ) (day : ℕ) → Covers one other place day → Covers other one place day → (lines : List DockerLine)
     → IsDockerList one place day lines → IsDockerList other place day lines
 list_over one other place day forth back lines is = record {

@@ -91,6 +91,7 @@ module _ (place : List ℕ) (day : ℕ) (file : List (List ℕ)) (kept : List Ch
   pub thin_live : (state : State) → IsStateOfChanges file kept state → (key : Key) → live_table state key ≡ thinned place day (after_file empty_table file) key
   thin_live = search (rules, live_is_made, kept_apart)
 
+-- if the op of an act is well formed for a key, so is the op of the act's thin form
 thin_op : (place : List ℕ) (day : ℕ) (key : Key) (act : Act) → IsOpOf key (op_of act) → IsOpOf key (op_of (thin_act place day act))
 thin_op = grind (arith, needed_is_body)
 

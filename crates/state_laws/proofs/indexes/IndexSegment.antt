@@ -38,6 +38,7 @@ module _ {K : Type 0} (place : List ℕ) where
   unfolding test
   piece_is = search (rules, filter-append, test, none_kept, all_kept, append-nil)
 
+-- like `piece_is`, for the index of calls
 pub calling_piece : (place : List ℕ) (front rows back : List CallingRow) → ((row : CallingRow) → Contains front row → ¬ (row.0 ≡ place))
     → ((row : CallingRow) → Contains rows row → row.0 ≡ place)
     → ((row : CallingRow) → Contains back row → ¬ (row.0 ≡ place)) → calling_keys ((front ++ rows) ++ back) place ≡ map

@@ -70,6 +70,7 @@ module _ (files : List File) (floor : Option FileStamp) (key : Key) where
       → IsGreatestEntryOf files floor key entry
   greatest_back = search (rules, entry_out, entry_in)
 
+-- a summary satisfies `IsReduced` for the ledger items and the entries of its files
 pub summary_reduced : (files : List File) (horizon : ℕ) (state : State) → IsSummary files horizon state → IsReduced (map ledger_item_of files)
     (entries_along files) state
 summary_reduced files horizon state summary = record {

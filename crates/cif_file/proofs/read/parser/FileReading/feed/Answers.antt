@@ -1,3 +1,4 @@
+-- The piece is taken line by line. If no line is unfinished, complete records are taken first.
 use Rattle.std.proofs.lemmas.Result.{err_from_is_err_and}
 use Rattle.cif_file.specs.ParserRead.{IsReading}
 use Rattle.cif_file.specs.Cut.{before_rest}
