@@ -78,8 +78,7 @@ of_count = search (rules, few_changes)
 
 pub reads_count : (limit : ℕ) (left : Option (List ℕ)) (ended : Ended CountingKeeper) → limit ≤ most_records → ReadsEnded CountsChanges limit left ended
     → CountsText limit left (count_ended ended)
-reads_count limit left ended few reads =
-    record { text = reads.text; held = reads.held; of_text = of_count limit reads.text ended few reads.of_text }
+reads_count limit left ended few reads = search (rules, of_count)
 
 pub reads_counted : (limit : ℕ) (left : Option (List ℕ)) (ended : Ended CountingKeeper) → limit ≤ most_records → ReadsEnded CountsChanges limit left ended
     → IsCounted (count_ended ended)

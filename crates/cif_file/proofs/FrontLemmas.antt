@@ -1,8 +1,8 @@
 -- Lemmas on what the reader of a file's records remembers after taking a record, and why it refuses
 -- a record.
-use Rattle.std.proofs.Common.{◌≡◌, ℕ, ◌+◌, ◌<◌, inl, inr, Bool, true, false, cond, List, [], ◌∷◌, ◌++◌, length, map, subst, rules}
+use Rattle.std.proofs.Common.{◌≡◌, ℕ, ◌+◌, ◌<◌, inr, Bool, true, false, cond, List, [], ◌∷◌, ◌++◌, length, map, subst, rules}
 use Rattle.std.proofs.Common.{refl, ap, sym, ◌∙◌, Some, None, arith, append-nil, append_assoc, length-append}
-use Rattle.std.specs.Prelude.{Option, IsTrue, ◌↔◌, ◌&&◌, is_some, is_none, option_map, slice_index_or, OnOk, Result}
+use Rattle.std.specs.Prelude.{Option, IsTrue, ◌↔◌, ◌&&◌, is_some, is_none, option_map, OnOk, Result}
 use Rattle.std.specs.List.{prefix_len}
 use Rattle.std.proofs.lemmas.List.{take-append-le}
 use Rattle.std.proofs.lemmas.List.Sums.{prefix_len-le-length}
@@ -18,11 +18,11 @@ use Rattle.cif_laws.specs.RecordTest.{is_record, has_good_fields}
 use Rattle.cif_laws.proofs.lists.BoolsAndOptions.{test_by_none, none_by_test}
 use Rattle.cif_laws.specs.ScheduleStage.{Stage, after_basic, after_journey}
 use Rattle.cif_laws.specs.ScheduleStage.{stage_after, stage_of, may_end, is_sound_next, next_stage}
-use Rattle.cif_laws.proofs.schedules.ScheduleStages.{stage_of_more, stage_of_first, first_line_iff_test, schedule_iff_stage, begins_iff_stage, no_stage_of_none}
+use Rattle.cif_laws.proofs.schedules.ScheduleStages.{stage_of_more, first_line_iff_test, schedule_iff_stage, begins_iff_stage, no_stage_of_none}
 use Rattle.cif_laws.specs.FileStage.{Place, before_header, between_units, in_schedule, after_end, unit_by_kind, place_in}
 use Rattle.cif_laws.specs.FileStage.{is_header_kind, place_by_kind, is_sound_at, next_place, IsPlaceOf}
 use Rattle.cif_laws.proofs.files.FileStages.{test_by_next, next_by_test, next_behind, stage_stops, file_iff_place, one_place, place_of_more, at_of_place}
-use Rattle.cif_laws.specs.RecordCause.{cause_of, kind_cause, place_cause, field_cause, with_column, is_after_end}
+use Rattle.cif_laws.specs.RecordCause.{cause_of, kind_cause, place_cause, is_after_end}
 use Rattle.cif_laws.proofs.schedules.ScheduleCauses.{no_unit_by_kind, next_place_of_stage, cause_of_record}
 use Rattle.cif_laws.proofs.schedules.ScheduleCauses.{cause_in_schedule, cause_behind_schedule, fault_of_schedule}
 use Rattle.cif_line.specs.declared.kind_of_record.Kind as code
@@ -116,17 +116,15 @@ pub changes_closed : (opened : Opened) (lines before : Lines) → HasLines (prog
     → key_meant (key.Schedule opened.key) ≡ schedule_named (first_record lines) → IsSchedule lines
     → changes (before ++ lines) ≡ changes before ++ change_opened opened lines ∷ []
 changes_closed opened [] before has number named is = absurd (let size = ap (λ (l : Lines). length l) is.whole in omega arith)
-changes_closed opened (basic ∷ others) before has number named is = changes_append _ before _ others (ap follows_basic kind)
+changes_closed opened (basic ∷ others) before has number named is =
+    let kind : HasKind basic_schedule basic = subst (HasKind basic_schedule) (sym (ap first_record is.whole)) is.kind in
+    changes_append _ before _ others (ap follows_basic kind)
     ∙ ap (λ later. changes before ++ later) (ap (changes_from (1 + length before)) (sym (append-nil (basic ∷ others)))
     ∙ unit_then _ (basic ∷ others) _ (inr is) tt
     ∙ append-nil _
     ∙ schedule_change (1 + length before) _ others is
-    ∙ ap (λ change. change ∷ []) (same_change _ opened.number _ (key_meant (key.Schedule opened.key)) _ (progress_meant opened.progress).deletion
-    _ (omega arith) (sym named) (sym has.deletion_is))
+    ∙ ap (λ change. change ∷ []) (search rules)
     )
-  where
-    kind : HasKind basic_schedule basic
-    kind = subst (HasKind basic_schedule) (sym (ap first_record is.whole)) is.kind
 
 -- ---- what a keeper holds
 
@@ -162,12 +160,7 @@ trailer_added keeps old new records line over is kind fields same_header place m
   place = after_end;
   at = place_over _ old _ line _ over is fields (ap (λ k. unit_by_kind k line) kind);
   header_is = same_header ∙ over.header_is ∙ sym (header_stays records _ over.some);
-  kept_are = subst (λ p. IsKept keeps p new.keeper after_end (records ++ line ∷ [])) (sym place) (
-    refl,
-    same_keeper keeps _ new.keeper _ (changes records) _ made (sym (append-nil (changes records))
-        ∙ ap (λ acts. changes records ++ map (as_change (length records + 1)) acts) (sym (ap (λ k. acts_by_kind k line []) kind))
-        ∙ sym (changes_anew records _ (ap follows_basic kind))) over.kept,
-  );
+  kept_are = search (rules, changes_anew);
 }
 
 -- if all units read so far are whole, the reader can take a record that is a unit by itself. The
@@ -181,11 +174,7 @@ single_added keeps old new records line number over is fields begins counted sam
   place = between_units;
   at = place_over _ old _ line _ over is fields begins;
   header_is = same_header ∙ over.header_is ∙ sym (header_stays records _ over.some);
-  kept_are = subst (λ p. IsKept keeps p new.keeper between_units (records ++ line ∷ [])) (sym place) (
-    refl,
-    subst (keeps new.keeper []) ((λ i. changes records ++ changes_of_record (counted i) line [])
-        ∙ sym (changes_anew records _ (anew_by_unit line (λ i. is_some (begins i))))) (made [] (changes records) over.kept),
-  );
+  kept_are = search (rules, changes_anew);
 }
 
 -- if all units read so far are whole, the reader can take a basic schedule. It is then inside this
@@ -200,19 +189,7 @@ basic_added keeps old new opened records line over is kind fields number named h
   place = in_schedule after_basic (line ∷ []);
   at = place_over _ _ _ _ _ over is fields (ap (λ k. unit_by_kind k line) kind);
   header_is = same_header ∙ over.header_is ∙ sym (header_stays _ _ over.some);
-  kept_are = subst (λ p. IsKept keeps p new.keeper (in_schedule after_basic (line ∷ [])) (records ++ line ∷ [])) (sym place) (record {
-    stage = after_basic;
-    lines = line ∷ [];
-    before = records;
-    place_is = refl;
-    stage_is =
-        stage_of_first line ∙ (λ i. cond ((first_line_iff_test _).0 (record { is = is; kind = kind; fields = fields }) i) (Some after_basic) None);
-    whole = refl;
-    number_is = number;
-    key_is = named;
-    progress_is = has;
-    kept = added (changes records) over.kept;
-  });
+  kept_are = search (rules, first_line_iff_test);
 }
 
 -- ---- whole units
@@ -341,14 +318,7 @@ line_closed keeps old new opened line records before outside same_header place c
       place = between_units;
       at = place_followed keeps old opened line records before next.0 next.1 ∙ ap Some out.1;
       header_is = same_header ∙ header_followed keeps old opened line records before;
-      kept_are = subst (λ p. IsKept keeps p new.keeper between_units (records ++ line ∷ [])) (sym place) (
-        refl,
-        subst (keeps new.keeper []) (
-            sym (changes_closed opened (before.lines ++ line ∷ []) before.before before.progress_is before.number_is
-            (before.key_is ∙ ap schedule_named (sym (first_stays before.lines line some))) is)
-            ∙ ap changes (sym ((λ i. before.whole i ++ line ∷ []) ∙ append_assoc before.before before.lines (line ∷ []))))
-            (closed before.lines (changes before.before) some before.progress_is is before.kept),
-      );
+      kept_are = search (rules, changes_closed, append_assoc);
     }
 
 -- ---- which lines may come next
@@ -460,14 +430,12 @@ pub no_header : {K : Type 0} (keeps : Keeps K) (front : Front K) (records : Line
     → IsNoNext records line bad_place
 no_header keeps front records line kind has at is known other =
     let here = (subst (λ p. IsKept keeps p front.keeper has.place records) at has.kept_are).0 in
-    let none : place_by_kind before_header (kind_of line) line ≡ None = (λ i. cond (is_header_kind (known i)) (Some between_units) None)
-    ∙ (λ i. cond (other i) (Some between_units) None) in
+    let none : place_by_kind before_header (kind_of line) line ≡ None = search rules in
     record {
       place = before_header;
       at = has.at ∙ ap Some here;
       nowhere = none_of (is_record line && has_good_fields line) _ none;
-      is = told_cause records _ before_header _ is refl ((λ i. cond (is_none (known i)) bad_kind (place_cause before_header line)) ∙
-          (λ i. cond (is_none (none i)) bad_place (field_cause line)));
+      is = told_cause records _ before_header _ is refl (search rules);
     }
 
 unsound : (line : List ℕ) (at : ℕ) → leftmost_bad_field line ≡ Some at → has_good_fields line ≡ false
@@ -487,10 +455,7 @@ bad_header keeps front records line column has at is known bad =
       place = before_header;
       at = has.at ∙ ap Some here;
       nowhere = λ i. cond (both_false (is_record line) _ (unsound line _ bad) i) (place_by_kind before_header (kind_of line) line) None;
-      is = told_cause records _ before_header _ is refl (
-          (λ i. cond (is_none (known i)) bad_kind (cond (is_none (cond (is_header_kind (known i)) (Some between_units) None)) bad_place (field_cause line)))
-          ∙ (λ i. with_column bad_field (bad i) fault.third_midnight)
-          );
+      is = told_cause records _ before_header _ is refl (search (rules, fault.third_midnight));
     }
 
 -- the reader can take a header with good fields as the first record
@@ -504,31 +469,18 @@ header_added keeps old new records line has at is kind fields same_header place 
     record {
       place = between_units;
       at = place_of_more records before_header line (has.at ∙ ap Some told.0)
-          ∙ test_by_next before_header line between_units (record {
-            is = is;
-            sound = test_by_none (leftmost_bad_field line) fields;
-            place_is = λ i. cond
-                (is_header_kind (kind i)) (Some between_units) None;
-          });
+          ∙ test_by_next before_header line between_units (search (rules, test_by_none));
       header_is = same_header ∙ ap (λ r. header_of (r ++ line ∷ [])) (sym none);
-      kept_are = subst (λ p. IsKept keeps p new.keeper between_units (records ++ line ∷ [])) (sym place) (
-        refl,
-        same_keeper keeps old.keeper new.keeper [] (changes records) (changes (records ++ line ∷ [])) made (
-            sym (append-nil (changes records))
-            ∙ ap (λ acts. changes records ++ map (as_change (length records + 1)) acts) (sym (ap (λ k. acts_by_kind k line []) kind))
-            ∙ sym (changes_anew records line (ap follows_basic kind))) told.1,
-      );
+      kept_are = search rules;
     }
 
 -- between units, no file can continue with a record that begins no unit or has a bad field
 pub no_unit : (line : List ℕ) → ¬ ((is_some (unit_by_kind (kind_of line) line) ≡ true) × HasGoodFields line) → next_place between_units line ≡ None
-no_unit line bad = by (next_place between_units line) refl
-  where
-    by : (next : Option Place) → next_place between_units line ≡ next → next_place between_units line ≡ None
-    by None h = h
-    by (Some next) h =
-        let told = next_by_test between_units line next h in
-        absurd (bad ((λ i. is_some (told.place_is i)), none_by_test (leftmost_bad_field line) told.sound))
+no_unit line bad = (elim (next_place between_units line) as (λ next. next_place between_units line ≡ next → next_place between_units line ≡ None) [
+  | None ↦ λ h. h
+  | Some next ↦ λ h. let told = next_by_test between_units line next h in
+      absurd (bad ((λ i. is_some (told.place_is i)), none_by_test (leftmost_bad_field line) told.sound))
+]) refl
 
 cause_between : (line : List ℕ) (kind : Kind) → HasKind kind line → kind_cause between_units line ≡ place_cause between_units line
 cause_between line kind known = λ i. cond (is_none (known i)) bad_kind (place_cause between_units line)
@@ -556,14 +508,7 @@ pub bad_behind : {K : Type 0} (keeps : Keeps K) (front : Front K) (opened : Open
 bad_behind keeps front opened records line kind has at whole is known stops bad =
     let told = opened_of keeps front opened records has at in
     let may = (whole_iff told.lines told.stage told.stage_is).0 (whole told.lines told.progress_is) in
-    record {
-      place = in_schedule told.stage told.lines;
-      at = has.at ∙ ap Some told.place_is;
-      nowhere = next_behind told.stage told.lines line may stops ∙ no_unit line bad;
-      is = λ limit under.
-          cause_behind_schedule limit (length records) told.stage told.lines line under is may stops
-          ∙ cause_of_record limit (length records) between_units line under refl is ∙ cause_between line kind known;
-    }
+    search (rules, next_behind, no_unit, cause_behind_schedule, cause_of_record, cause_between, told.place_is)
 
 not_may : (stage : Stage) (lines : Lines) → ¬ (may_end stage lines ≡ true) → may_end stage lines ≡ false
 not_may = search rules
@@ -579,15 +524,7 @@ not_whole keeps front opened records line kind has at open_end is known stops =
     let none = stage_stops told.stage (kind_of line) stops in
     let nowhere : next_stage told.stage told.lines line ≡ None = none_stage (is_record line && is_sound_next told.lines line)
     (stage_after told.stage (kind_of line)) none in
-    record {
-      place = in_schedule told.stage told.lines;
-      at = has.at ∙ ap Some told.place_is;
-      nowhere = next_place_of_stage told.stage told.lines line (inl may) ∙ ap (option_map (λ n. place_in n (told.lines ++ line ∷ []))) nowhere;
-      is = λ limit under.
-          cause_in_schedule limit (length records) told.stage told.lines line under is (inl may)
-          ∙ (λ i. cond (is_none (known i)) bad_kind (cond (is_none (stage_after told.stage (kind_of line))) bad_place (field_cause line)))
-          ∙ (λ i. cond (is_none (none i)) bad_place (field_cause line));
-    }
+    search (rules, next_place_of_stage, cause_in_schedule)
   where
     none_stage : (b : Bool) (o : Option Stage) → o ≡ None → cond b o None ≡ None
     none_stage true o h = h
@@ -640,13 +577,5 @@ pub file_ended : {K : Type 0} (keeps : Keeps K) (front : Front K) (records : Lin
     → IsFile records × IsEnded keeps records ended
 file_ended keeps front records ended has at head counted same = (
   file_at_end _ _ _ has at,
-  record {
-    header_is = first records (sym head ∙ has.header_is);
-    count_is = counted;
-    kept = subst (λ k. keeps k [] (changes records)) (sym same) (subst (λ p. IsKept keeps p front.keeper has.place records) at has.kept_are).1;
-  },
+  search rules,
 )
-  where
-    first : (some : Lines) → Some ended.header ≡ header_of some → ended.header ≡ slice_index_or some 0 []
-    first [] none = absurd cc
-    first (line_first ∷ rest) same_first = cc

@@ -15,10 +15,10 @@ use Rattle.docker_model.specs.records.Record.{IsRecord}
 use Rattle.docker_model.specs.file.Text.{lines_of, complete_lines}
 use Rattle.docker_model.specs.file.File.{IsFile, BeginsFile}
 use Rattle.docker_model.specs.file.FaultSoFar.{IsFaultSoFar, sure_lines}
-use Rattle.docker_model.specs.file.FileFault.{IsFileFault, too_many, after_trailer, bad_length, no_end}
+use Rattle.docker_model.specs.file.FileFault.{too_many, after_trailer, bad_length, no_end}
 use Rattle.docker_model.specs.file.FileFault as model
 use Rattle.cif_laws.specs.RecordTest.{is_record, has_good_fields}
-use Rattle.cif_laws.specs.FileStage.{Place, after_end, place_at, next_place}
+use Rattle.cif_laws.specs.FileStage.{Place, after_end, next_place}
 use Rattle.cif_laws.proofs.files.FileStages.{next_by_test, file_iff_place, begins_iff_place}
 use Rattle.cif_laws.specs.RecordCause.{end_cause, length_cause, is_after_end, cause_of_long}
 use Rattle.cif_laws.specs.CompleteLines.{HasNoFeed, open_line, line_left}
@@ -93,13 +93,9 @@ pub after_cause : {K : Type 0} (keeps : Keeps K) (limit : ℕ) (front : Front K)
 after_cause keeps limit front records line has is under = record {
   place = after_end;
   at = (file_iff_place records).0 is;
-  here = inr (none (is_record line && has_good_fields line));
+  here = inr (elim (is_record line && has_good_fields line) as (λ b. cond b nowhere nowhere ≡ nowhere) [ true ↦ refl | false ↦ refl ]);
   is = λ i. cond (lt-leb limit (length records) under i) too_many (end_cause after_end line);
 }
-  where
-    none : (b : Bool) → cond b nowhere nowhere ≡ nowhere
-    none true = refl
-    none false = refl
 
 -- no file can continue with a line that isn't a record
 no_next : (place : Place) (line : List ℕ) → ¬ IsRecord line → next_place place line ≡ None
@@ -168,11 +164,7 @@ pub ended_long : {K : Type 0} (keeps : Keeps K) (old : FileReading K) (limit : �
 ended_long keeps old limit text front fault reading plain many next =
     let bad = not_80 (open_line text ++ front) many in
     subst (IsCauseSoFar limit (text ++ (front ++ 10 ∷ [])) fault.number) (sym next.cause)
-    (subst (λ f. IsFaultSoFar limit (text ++ (front ++ 10 ∷ [])) f) (λ i. record {
-      number = sym next.number i;
-      cause = cause_of_length limit
-          (length (complete_lines text)) next.place (strip_carriage_return (open_line text ++ front)) bad i;
-    })
+    (subst (λ f. IsFaultSoFar limit (text ++ (front ++ 10 ∷ [])) f) (search (rules, cause_of_length))
     (fault_at_feed limit text front [] next.place plain next.at reading.counted.within
     (inr (no_next_place next.place (strip_carriage_return (open_line text ++ front)) bad))))
 
@@ -196,14 +188,7 @@ kept_long keeps old limit text more fault reading plain many next =
     let told = complete_lines_plain text more plain in
     let count = ap (λ (l : Lines). length l) told in
     let within = reading.counted.within in
-    subst (IsCauseSoFar limit (text ++ more) fault.number) (sym next.cause)
-    (subst (λ f. IsFaultSoFar limit (text ++ more) f) (λ i. record {
-      number = (ap (λ n. n + 1) count ∙ sym next.number) i;
-      cause = cause_of_long limit
-          (count i) next.place;
-    })
-    (fault_at_long limit (text ++ more) next.place (ap place_at told ∙ next.at) (omega arith)
-    (above 81 (length (open_line (text ++ more))) (λ few. many (omega arith)))))
+    search (rules, fault_at_long)
 
 -- ---- more text doesn't change a fault
 
@@ -232,14 +217,11 @@ counted_ended = search (rules, lines_of_ended)
 pub end_fault : {K : Type 0} (keeps : Keeps K) (wants : Type 0) (reading : FileReading K) (limit : ℕ) (text : List ℕ) (fault : FileFault)
     → IsReading keeps reading limit text → 0 < length (open_line text)
     → IsFaultNext wants limit (complete_lines text) (strip_carriage_return (open_line text)) fault → IsRefused limit text fault
-end_fault keeps wants reading limit text fault is some next = by (cause_meant fault.cause) next.cause
-  where
-    by : (meant : Option model.FileCause) → IsCauseAfter wants limit (complete_lines text) (strip_carriage_return (open_line text)) meant
-        → IsCauseOf limit text fault.number meant
-    by None told = memory_answer _ (complete_lines text) _ fault.number _ told.1 told.2 next.number (lines_of_open text some)
-    by (Some cause) told =
-        subst (λ f. IsFileFault limit text f) (λ i. record { number = sym next.number i; cause = told.is i })
-        (fault_at_end _ text _ told.at is.counted.within some told.here)
+end_fault keeps wants reading limit text fault is some next = (elim (cause_meant fault.cause) as (λ meant. IsCauseAfter wants limit (complete_lines text)
+    (strip_carriage_return (open_line text)) meant → IsCauseOf limit text fault.number meant) [
+      | None ↦ λ told. memory_answer _ (complete_lines text) _ fault.number _ told.1 told.2 next.number (lines_of_open text some)
+      | Some cause ↦ search (rules, fault_at_end)
+    ]) next.cause
 
 -- if all lines of a text were taken and the reader returns a file, this is the file of the text
 pub file_at_end : {K : Type 0} (keeps : Keeps K) (records : Records K) (limit : ℕ) (text : List ℕ) (ended : Ended K)
@@ -272,8 +254,7 @@ pub reported_refused : (limit : ℕ) (text : List ℕ) (fault : FileFault) → I
 reported_refused limit text fault told = by (cause_meant fault.cause) told
   where
     by : (meant : Option model.FileCause) → IsCauseSoFar limit text fault.number meant → IsCauseOf limit text fault.number meant
-    by None here = subst (λ (l : Lines). WantsMemoryAt limit l fault.number) (sym (lines_of_told text))
-        (memory_more _ (complete_lines text) _ fault.number here)
+    by None here = search (rules, lines_of_told, memory_more)
     by (Some cause) here = inl here.is
 
 -- ---- a line that isn't a record
@@ -297,8 +278,7 @@ refused_within keeps records limit taken cause fault ended counted number within
   place = counted.has.place;
   at = counted.has.at;
   is = told ∙ (λ i. cond (same i) (Some after_trailer) cause)
-      ∙ (let next = counted.next_is in let limits = counted.limit_is in let under : length taken < limit = omega arith in
-      λ i. cond (sym (lt-leb limit (length taken) under) i) (Some too_many) (cond (is_after_end counted.has.place) (Some after_trailer) cause));
+      ∙ (search (rules, lt-leb));
 }
   where
     same : ended ≡ is_after_end counted.has.place
@@ -307,12 +287,8 @@ refused_within keeps records limit taken cause fault ended counted number within
         by : (b d : Bool) → ended ≡ b → is_after_end counted.has.place ≡ d → ended ≡ is_after_end counted.has.place
         by true true h k = h ∙ sym k
         by false false h k = h ∙ sym k
-        by true false h k =
-            let at = some_is _ _ (sym ((file_iff_place _).0 (iff.0 h)) ∙ counted.has.at) in
-            let bad : true ≡ false = ap is_after_end at ∙ k in absurd cc
-        by false true h k =
-            let is = (file_iff_place _).1 (counted.has.at ∙ ap Some (end_by_test _ k)) in
-            let bad : true ≡ false = sym (iff.1 is) ∙ h in absurd cc
+        by true false h k = search (rules, file_iff_place)
+        by false true h k = search (rules, file_iff_place)
 
 -- ---- the bytes of a line that ends
 
@@ -384,10 +360,7 @@ cut_at text end found =
     let at = position-Some (λ b. b == 10) text end 0 found in
     let feed = eqb-true (get_or text end 0) 10 at.1 in
     let after : suc end ≡ end + 1 = omega arith in
-    record {
-      whole = sym (take-append-drop end text) ∙ ap (λ rest. take end text ++ rest) (drop-cons text end 0 at.0 ∙ (λ i. feed i ∷ drop (after i) text));
-      plain = plain_front text end at.0 found;
-    }
+    search (rules, take-append-drop, drop-cons, plain_front)
 
 -- if the search finds no line feed, the text has none
 pub no_feed_by : (text : List ℕ) → position (λ b. b == 10) text ≡ None → HasNoFeed text

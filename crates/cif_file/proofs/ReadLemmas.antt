@@ -85,8 +85,7 @@ fault_of_reported limit text more fault told other = by (cause_meant fault.cause
   where
     by : (cause : Option model.FileCause) → cause_meant fault.cause ≡ cause → IsCauseSoFar limit text fault.number cause → IsFaultOf limit (text ++ more) fault
     by None h so_far = absurd (other (memory_meant fault.cause h))
-    by (Some cause) h so_far =
-        record { cause = cause; cause_is = h; is = fault_in_the_end limit text more (record { number = fault.number; cause = cause }) so_far }
+    by (Some cause) h so_far = search (rules, fault_in_the_end)
 
 refused_of : (limit : ℕ) (text : List ℕ) (fault : FileFault) → IsRefused limit text fault → fault.cause ≢ Memory → IsFaultOf limit text fault
 refused_of limit text fault refused other = by (cause_meant fault.cause) refl refused

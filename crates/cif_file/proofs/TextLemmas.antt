@@ -39,22 +39,17 @@ pub record CutsRecord (text line rest : List ℕ) : Type 0 where
 
 -- a text that begins with a record and a line end is cut at this line end
 pub record_cut : (text line rest : List ℕ) → IsRecord line → BeginsWithEighty text line rest → CutsRecord text line rest
-record_cut text line rest is begins = by begins.ended
-  where
-    by : BeginsWithEnd begins.after rest → CutsRecord text line rest
-    by (inl feed) = record {
-      front = line;
-      cut = record { whole = begins.whole ∙ ap (λ l. line ++ l) feed; plain = record_plain line is };
-      line_is = sym (strip_record line is);
-    }
-    by (inr both) = record {
-      front = line ++ 13 ∷ [];
-      cut = record {
-        whole = begins.whole ∙ ap (λ l. line ++ l) both ∙ sym (append_assoc line (13 ∷ []) (10 ∷ rest));
-        plain = All-append (λ b. (b == 10) ≡ false) line (13 ∷ []) (record_plain line is) (All-from_recursion (λ b. (b == 10) ≡ false) (13 ∷ []) (refl, tt));
-      };
-      line_is = sym (strip_return line);
-    }
+record_cut text line rest is begins = elim begins.ended [
+  | inl feed ↦ search rules
+  | inr both ↦ record {
+    front = line ++ 13 ∷ [];
+    cut = record {
+      whole = begins.whole ∙ ap (λ l. line ++ l) both ∙ sym (append_assoc line (13 ∷ []) (10 ∷ rest));
+      plain = All-append (λ b. (b == 10) ≡ false) line (13 ∷ []) (record_plain line is) (All-from_recursion (λ b. (b == 10) ≡ false) (13 ∷ []) (refl, tt));
+    };
+    line_is = sym (strip_return line);
+  }
+]
 
 -- if a text begins with a line of 80 bytes, a line end follows its first 80 bytes
 pub begins_at : (text line rest : List ℕ) → BeginsWithEighty text line rest → BeginsWithEnd (drop 80 text) rest × (80 ≤ length text)

@@ -1,5 +1,5 @@
 -- Each day number up to the last is the number of exactly one day of the calendar.
-use Rattle.std.proofs.Common.{◌≡◌, ℕ, ℤ, zero, suc, ◌+◌, ◌<◌, ◌≤◌, ◌⊎◌, refl, subst, pos, negsuc, ◌+ℤ◌, arith, inl, inr, rules}
+use Rattle.std.proofs.Common.{◌≡◌, ℕ, ℤ, zero, suc, ◌+◌, ◌<◌, ◌≤◌, refl, subst, pos, negsuc, ◌+ℤ◌, arith, inl, inr, rules}
 use Rattle.std.specs.Prelude.{unsigned_abs}
 use Rattle.std.proofs.lemmas.Bool.{cases_order}
 use Rattle.std.proofs.lemmas.Int.{by_lt_z}
@@ -72,12 +72,7 @@ before_2059 = search (rules, cases_order, end_of_2059, pos)
 
 -- a claim is proved if it is proved in two cases: `a` is below `b`, or `b` is at most `a`
 by_lt : {P : Type 0} (a b : ℕ) → (a < b → P) → (b ≤ a → P) → P
-by_lt {P = P} a b below above = by (cases_order a b)
-  where
-    by : (a ≡ b) ⊎ ((a < b) ⊎ (b < a)) → P
-    by (inl same) = above (omega arith)
-    by (inr (inl lt)) = below lt
-    by (inr (inr gt)) = above (omega arith)
+by_lt {P = P} a b below above = elim (cases_order a b) [ inl same ↦ above (omega arith) | inr (inl lt) ↦ below lt | inr (inr gt) ↦ above (omega arith) ]
 
 -- the next day is in the same month, in the next month or in the next year
 module _ (number year month day : ℕ) (low : suc number ≤ last_day) (h : IsDayOf number year month day) where

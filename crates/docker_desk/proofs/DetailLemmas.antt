@@ -1,5 +1,5 @@
 -- The known files determine the detailed dockers.
-use Rattle.std.proofs.Common.{◌≡◌, ℕ, List, subst}
+use Rattle.std.proofs.Common.{◌≡◌, ℕ, List, subst, rules}
 use Rattle.docker_model.specs.docker.DetailedText.{IsDetailedText}
 use Rattle.docker_model.specs.docker.Permanent.{permanent_table}
 use Rattle.docker_model.specs.run.Run.{Known}
@@ -37,12 +37,5 @@ pub plain_detail : (known : Known) (state : State) → IsKnown known state → H
 plain_detail known state is distinct =
     let plain = some_plain_table _ distinct in (
       plain.0,
-      (
-        plain.1,
-        λ place day text prints.
-            let printed = subst (λ h. ¬ IsDayRefused h day) is.is.horizon_is prints in (
-              detailed_is_plain _ _ _ _ _ _ _ is.good.0 is.good.1 is.is plain.1 printed,
-              permanent_detailed_is_plain _ _ _ _ _ _ _ is.good.0 is.good.1 is.is plain.1 printed,
-            ),
-      ),
+      search (rules, detailed_is_plain, permanent_detailed_is_plain, is.is.horizon_is),
     )

@@ -29,14 +29,8 @@ end_read old new read is ends = subst (λ (met : Option LineView). ReadsAsked ol
 
 -- if the session continues after the answer to a line, or the output failed, the input didn't end
 pub not_ended : {P A B : Type 0} (result : Option Ending) → ((result ≡ None) × A) ⊎ ((result ≡ Some OutputFailed) × B) → result ≡ Some Ended → P
-not_ended result (inl whole) is = absurd (by result whole.0 is)
-  where
-    by : (result : Option Ending) → result ≡ None → result ≡ Some Ended → ⊥
-    by result none some = let never : ⊥ = cc in never
-not_ended result (inr part) is = absurd (by result part.0 is)
-  where
-    by : (result : Option Ending) → result ≡ Some OutputFailed → result ≡ Some Ended → ⊥
-    by result failed some = let never : ⊥ = cc in never
+not_ended result (inl whole) is = absurd (let never : ⊥ = cc in never)
+not_ended result (inr part) is = absurd (let never : ⊥ = cc in never)
 
 -- if no bytes are left after the last line, none are left of the whole input
 pub left_of_all : (old now left : DeviceBytes) (lines : List LineView) → ReadsFirst old lines now → LeavesNone now left → LeavesNone old left

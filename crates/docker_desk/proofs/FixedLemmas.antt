@@ -1,5 +1,5 @@
 -- The known files determine states, dockers and lists.
-use Rattle.std.proofs.Common.{◌≡◌, ℕ, List, [], length, subst, arith, rules}
+use Rattle.std.proofs.Common.{◌≡◌, ℕ, List, length, subst, arith, rules}
 use Rattle.std.proofs.lemmas.List.{length-map}
 use Rattle.std.proofs.lemmas.List.Elements.{All-get_or}
 use Rattle.cif_laws.proofs.lists.ZipSteps.{zip_at}
@@ -9,7 +9,7 @@ use Rattle.docker_model.specs.state.State.{State, live_table}
 use Rattle.docker_model.specs.state.StateText.{dks_2}
 use Rattle.docker_model.specs.state.Summary.{HaveDistinctMoments, IsSummary}
 use Rattle.docker_model.specs.state.Table.{Table, IsPlainTable}
-use Rattle.docker_model.specs.run.Run.{IsOffice, IsStateOf, Known, nothing, office_known}
+use Rattle.docker_model.specs.run.Run.{IsOffice, Known, nothing, office_known}
 use Rattle.docker_model.specs.run.Knowledge.{AreOneKnowledge, HaveSameFiles, IsGoodKnown, sets_of}
 use Rattle.docker_laws.proofs.dockers.PrintedDocker.{printed_is_plain}
 use Rattle.docker_laws.proofs.runs.GoodKnowledge.{good_in_run}
@@ -44,11 +44,7 @@ pub plain_dockers : (known : Known) (state : State) → IsKnown known state → 
 plain_dockers known state is distinct =
     let plain = some_plain_table _ distinct in (
       plain.0,
-      (
-        plain.1,
-        λ place day prints text. printed_is_plain _ _ _ _ _ _ _ is.good.0.0 is.good.0.1 is.good.1 is.is plain.1
-            (subst (λ h. ¬ IsDayRefused h day) is.is.horizon_is prints),
-      ),
+      search (rules, printed_is_plain, is.is.horizon_is),
     )
 
 -- suppose that no two known files have the same moment. Then the state's list of timing points is
@@ -57,11 +53,7 @@ pub plain_places : (known : Known) (state : State) → IsKnown known state → H
     → (plain : Table) × IsPlainTable known.files plain
     × ((text : List ℕ) → IsPlacesText (live_table state) text → IsPlacesText (lapse_table known.horizon plain) text)
 plain_places known state is distinct =
-    let plain = some_plain_table _ distinct in (
-      plain.0,
-      plain.1,
-      λ text. subst (λ (live : Table). IsPlacesText live text) (live_is_lapsed_plain _ _ _ _ is.is plain.1),
-    )
+    let plain = some_plain_table _ distinct in search (rules, live_is_lapsed_plain, plain.1, is.is)
 
 -- at the end of a run, the state of an office is the summary of what the office knows
 pub office_knows : (known : Known) (state : State) → EndsWith known state → IsKnown known state
@@ -74,8 +66,7 @@ office_knows known state end =
     (subst (IsKnown (office_known sets end.office)) end.has (record {
       good = All-get_or (IsGoodKnown dks_2) sets.offices end.office nothing there
           (good_in_run dks_2 end.offices end.events end.exchange.replies end.leaves.good end.leaves.run.replies).0;
-      is = zip_at IsStateOf sets.offices end.exchange.states end.office nothing (record { horizon = 0; ledger = []; entries = [] })
-          end.leaves.run.states there;
+      is = search (rules, zip_at);
     }))
 
 -- in a list of steps, there are as many answers as lines

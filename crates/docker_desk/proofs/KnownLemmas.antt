@@ -43,10 +43,7 @@ nothing_heard = search (rules, known_with_nothing)
 -- the join of two states is the summary of what the two states know together
 known_joined : (old heard : Known) (own other after : State) → IsKnown old own → IsKnown heard other
     → IsJoin own other after → IsKnown (united old heard) after
-known_joined old heard own other after first second join = record {
-  good = united_good dks_2 old heard first.good second.good;
-  is = join_is_summary old.files heard.files old.horizon heard.horizon own other after first.is second.is join;
-}
+known_joined old heard own other after first second join = search (rules, united_good, join_is_summary)
 
 -- after a horizon is set, the state is the summary of what was known before and of the horizon
 known_raised : (old heard : Known) (day : ℕ) (state : State) → IsDay day → heard ≡ record { files = []; horizon = day } → IsKnown old state
@@ -73,8 +70,7 @@ module _ (setting : Setting) (before after : SessionView) where
       → IsKnown (united old heard) after.desk.state
   file_known name old heard hears is =
       let takes = hears.takes in
-      subst (λ h. IsKnown (united old h) after.desk.state) (sym hears.heard_is) (known_joined _ _ _ _ _ is
-      (known_file _ _ takes.is_text.is takes.is_text.within takes.of_file) takes.joined)
+      search (rules, known_joined, known_file, hears.heard_is, takes.of_file, takes.joined)
 
   -- after a state is received, the desk's state is the summary of what was known before and of what
   -- was learned
@@ -112,9 +108,7 @@ module _ (setting : Setting) (before after : SessionView) where
   known_done renew_request text old heard days does hears is = state_known (renewing setting.name) old heard hears is
   known_done (take_request file) text old heard days does hears is = file_known file old heard hears is
   known_done (merge_request other) text old heard days does hears is = state_known (events_of other) old heard hears is
-  known_done (horizon_request day) text old heard days does hears is =
-      subst (λ (m : SessionView). IsKnown (united old heard) m.desk.state) (sym does.1)
-      (known_raised old heard day before.desk.state (days day refl) hears is)
+  known_done (horizon_request day) text old heard days does hears is = search (rules, known_raised, does.1)
   known_done save_request text old heard days does hears is = nothing_heard old heard _ _ hears (same_saved does.result does.desk) is
 
   -- a refused request doesn't change the state

@@ -108,15 +108,14 @@ pub record IsSpoiled (line : List ℕ) (b : ℕ) : Type 0 where
 -- if a byte makes a line bad, the line with this byte isn't a line of at most 255 printable bytes,
 -- whatever bytes follow
 not_text : (line : List ℕ) (b : ℕ) (more : List ℕ) → IsSpoiled line b → ¬ IsLineText (line ++ b ∷ more)
-not_text line b more spoiled text = by spoiled.why
+not_text line b more spoiled text = elim spoiled.why [
+  | inl full ↦ let short = text.short in omega (arith, full, short, length-append line (b ∷ more))
+  | inr bad ↦ let good : is_printable b ≡ true = inside line (recursion_from_All _ (line ++ b ∷ more) text.printable) in cc
+]
   where
     inside : (line : List ℕ) → ArePrintable (line ++ b ∷ more) → is_printable b ≡ true
     inside [] good = good.0
     inside (y ∷ line) good = inside line good.1
-
-    by : (length line ≡ 255) ⊎ (is_printable b ≡ false) → ⊥
-    by (inl full) = let short = text.short in omega (arith, full, short, length-append line (b ∷ more))
-    by (inr bad) = let good : is_printable b ≡ true = inside line (recursion_from_All _ (line ++ b ∷ more) text.printable) in cc
 
 -- if a byte makes a line bad and the rest of the line is skipped, a bad line was read
 pub reads_bad : (old now mid new : Option (List ℕ)) (line : List ℕ) (b : ℕ) (result : Result Asked InputFault) → Reads old line now → Reads now (b ∷ []) mid

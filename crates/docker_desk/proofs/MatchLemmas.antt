@@ -62,6 +62,4 @@ sent_compares text sent before taken own bytes failures_before failures (Err why
             (same ∙ is ∙ sym (take-append-drop n sent) ∙ ap (λ (t : List ℕ). t ++ drop n sent) (sym front))
           where
             front : taken ≡ take n sent
-            front =
-                let all : Some taken ≡ Some (before ++ take n sent) = takes in
-                let one : taken ≡ before ++ take n sent = cc in one ∙ ap (λ (b : List ℕ). b ++ take n sent) none
+            front = search rules

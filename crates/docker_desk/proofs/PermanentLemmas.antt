@@ -1,5 +1,5 @@
 -- The known files determine the dockers without the short-term plan.
-use Rattle.std.proofs.Common.{◌≡◌, ℕ, List, subst}
+use Rattle.std.proofs.Common.{◌≡◌, ℕ, List, subst, rules}
 use Rattle.docker_model.specs.docker.DockerText.{IsDockerText}
 use Rattle.docker_model.specs.docker.Permanent.{permanent_table}
 use Rattle.docker_model.specs.run.Run.{Known}
@@ -28,9 +28,5 @@ pub plain_permanent : (known : Known) (state : State) → IsKnown known state �
 plain_permanent known state is distinct =
     let plain = some_plain_table _ distinct in (
       plain.0,
-      (
-        plain.1,
-        λ place day text prints. permanent_is_plain _ _ _ _ _ _ _ is.good.0 is.good.1 is.is plain.1
-            (subst (λ h. ¬ IsDayRefused h day) is.is.horizon_is prints),
-      ),
+      search (rules, permanent_is_plain, is.is.horizon_is),
     )

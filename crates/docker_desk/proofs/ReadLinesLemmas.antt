@@ -197,8 +197,7 @@ ends_behind ending steps input base text = by ending
                 → Takes between (take n (answer_bytes broken.last.answer)) (Some text)
                 → Takes (behind between) (take n (answer_bytes broken.last.answer)) (Some (base ++ text))
             moves None before is taken = let never : ⊥ = cc in absurd never
-            moves (Some bytes) before is taken =
-                ap behind taken ∙ ap Some (sym (append_assoc base bytes (take n (answer_bytes broken.last.answer))))
+            moves (Some bytes) before is taken = search (rules, append_assoc)
 
     by : (ending : Ending) → EndsSession ending input steps (Some []) (Some text) → EndsSession ending input steps (Some base) (Some (base ++ text))
     by Ended ends = (ends.0, moved ends.1)

@@ -15,10 +15,7 @@ one_split (a ∷ line) (b ∷ other) rest last first second same =
     let head : a ≡ b = cc in
     let tail : line ++ 10 ∷ rest ≡ other ++ 10 ∷ last = cc in
     let split = one_split line other rest last first.1 second.1 tail in
-    (both a b line other head split.0, split.1)
-  where
-    both : (a b : ℕ) (line other : List ℕ) → a ≡ b → line ≡ other → a ∷ line ≡ b ∷ other
-    both a b line other head tail = cc
+    (cc, split.1)
 
 -- a text without a line feed can't be split at a line feed
 no_split : (text line rest : List ℕ) → IsWithoutFeed text → ¬ (text ≡ line ++ 10 ∷ rest)
@@ -73,7 +70,4 @@ one_reading text (line ∷ lines) [] first second = absurd (no_line line first.0
 one_reading text (line ∷ lines) (other ∷ others) first second =
     let next = one_line text first.0 second.0 line other first.1.0 second.1.0 in
     let more = one_reading second.0 lines others (subst (λ t. AreLines t lines) next.1 first.1.1) second.1.1 in
-    both line other lines others next.0 more
-  where
-    both : (line other : LineView) (lines others : List LineView) → line ≡ other → lines ≡ others → line ∷ lines ≡ other ∷ others
-    both line other lines others head tail = cc
+    cc

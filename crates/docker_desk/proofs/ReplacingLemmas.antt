@@ -1,5 +1,5 @@
 -- A draft of a desk replaces bytes that the desk has read or has placed itself.
-use Rattle.std.proofs.Common.{◌≡◌, ℕ, ◌+◌, List, [], ◌∷◌, ◌++◌, length, inl, inr, arith, ap, sym, subst, ◌∙◌, append_assoc, length-append}
+use Rattle.std.proofs.Common.{◌≡◌, ℕ, ◌+◌, List, [], ◌∷◌, ◌++◌, length, inl, inr, ap, sym, subst, ◌∙◌, append_assoc, length-append}
 use Rattle.std.proofs.Common.{rules}
 use Rattle.docker_host.specs.Asked.{IsUnplaced}
 use Rattle.docker_host.specs.History.{Event, Text, closed, drafted, looked, opened}
@@ -30,8 +30,7 @@ module _ (standing : Standing) (name : Text) (history : List Event) (look : ℕ)
       let longer : length history ≡ length front + length (opened name opening.held ∷ more) =
       ap length cut ∙ length-append front (opened name opening.held ∷ more) in
       let number : look ≡ length opening.earlier = opening.number in
-      still (length history) (omega (arith, long, longer, number)) (omega arith)
-      ∙ sym (still (0 + length front) (omega (arith, long, number)) (omega (arith, longer))) ∙ sym at
+      search rules
 
   -- if a look directly follows the replacement of a file, and the file has held the same bytes since
   -- the look, these are the bytes of the draft
@@ -59,8 +58,7 @@ module _ (standing : Standing) (setting : Setting) (first before after : Session
       all = subst (IsStandingOf standing) asked stands
 
       still : IsStill standing setting.name before.look (length before.history)
-      still = subst (IsStill standing setting.name before.look)
-          (let zero : 0 + length before.history ≡ length before.history = omega arith in zero) (happens_at _ 0 _ (drafted setting.name before.look) _ all)
+      still = search (rules, happens_at)
 
   -- if `save` replaced the state's file, it replaced what the desk has read or placed
   pub save_replaces : (text : List ℕ) → BeginsAt setting.name old first → AreSteps setting first steps before

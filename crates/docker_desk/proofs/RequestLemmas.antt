@@ -1,5 +1,5 @@
 -- The words of a line determine its request.
-use Rattle.std.proofs.Common.{◌≡◌, ◌∙◌, ℕ, Bool, true, false, cond, List, [], ◌∷◌, Some, None, refl, sym, ap, subst, rules}
+use Rattle.std.proofs.Common.{◌≡◌, ℕ, Bool, true, false, cond, List, [], ◌∷◌, Some, None, refl, sym, subst, rules}
 use Rattle.std.specs.Prelude.{Option, find}
 use Rattle.std.specs.Str.{bytes_eq}
 use Rattle.std.proofs.lemmas.Slice.Eq.{bytes_eq-Decides}
@@ -23,9 +23,7 @@ found_name word v (u ∷ vs) found = by (bytes_eq (name_of u) word) refl found (
   where
     by : (test : Bool) → bytes_eq (name_of u) word ≡ test → cond test (Some u) (find (λ w. bytes_eq (name_of w) word) vs) ≡ Some v
         → (find (λ w. bytes_eq (name_of w) word) vs ≡ Some v → word ≡ name_of v) → word ≡ name_of v
-    by true same one rest =
-        let this : u ≡ v = cc in
-        sym ((bytes_eq-Decides (name_of u) word).0 same) ∙ ap name_of this
+    by true same one rest = search (rules, bytes_eq-Decides)
     by false differ found rest = rest found
 
 name_back : (word : Text) (v : Verb) → verb_named word ≡ Some v → word ≡ name_of v

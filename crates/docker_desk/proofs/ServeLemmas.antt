@@ -21,14 +21,12 @@ use Rattle.docker_desk.proofs.WritingLemmas.{both_taken, part_of_back, part_of_f
 -- if a text was written and then a second text, their concatenation was written
 pub tells_both : (first second piece behind : List ℕ) (old middle new : FaultsView) → piece ≡ first → behind ≡ second → middle.failures ≡ old.failures
     → Takes old.taken piece middle.taken → TellsText behind middle new → TellsText (first ++ second) old new
-tells_both first second piece behind old middle new one two sound whole tells = by (subst (λ text. TellsText text middle new) two tells)
-  where
-    taken : Takes old.taken first middle.taken
-    taken = subst (λ text. Takes old.taken text middle.taken) one whole
-
-    by : TellsText second middle new → TellsText (first ++ second) old new
-    by (inl next) = inl (next.0 ∙ sound, both_taken old.taken middle.taken new.taken first second taken next.1)
-    by (inr part) = inr (part.0 ∙ ap (λ n. n + 1) sound, part_of_back old.taken middle.taken new.taken first second taken part.1)
+tells_both first second piece behind old middle new one two sound whole tells =
+    let taken : Takes old.taken first middle.taken = subst (λ text. Takes old.taken text middle.taken) one whole in
+    elim (subst (λ text. TellsText text middle new) two tells) [
+      | inl next ↦ inl (next.0 ∙ sound, both_taken old.taken middle.taken new.taken first second taken next.1)
+      | inr part ↦ inr (part.0 ∙ ap (λ n. n + 1) sound, part_of_back old.taken middle.taken new.taken first second taken part.1)
+    ]
 
 -- if writing the first text failed partway, only a part of the concatenation was written
 pub tells_first : (first second piece : List ℕ) (old new : FaultsView) → piece ≡ first → new.failures ≡ old.failures + 1 → TakesPart old.taken piece new.taken

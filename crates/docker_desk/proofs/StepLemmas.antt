@@ -1,7 +1,7 @@
 -- Appending one more answered line to a session.
 use Rattle.std.proofs.Common.{◌≡◌, ◌≢◌, ℕ, ◌+◌, ◌-◌, ◌^◌, List, [], ◌∷◌, ◌++◌, length, take, refl, sym, ◌∙◌, ap, subst, rules}
 use Rattle.std.proofs.lemmas.Grind.{common_steps}
-use Rattle.std.proofs.Common.{arith, append-nil, length-append, Some, None, Ok, Err, true, false, inl, inr}
+use Rattle.std.proofs.Common.{arith, length-append, Some, None, Ok, Err, true, false, inl, inr}
 use Rattle.std.specs.Prelude.{Option, Result}
 use Rattle.cif_device.specs.Device.{Takes}
 use Rattle.docker_cmd.specs.Prepared.{DeviceBytes}
@@ -20,8 +20,8 @@ use Rattle.docker_desk.specs.declared.ending.Ending.TheVariants.{Ended, InputFai
 use Rattle.docker_desk.specs.SessionViews.{SessionView, Setting, Step}
 use Rattle.docker_desk.specs.Doing.{AreSteps, DoesLine, IsStep}
 use Rattle.docker_desk.specs.Answering.{AnswersLines, CountsNext, IsFollowed, LeavesNone, ServesNext, StopsAtEnd, TellsAnswer, answers_text, lines_of}
-use Rattle.docker_desk.proofs.ReadLinesLemmas.{ReadsFirst, begins_none, begins_so_far, broken_at, ended_at, endless_line, endless_lines, ends_on, has_none}
-use Rattle.docker_desk.proofs.ReadLinesLemmas.{lines_both, many_lines, next_endless, next_read, reads_more, reads_none, takes_more, takes_none, told_both}
+use Rattle.docker_desk.proofs.ReadLinesLemmas.{ReadsFirst, begins_none, broken_at, endless_line, endless_lines, ends_on, has_none}
+use Rattle.docker_desk.proofs.ReadLinesLemmas.{lines_both, many_lines, next_read, reads_more, reads_none, takes_more, takes_none, told_both}
 use Rattle.docker_desk.proofs.TurnLemmas.{HasTurned, ended_unread, turn_of, turned_endless, turned_last, turned_more, turned_none, turns_broken, turns_cut}
 use Rattle.docker_desk.proofs.EndLemmas.{left_after_cut}
 
@@ -75,11 +75,8 @@ module _ (setting : Setting) where
           steps = so_far.steps ++ step ∷ [];
           many = (let size = length-append so_far.steps (step ∷ []) in let had = so_far.many in omega (arith, size, had));
           are = steps_more _ now _ so_far.steps _ so_far.are (one_step line _ answer _ does);
-          read = subst (λ lines. ReadsFirst input lines (with_ahead ahead_now new.input)) (sym (lines_both _ (step ∷ [])))
-              (reads_more _ (with_ahead ahead old.input) _ (with_ahead ahead_now new.input) _ so_far.read read);
-          told = subst (λ text. Takes output text new.output)
-              (sym (told_both so_far.steps _ ∙ ap (λ text. answers_text so_far.steps ++ text) (append-nil (answer_bytes answer))))
-              (takes_more output _ new.output _ (answer_bytes answer) so_far.told told);
+          read = search (rules, lines_both, reads_more);
+          told = search (rules, told_both, takes_more);
           turned = turned_more _ ahead _ old.exchanges so_far.turned _ ahead_now _ followed turn;
         }
 
@@ -106,13 +103,7 @@ module _ (setting : Setting) where
     ended_endless full = record {
       steps = so_far.steps;
       are = so_far.are;
-      ends = (
-        begins_so_far _ _ _ so_far.read,
-        (
-          endless_lines _ _ _ so_far.read (many_lines _ _ (so_far.many ∙ full)),
-          so_far.told,
-        ),
-      );
+      ends = search (rules, endless_lines, many_lines);
       turns = turned_endless _ _ _ _ so_far.turned (so_far.many ∙ full);
     }
 
@@ -161,19 +152,10 @@ module _ (setting : Setting) (now : SessionView) (ahead ahead_now : Text) (old m
   endless_before fault is endless = record {
     steps = [];
     are = refl;
-    ends = (
-      begins_none (with_ahead ahead old.input),
-      (
-        endless_line _ (with_ahead ahead_now mid.input) (next_endless _ (with_ahead ahead_now mid.input) _ endless (ends_as (Err fault) is)),
-        told_none,
-      ),
-    );
+    ends = search (rules, endless_line);
     turns = ended_unread _ ahead_now _ mid _ uses _ (
       begins_none (Some (ahead ++ bytes_read uses.gained)),
-      (
-        endless_line _ (Some ahead_now) (next_endless _ (Some ahead_now) _ endless (used_as (Err fault) is)),
-        refl,
-      ),
+      search (rules, endless_line),
     );
   }
 
@@ -205,8 +187,7 @@ module _ (setting : Setting) (now : SessionView) (ahead ahead_now : Text) (old m
         → DoesLine setting line now answer next → TellsAnswer (answer_bytes answer) None mid new ending
         → ServesNext setting now next ahead ahead_now old new ending
     after_line line answer ending meant followed does (inl told) = grind (common_steps, arith, still_left, whole_left, whole_told, turn_of)
-    after_line line answer ending meant followed does (inr part) =
-        subst (ServesNext setting now next ahead ahead_now old new) (sym part.0) (breaks_at line answer meant does part.1)
+    after_line line answer ending meant followed does (inr part) = search (rules, breaks_at, part.0)
 
     -- the same as `after_line`, for a whole line
     pub after_whole : (line passed : List ℕ) (answer : AnswerView) (ending : Option Ending) → asked_meant read ≡ Some (whole_line line) → passed ≡ line
@@ -221,12 +202,10 @@ module _ (setting : Setting) (now : SessionView) (ahead ahead_now : Text) (old m
     after_cut answer ending meant does (inl told) = subst (ServesNext setting now next ahead ahead_now old new) (sym told.0) (record {
       steps = step_of setting cut_line now answer next does ∷ [];
       are = one_step _ cut_line _ answer _ does;
-      ends = ended_at (step_of setting cut_line now answer next does) _ (with_ahead ahead_now new.input) _ new.output
-          refl (still_left _ meant (whole_left (answer_bytes answer) told.1)) (whole_told _ told.1);
+      ends = search rules;
       turns = turns_cut ahead _ old _ result uses _ (step_of setting cut_line now answer next does) _ refl is meant told.1;
     })
-    after_cut answer ending meant does (inr part) =
-        subst (ServesNext setting now next ahead ahead_now old new) (sym part.0) (breaks_at cut_line _ meant does part.1)
+    after_cut answer ending meant does (inr part) = search (rules, breaks_at, part.0)
 
 -- ---- what the streams report
 

@@ -1,5 +1,5 @@
 -- The known files determine the schedules that `train` shows, and the trains that `trains` lists.
-use Rattle.std.proofs.Common.{◌≡◌, ◌≤◌, ℕ, List, Some, subst}
+use Rattle.std.proofs.Common.{◌≡◌, ◌≤◌, ℕ, List, Some, subst, rules}
 use Rattle.std.specs.Prelude.{Option, option_map}
 use Rattle.docker_model.specs.records.Date.{IsDay}
 use Rattle.docker_model.specs.docker.Choice.{IsChosenOn}
@@ -37,8 +37,7 @@ train_known came_from is_plain known state uid day text is train from = record {
   found = train.0;
   text_is = train.2;
   came = λ it same. came_from known.files known.horizon state uid day it is.is (subst (λ found. IsFoundFor state uid day found) same train.1);
-  plain = λ table plain.
-      is_plain known.files known.horizon state table uid day train.0 is.is plain is.good.1 (subst (λ h. h ≤ day) is.is.horizon_is from) train.1;
+  plain = search (rules, is.is.horizon_is);
 }
 
 -- two summaries of the same files have the same list of trains for each day that isn't before

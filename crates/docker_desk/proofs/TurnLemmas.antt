@@ -63,17 +63,13 @@ Stands one two before after exchange =
 stands : (one two before after : List Exchange) (exchange : Exchange) → one ++ two ≡ before ++ exchange ∷ after → Stands one two before after exchange
 stands [] two before after exchange same = inr (before, (refl, same))
 stands (first ∷ one) two [] after exchange same = search rules
-stands (first ∷ one) two (other ∷ before) after exchange same = by (stands one two before after exchange tails)
-  where
-    heads : first ≡ other
-    heads = let head : first ≡ other = cc in head
-
-    tails : one ++ two ≡ before ++ exchange ∷ after
-    tails = let tail : one ++ two ≡ before ++ exchange ∷ after = cc in tail
-
-    by : Stands one two before after exchange → Stands (first ∷ one) two (other ∷ before) after exchange
-    by (inl is) = inl (is.0, (λ i. heads i ∷ is.1 i))
-    by (inr is) = inr (is.0, ((λ i. sym heads i ∷ is.1.0 i), is.1.1))
+stands (first ∷ one) two (other ∷ before) after exchange same =
+    let heads : first ≡ other = let head : first ≡ other = cc in head in
+    let tails : one ++ two ≡ before ++ exchange ∷ after = let tail : one ++ two ≡ before ++ exchange ∷ after = cc in tail in
+    elim (stands one two before after exchange tails) [
+      | inl is ↦ inl (is.0, (λ i. heads i ∷ is.1 i))
+      | inr is ↦ inr (is.0, ((λ i. sym heads i ∷ is.1.0 i), is.1.1))
+    ]
 
 -- a read within a line was made before any line feed was read, and after reads only
 in_line_at : (text : Text) (before : List Exchange) (exchange : Exchange) (after : List Exchange) → ReadsInLine text (before ++ exchange ∷ after)
@@ -115,18 +111,13 @@ module _ (ahead middle : Text) (steps more : List Step) (one two : List Exchange
   pub order_both : AnswersBeforeReading ahead steps one → ReadsOpen (ahead ++ bytes_read one) (lines_of steps) middle
       → bytes_written one ≡ answers_text steps → AnswersBeforeReading middle more two
       → AnswersBeforeReading ahead (steps ++ more) (one ++ two)
-  order_both first open_lines told second = λ before after exchange same is_read. by before after exchange is_read (stands _ two _ after _ same)
+  order_both first open_lines told second = λ before after exchange same is_read. elim (stands _ two _ after _ same) [
+    | inl is ↦ in_first before (first before is.0 exchange is.1 is_read)
+    | inr is ↦ subst (HasAnswered ahead (steps ++ more)) (sym is.1.0) (in_second is.0 (second is.0 after exchange is.1.1 is_read))
+  ]
     where
       in_first : (before : List Exchange) → HasAnswered ahead steps before → HasAnswered ahead (steps ++ more) before
-      in_first before has = record {
-        earlier = has.earlier;
-        later = has.later ++ more;
-        first = ap (λ (all : List Step). all ++ more) has.first ∙ append_assoc has.earlier has.later more;
-        rest = has.rest;
-        lines = has.lines;
-        one = has.one;
-        told = has.told;
-      }
+      in_first before has = search (rules, append_assoc)
 
       total : (before : List Exchange) → (ahead ++ bytes_read one) ++ bytes_read before ≡ ahead ++ bytes_read (one ++ before)
       total before = append_assoc ahead (bytes_read one) (bytes_read before) ∙ ap (λ (t : Text). ahead ++ t) (sym (read_append one _))
@@ -139,17 +130,10 @@ module _ (ahead middle : Text) (steps more : List Step) (one two : List Exchange
         rest = has.rest;
         lines = subst (λ (ls : List LineView). AreFirstLines (ahead ++ bytes_read (one ++ before)) ls has.rest) (sym (lines_both steps _))
             (subst (λ (t : Text). AreFirstLines t (lines_of steps ++ lines_of has.earlier) has.rest) (total before)
-            (first_lines_more ((ahead ++ bytes_read one) ++ bytes_read before) _ (lines_of has.earlier) _ has.rest (open_first _ (lines_of steps) _
-            (open_append (ahead ++ bytes_read one) _ (lines_of steps) _ open_lines)) has.lines));
+            (search (rules, first_lines_more, open_first, open_append)));
         one = has.one;
         told = written_append one _ ∙ (λ i. told i ++ has.told i) ∙ sym (told_both steps _);
       }
-
-      by : (before after : List Exchange) (exchange : Exchange) → IsRead exchange → Stands one two before after exchange
-          → HasAnswered ahead (steps ++ more) before
-      by before after exchange is_read (inl is) = in_first before (first before is.0 exchange is.1 is_read)
-      by before after exchange is_read (inr is) =
-          subst (HasAnswered ahead (steps ++ more)) (sym is.1.0) (in_second is.0 (second is.0 after exchange is.1.1 is_read))
 
 -- ---- a session, line by line
 
@@ -195,14 +179,11 @@ module _ (steps : List Step) (ahead : Text) (exchanges exchanges_now : List Exch
         (subst (λ (t : Text). IsNextLine (ahead ++ t) step.line next) (sym (turn_read turn.reads _ turn.are_writes)) turn.line_is));
     told = written_append turned.gained _ ∙ (λ i. turned.told i ++ answered i)
         ∙ sym (told_both steps _);
-    order = order_both [] ahead steps (step ∷ []) turned.gained (turn.reads ++ turn.writes) turned.order turned.lines turned.told
-        (order_once ahead _ turn.reads _ turn.are_reads turn.are_writes);
+    order = search (rules, order_both, order_once);
   }
     where
       answered : bytes_written (turn.reads ++ turn.writes) ≡ answers_text (step ∷ [])
-      answered = written_append turn.reads _
-          ∙ ap (λ (t : Text). t ++ bytes_written turn.writes) (reads_write_none turn.reads (in_line_are_reads _ turn.reads turn.are_reads))
-          ∙ turn.told ∙ sym (append-nil (answer_bytes step.answer))
+      answered = search (rules, written_append, reads_write_none, in_line_are_reads)
 
   -- the rest of the session ended in this way
   pub turned_last : (ending : Ending) (more : List Step) (exchanges_last : List Exchange)
@@ -213,10 +194,7 @@ module _ (steps : List Step) (ahead : Text) (exchanges exchanges_now : List Exch
     ends = subst (λ (t : Text). EndsSession ending (Some (bytes_read (turned.gained ++ turns.gained))) (steps ++ more) (Some []) (Some t))
         (sym (written_append turned.gained _)) (ends_on ending _ more _ (Some (ahead ++ bytes_read turns.gained)) _ (Some (bytes_written turned.gained)) _ (
           ahead ++ bytes_read turns.gained,
-          (
-            open_first (bytes_read (turned.gained ++ turns.gained)) _ (ahead ++ bytes_read turns.gained) (lines_on _),
-            refl,
-          ),
+          search (rules, open_first, lines_on),
         ) (ap Some turned.told) (ends_behind ending _ (Some (ahead ++ bytes_read turns.gained)) _ (bytes_written turns.gained) turns.ends));
     order = order_both [] ahead steps more turned.gained turns.gained turned.order turned.lines turned.told turns.order;
   }

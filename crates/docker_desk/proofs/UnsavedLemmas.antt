@@ -43,28 +43,11 @@ module _ (name : Text) where
   -- what the desk last read or placed stays so after events are added to the history
   own_more : (old new more : List Event) (look : ℕ) (text : Text) → new ≡ old ++ more → IsOwnText name old look text → IsOwnText name new look text
   own_more old new more look text grown (inl (before, is)) = inl (
-    record {
-      earlier = before.earlier;
-      held = before.held;
-      left = before.left;
-      later = before.later ++ more;
-      whole = grown ∙ ap (λ (events : List Event). events ++ more) before.whole
-          ∙ append_assoc before.earlier (looked name ∷ opened name before.held ∷ closed before.left ∷ before.later) more;
-      number = before.number;
-      state = before.state;
-      reads = before.reads;
-    },
+    search (rules, append_assoc),
     is,
   )
   own_more old new more look text grown (inr (placing, is)) = inr (
-    record {
-      earlier = placing.earlier;
-      bytes = placing.bytes;
-      later = placing.later ++ more;
-      whole = grown ∙ ap (λ (events : List Event). events ++ more) placing.whole
-          ∙ append_assoc placing.earlier (placed name placing.bytes ∷ looked name ∷ placing.later) more;
-      number = placing.number;
-    },
+    search (rules, append_assoc),
     is,
   )
 
@@ -146,8 +129,7 @@ module _ (name : Text) where
       → IsOwnText name new look_now (state_text dks_2 after.state)
   own_saved (Ok done) names_bytes old new from own after look look_now grown same is saved clear =
       subst (λ (s : State). IsOwnText name new look_now (state_text dks_2 s)) (sym (ap (λ (desk : DeskView). desk.state) is))
-      (own_placed old new (named_if names_bytes (state_text dks_2 own.state)) from look_now (state_text dks_2 own.state) grown same
-      (named_text names_bytes (state_text dks_2 own.state)))
+      (search (rules, own_placed, named_text))
   own_saved (Err office.Sink) names_bytes old new from own after look look_now failed same is saved clear = search (rules, own_unsaved)
   own_saved (Err office.Memory) names_bytes old new from own after look look_now grown same is saved clear = search (rules, own_kept)
   own_saved _ names_bytes old new from own after look look_now never same is saved clear = absurd never

@@ -1,5 +1,5 @@
 -- Taking bytes from streams, and the reads that this needs.
-use Rattle.std.proofs.Common.{◌≡◌, ◌≢◌, ℕ, ◌+◌, ◌-◌, ◌^◌, ◌≤◌, List, [], ◌∷◌, ◌++◌, length, refl, sym, ap, subst, ◌∙◌, arith, Some, Ok, Err}
+use Rattle.std.proofs.Common.{◌≡◌, ◌≢◌, ℕ, ◌+◌, ◌-◌, ◌^◌, ◌≤◌, List, [], ◌∷◌, ◌++◌, length, refl, sym, ap, subst, arith, Some, Ok, Err}
 use Rattle.std.proofs.lemmas.Grind.{common_steps}
 use Rattle.std.proofs.Common.{append_assoc, append-nil, length-append, rules}
 use Rattle.std.specs.Prelude.{Result}
@@ -99,10 +99,7 @@ pub uses_bad : (line : Text) (b : ℕ) (ahead mid_ahead ahead_now : Text) (old m
 uses_bad line b ahead mid_ahead ahead_now old mid new result first good spoiled second = record {
   gained = first.gained ++ second.gained;
   reads = record {
-    reads = in_line_append ahead first.gained second.gained first.reads.reads
-        (subst (λ (t : Text). ReadsInLine t second.gained) (sym first.whole)
-        (in_line_behind (line ++ b ∷ []) mid_ahead second.gained
-        (without_both line (b ∷ []) (printable_without line good) (spoiled.other, tt)) second.reads.reads));
+    reads = search (rules, in_line_append, in_line_behind, without_both, printable_without);
     only = only_both first.gained second.gained old mid new first.reads.only second.reads.only;
   };
   ends =
@@ -111,10 +108,7 @@ uses_bad line b ahead mid_ahead ahead_now old mid new result first good spoiled 
 }
   where
     total : ahead ++ bytes_read (first.gained ++ second.gained) ≡ line ++ (b ∷ mid_ahead ++ bytes_read second.gained)
-    total = ap (λ (t : Text). ahead ++ t) (read_append first.gained second.gained)
-        ∙ sym (append_assoc ahead (bytes_read first.gained) (bytes_read second.gained))
-        ∙ ap (λ (t : Text). t ++ bytes_read second.gained) (first.whole ∙ append_assoc line (b ∷ []) mid_ahead)
-        ∙ append_assoc line (b ∷ mid_ahead) (bytes_read second.gained)
+    total = search (rules, read_append, append_assoc)
 
 -- ---- the rest of a bad line
 
@@ -138,41 +132,21 @@ rest_more count b ahead mid_ahead ahead_now old mid new rest other next = record
 pub rest_feed : (count : ℕ) (ahead mid_ahead ahead_now : Text) (old mid new : StreamsView) → UsesRest count ahead mid_ahead old mid
     → Uses (10 ∷ []) mid_ahead ahead_now mid new → UsesLine EndsSkipping ahead ahead_now old new (Ok asked.Bad)
 rest_feed count ahead mid_ahead ahead_now old mid new rest next =
-    let all = uses_more rest.skipped (10 ∷ []) ahead mid_ahead ahead_now old mid new rest.one rest.uses next in record {
-      gained = all.gained;
-      reads = all.reads;
-      ends = record {
-        skipped = rest.skipped;
-        rest = ahead_now;
-        whole = all.whole ∙ append_assoc rest.skipped (10 ∷ []) ahead_now;
-        one = rest.one;
-        behind = refl;
-      };
-    }
+    let all = uses_more rest.skipped (10 ∷ []) ahead mid_ahead ahead_now old mid new rest.one rest.uses next in search
+    (rules, append_assoc, all.gained, all.reads, rest.skipped, all.whole, rest.one)
 
 -- the input ended before the line feed of a bad line
 pub rest_end : (count : ℕ) (ahead mid_ahead ahead_now : Text) (old mid new : StreamsView) → UsesRest count ahead mid_ahead old mid
     → Uses [] mid_ahead ahead_now mid new → ahead_now ≡ [] → UsesLine EndsSkipping ahead ahead_now old new (Ok asked.Cut)
 rest_end count ahead mid_ahead ahead_now old mid new rest next none =
-    let all = uses_more _ _ _ _ _ _ _ _ rest.one rest.uses next in record {
-      gained = all.gained;
-      reads = all.reads;
-      ends = (
-        subst IsWithoutFeed
-            (sym (all.whole ∙ ap (λ (t : Text). (rest.skipped ++ []) ++ t) none ∙ append-nil (rest.skipped ++ []) ∙ append-nil rest.skipped)) rest.one,
-        ap Some none,
-      );
-    }
+    let all = uses_more _ _ _ _ _ _ _ _ rest.one rest.uses next in search rules
 
 -- the input failed within a bad line
 pub rest_failed : (count : ℕ) (ahead mid_ahead ahead_now : Text) (old mid new : StreamsView) → UsesRest count ahead mid_ahead old mid
     → Uses [] mid_ahead ahead_now mid new → UsesLine EndsSkipping ahead ahead_now old new (Err Failed)
 rest_failed count ahead mid_ahead ahead_now old mid new rest next =
-    let all = uses_more rest.skipped [] ahead mid_ahead ahead_now old mid new rest.one rest.uses next in record {
-      gained = all.gained;
-      reads = all.reads;
-      ends = record { lost = rest.skipped ++ []; many = omega arith; read = used_reads (rest.skipped ++ []) ahead ahead_now old new all };
-    }
+    let all = uses_more rest.skipped [] ahead mid_ahead ahead_now old mid new rest.one rest.uses next in search
+    (rules, used_reads, all.gained, all.reads, rest.skipped)
 
 -- the rest of a bad line has too many bytes to count
 pub rest_endless : (count : ℕ) (ahead ahead_now : Text) (old new : StreamsView) → UsesRest count ahead ahead_now old new → count ≡ 2 ^ 64 - 1

@@ -112,18 +112,11 @@ module _ (text : List ℕ) (holds : HoldsState dks_2 most_bytes (Some text) no_s
       asks : AsksOf its.may_write (whole_line asked_line) step.request
       asks = subst (λ (l : LineView). AsksOf its.may_write l step.request) line are.1.0.asks
 
-      request : step.request ≡ Some files_request
-      request = asked_files _ step.request asks.1
-
       does : DoesAsked its (Some files_request) step.before step.answer step.after
-      does = subst (λ (r : Option RequestView). DoesAsked its r step.before step.answer step.after) request are.1.0.does
-
-      same : last ≡ first
-      same = are.1.1 ∙ does.1 ∙ are.0
+      does = subst (λ (r : Option RequestView). DoesAsked its r step.before step.answer step.after) (asked_files _ step.request asks.1) are.1.0.does
 
       history : last.history ≡ placed (codes "S") (Some text) ∷ looked its.name ∷ opened its.name begins.held ∷ closed begins.left ∷ []
-      history = ap (λ (m : SessionView). m.history) same ∙ begins.asked
-          ∙ ap (λ (events : List Event). events ++ looked its.name ∷ opened its.name begins.held ∷ closed begins.left ∷ []) before
+      history = search rules
 
       held : begins.held ≡ Some text
       held = held_there _ its.name _ begins.left named (subst IsShelfHistory history met)
@@ -159,14 +152,8 @@ files_answered text old new status holds history input output met none (inr (una
     (one_reading (codes "files\n") (lines_of served.answers.steps) (whole_line asked_line ∷ []) ends.0 one_line)
     served.answers.are (subst IsShelfHistory served.history met) ends.1
   where
-    ended : served.ending ≡ Ended
-    ended = ended_well served.ending _ (sym served.ends.status_is ∙ none)
-
     ends : EndsSession Ended (Some (codes "files\n")) served.answers.steps (Some []) new.streams.output
-    ends =
-        subst (λ (i : Bytes). EndsSession Ended i served.answers.steps (Some []) new.streams.output) input
-        (subst (λ (o : Bytes). EndsSession Ended old.streams.input served.answers.steps o new.streams.output) output
-        (subst (λ (e : Ending). EndsSession e old.streams.input served.answers.steps old.streams.output new.streams.output) ended served.answers.ends))
+    ends = search rules
 
 -- ---- the text of the state
 

@@ -1,7 +1,7 @@
 -- The state made from one file has the file's ledger item and, for each key, the greatest entry that the file's changes make.
 use Rattle.std.proofs.Common.{◌≡◌, ℕ, ◌≤◌, List, [], ◌∷◌, ◌++◌, map, length, rules}
-use Rattle.std.proofs.Common.{refl, ap, sym, ◌∙◌, subst, inl, inr, ◌⊎◌, Contains, All, Bool, true, false, Some, None, arith}
-use Rattle.std.specs.Prelude.{Option, ◌↔◌, slice_index_or, ◌==◌}
+use Rattle.std.proofs.Common.{refl, ap, sym, ◌∙◌, subst, inl, inr, Contains, All, Some, None, arith}
+use Rattle.std.specs.Prelude.{Option, ◌↔◌, slice_index_or}
 use Rattle.std.specs.Cmp.{tied_itself}
 use Rattle.std.proofs.lemmas.Bool.Decides.{eqb_tells}
 use Rattle.docker_model.specs.file.Change as model
@@ -54,22 +54,21 @@ abbrev OneFloor : stamps.LedgerItem → Type 0
 OneFloor item = (floor : Option FileStamp) × IsFloor (item ∷ []) floor × IsKept floor item.stamp
 
 one_floor : (item : stamps.LedgerItem) → OneFloor item
-one_floor item = by (item.indicator == 70) (eqb_tells item.indicator 70)
-  where
-    by : (b : Bool) → ((b ≡ true) × (item.indicator ≡ 70)) ⊎ ((b ≡ false) × ¬ (item.indicator ≡ 70)) → OneFloor item
-    by b (inl full) = (
-      Some item.stamp,
-      record {
-        full = item;
-        among = cons-Contains-first item [];
-        is_full = full.1;
-        stamped = refl;
-        greatest = λ other among is_full. subst (λ (i : stamps.LedgerItem). IsAtMost file_stamp_cmp i.stamp item.stamp) (only item other among)
-            (not_above_itself item.stamp);
-      },
-      not_above_itself item.stamp,
-    )
-    by b (inr update) = (None, λ other among is_full. update.1 (subst (λ (i : stamps.LedgerItem). IsFull i) (sym (only item other among)) is_full), tt)
+one_floor item = elim (eqb_tells item.indicator 70) [
+  | inl full ↦ (
+    Some item.stamp,
+    record {
+      full = item;
+      among = cons-Contains-first item [];
+      is_full = full.1;
+      stamped = refl;
+      greatest = λ other among is_full. subst (λ (i : stamps.LedgerItem). IsAtMost file_stamp_cmp i.stamp item.stamp) (only item other among)
+          (not_above_itself item.stamp);
+    },
+    not_above_itself item.stamp,
+  )
+  | inr update ↦ (None, λ other among is_full. update.1 (subst (λ (i : stamps.LedgerItem). IsFull i) (sym (only item other among)) is_full), tt)
+]
 
 -- if all bodies put by changes consist of records, so do the bodies in the rows that the changes
 -- make

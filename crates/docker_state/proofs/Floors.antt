@@ -1,5 +1,5 @@
 -- The floor of two ledgers together, given the floor of each.
-use Rattle.std.proofs.Common.{◌≡◌, List, ◌++◌, sym, ◌∙◌, inl, inr, ◌⊎◌, Contains, rules}
+use Rattle.std.proofs.Common.{List, ◌++◌, sym, ◌∙◌, inl, inr, ◌⊎◌, Contains, rules}
 use Rattle.std.specs.Ordering.{on}
 use Rattle.std.proofs.lemmas.List.Elements.{Contains-append_left, Contains-append_right, Contains-append_cases}
 use Rattle.docker_model.specs.state.Order.{IsAtMost, IsGreater}
@@ -11,11 +11,10 @@ use Rattle.cif_laws.proofs.orders.AtMost.{at_most_trans}
 module _ (left right : List LedgerItem) where
   -- if neither ledger has a full extract, the two ledgers together have no full extract
   pub neither_full : HasNoFull left → HasNoFull right → HasNoFull (left ++ right)
-  neither_full one other item among full = by (Contains-append_cases left right item among)
-    where
-      by : Contains left item ⊎ Contains right item → ⊥
-      by (inl here) = one item here full
-      by (inr here) = other item here full
+  neither_full one other item among full = elim (Contains-append_cases left right item among) [
+    | inl here ↦ one item here full
+    | inr here ↦ other item here full
+  ]
 
   -- if only the first ledger has a full extract, the floor of both ledgers together is the floor of the first ledger
   pub left_full : (stamp : stamps.FileStamp) → IsGreatestFull left stamp → HasNoFull right → IsGreatestFull (left ++ right) stamp
@@ -24,12 +23,11 @@ module _ (left right : List LedgerItem) where
     among = Contains-append_left left right one.full one.among;
     is_full = one.is_full;
     stamped = one.stamped;
-    greatest = λ item among full. by item full (Contains-append_cases left right item among);
+    greatest = λ item among full. elim (Contains-append_cases left right item among) [
+      | inl here ↦ one.greatest item here full
+      | inr here ↦ absurd (other item here full)
+    ];
   }
-    where
-      by : (item : LedgerItem) → IsFull item → Contains left item ⊎ Contains right item → IsAtMost file_stamp_cmp item.stamp stamp
-      by item full (inl here) = one.greatest item here full
-      by item full (inr here) = absurd (other item here full)
 
   -- if only the second ledger has a full extract, the floor of both ledgers together is the floor of the second ledger
   pub right_full : (stamp : stamps.FileStamp) → HasNoFull left → IsGreatestFull right stamp → IsGreatestFull (left ++ right) stamp
@@ -38,38 +36,36 @@ module _ (left right : List LedgerItem) where
     among = Contains-append_right left right other.full other.among;
     is_full = other.is_full;
     stamped = other.stamped;
-    greatest = λ item among full. by item full (Contains-append_cases left right item among);
+    greatest = λ item among full. elim (Contains-append_cases left right item among) [
+      | inl here ↦ absurd (one item here full)
+      | inr here ↦ other.greatest item here full
+    ];
   }
-    where
-      by : (item : LedgerItem) → IsFull item → Contains left item ⊎ Contains right item → IsAtMost file_stamp_cmp item.stamp stamp
-      by item full (inl here) = absurd (one item here full)
-      by item full (inr here) = other.greatest item here full
 
   -- if each ledger has a full extract, the floor of both ledgers together is the greater of their floors
   pub both_full : (first second greater : stamps.FileStamp) → IsGreatestFull left first → IsGreatestFull right second
       → IsGreater file_stamp_cmp first second greater
       → IsGreatestFull (left ++ right) greater
-  both_full first second greater one other is = by is.among
+  both_full first second greater one other is = elim is.among [
+    | inl same ↦ record {
+      full = one.full;
+      among = Contains-append_left left right one.full one.among;
+      is_full = one.is_full;
+      stamped = one.stamped ∙ sym same;
+      greatest = λ item among full. up item full (Contains-append_cases left right item among);
+    }
+    | inr same ↦ record {
+      full = other.full;
+      among = Contains-append_right left right other.full other.among;
+      is_full = other.is_full;
+      stamped = other.stamped ∙ sym same;
+      greatest = λ item among full. up item full (Contains-append_cases left right item among);
+    }
+  ]
     where
       up : (item : LedgerItem) → IsFull item → Contains left item ⊎ Contains right item → IsAtMost file_stamp_cmp item.stamp greater
       up item full (inl here) = at_most_trans file_stamp_total item.stamp first greater (one.greatest item here full) is.first
       up item full (inr here) = at_most_trans file_stamp_total item.stamp second greater (other.greatest item here full) is.second
-
-      by : (greater ≡ first) ⊎ (greater ≡ second) → IsGreatestFull (left ++ right) greater
-      by (inl same) = record {
-        full = one.full;
-        among = Contains-append_left left right one.full one.among;
-        is_full = one.is_full;
-        stamped = one.stamped ∙ sym same;
-        greatest = λ item among full. up item full (Contains-append_cases left right item among);
-      }
-      by (inr same) = record {
-        full = other.full;
-        among = Contains-append_right left right other.full other.among;
-        is_full = other.is_full;
-        stamped = other.stamped ∙ sym same;
-        greatest = λ item among full. up item full (Contains-append_cases left right item among);
-      }
 
 -- if `c` is the greater of `a` and `b` by the values of `f`, then `f c` is the greater of `f a` and `f b`
 pub greater_meant : {A B : Type 0} (f : A → B) (cmp : _) (a b c : A) → IsGreater (on f cmp) a b c → IsGreater cmp (f a) (f b) (f c)

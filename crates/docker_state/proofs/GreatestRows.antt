@@ -50,8 +50,7 @@ last_of (row ∷ next ∷ rows) w among = by (is_eq (row_cmp next row)) refl (λ
         let m = rest next (cons-Contains-first next rows) in
         let keys : key_meant next.0 ≡ key_meant row.0 = exact_key (key_meant next.0) (key_meant row.0) (eq_is (row_cmp next row) h) in
         (m.0, m.1, ap (λ (v : Key × Entry). row_cmp v m.0) (sym same) ∙ subst (λ k. ops.key_cmp k (key_meant m.0.0) ≡ Equal) keys m.2)
-    by false h rest (inl same) =
-        (row, cons-Contains-first row (last_rows (next ∷ rows)), ap (λ (v : Key × Entry). row_cmp v row) (sym same) ∙ tied_itself key_total (key_meant row.0))
+    by false h rest (inl same) = search (rules, cons-Contains-first, key_total)
     by false h rest (inr inside) = let m = rest w inside in (m.0, cons-Contains row (last_rows (next ∷ rows)) m.0 m.1, m.2)
 
 module _ (rows : List (Key × Entry)) (sorted : AreSorted rows) (records : (row : Key × Entry) → Contains rows row → HasRecords (op_meant row.1.op)) where

@@ -1,6 +1,6 @@
 -- Memory that is enough for the index of some rows is also enough for the index of rows that follow from them. Such rows are left by a horizon, made by a join,
 -- or made by the changes of a file.
-use Rattle.std.proofs.Common.{◌≡◌, ℕ, List, ◌++◌, refl, ap, subst, inl, inr, ◌⊎◌, Some, None, Bool, true, false, cond, Contains}
+use Rattle.std.proofs.Common.{◌≡◌, ℕ, List, ◌++◌, refl, ap, subst, inl, inr, ◌⊎◌, Some, None, Bool, true, false, cond, Contains, rules}
 use Rattle.std.specs.Prelude.{Option, nat_lt}
 use Rattle.std.proofs.lemmas.List.{map-append}
 use Rattle.docker_model.specs.file.Change as model
@@ -38,8 +38,7 @@ lapsed_op horizon (put_with body) = by (nat_lt (body_end body) horizon)
 -- a row whose op is another op that may have lapsed comes from the items with the key and that other op
 comes : (items : List Item) (row : Keyed) (horizon : ℕ) (op : ops.Op) → Contains {X = Item} items (row.0, op) → lapse horizon op ≡ row.1.op
     → (from : ops.Op) × Contains {X = Item} items (row.0, from) × ((row.1.op ≡ from) ⊎ (body_of row.1.op ≡ None))
-comes items row horizon op among same =
-    (op, among, subst (λ (o : ops.Op). (o ≡ op) ⊎ (body_of o ≡ None)) same (lapsed_op horizon op))
+comes items row horizon op among same = search rules
 
 -- the rows of a join come from the rows of the two states
 joined_come : (first second joined : State) → IsJoin first second joined → ComeFrom (items_of first.entries ++ items_of second.entries) joined.entries
@@ -54,8 +53,7 @@ joined_come first second joined is row among =
 -- memory for the rows of two states is enough for their join
 pub room_of_join : (first second joined : State) → IsJoin first second joined → (index : Index)
     → HasRoomFor (items_of first.entries ++ items_of second.entries) index → HasRoomFor (items_of joined.entries) index
-room_of_join first second joined is =
-    room_for (items_of first.entries ++ items_of second.entries) joined.entries is.entries_ascend (joined_come first second joined is)
+room_of_join first second joined is = search (rules, room_for, joined_come)
 
 pub room_of_turned_join : (first second joined : State) → IsJoin first second joined → (index : Index)
     → HasRoomFor (items_of second.entries ++ items_of first.entries) index → HasRoomFor (items_of joined.entries) index

@@ -1,5 +1,5 @@
 -- Sorted rows, and the last row for each key among them.
-use Rattle.std.proofs.Common.{◌≡◌, List, [], ◌∷◌, inl, inr, ◌⊎◌, refl, ap, sym, ◌∙◌, Bool, true, false, cond, subst, Contains, arith, rules}
+use Rattle.std.proofs.Common.{◌≡◌, List, [], ◌∷◌, inl, inr, ◌⊎◌, refl, ap, sym, ◌∙◌, true, false, cond, subst, Contains, arith, rules}
 use Rattle.std.specs.List.{AllByRecursion}
 use Rattle.std.specs.declared.cmp.Ordering.{Ordering}
 use Rattle.std.specs.declared.cmp.Ordering.TheVariants.{Less, Equal, Greater}
@@ -43,15 +43,13 @@ lasts_all P (row ∷ next ∷ rows) all = grind (arith, (lasts_all P (next ∷ r
 below_all : (row next : Key × Entry) (rows : List (Key × Entry)) → row_cmp row next ≡ Less → AllByRecursion (IsAtMost by_entry next) rows
     → AllByRecursion (IsBelow row_cmp row) rows
 below_all row next [] below later = tt
-below_all row next (other ∷ rows) below later = (by (later_key next other later.0), below_all row next rows below later.1)
-  where
-    by : LaterKey next other → row_cmp row other ≡ Less
-    by (inl less) = key_total.trans (key_meant row.0) (key_meant next.0) (key_meant other.0) below less
-    by (inr same) =
-        let a = key_total.antisymm (key_meant row.0) (key_meant other.0) in
-        let b = key_total.congr (key_meant next.0) (key_meant other.0) (key_meant row.0) same.0 in
-        let d = key_total.antisymm (key_meant row.0) (key_meant next.0) in
-        cc
+below_all row next (other ∷ rows) below later = (
+  elim (later_key next other later.0) [
+    | inl less ↦ key_total.trans (key_meant row.0) (key_meant next.0) (key_meant other.0) below less
+    | inr same ↦ search (rules, key_total, row.0, same.0)
+  ],
+  below_all row next rows below later.1,
+)
 
 -- if rows are sorted, the rows in `last_rows rows` ascend
 pub lasts_ascend : (rows : List (Key × Entry)) → AreSorted rows → AreAscending (last_rows rows)
@@ -99,7 +97,14 @@ lasts_top (row ∷ []) sorted z last w among tied =
     subst (λ (v : Key × Entry). IsAtMost entry_cmp (entry_meant w.1) (entry_meant v.1)) (sym (alone row w among) ∙ alone row z last)
     (at_most_itself entry_total (entry_meant w.1))
 lasts_top (row ∷ next ∷ rows) sorted z last w among tied =
-    by (λ inside behind. lasts_top (next ∷ rows) sorted.1 z inside w behind tied) (is_eq (row_cmp next row)) refl last
+    (elim (is_eq (row_cmp next row)) as (λ b. is_eq (row_cmp next row) ≡ b → Contains
+    (cond b (last_rows (next ∷ rows)) (row ∷ last_rows (next ∷ rows))) z → IsAtMost entry_cmp (entry_meant w.1) (entry_meant z.1)) [
+      | true ↦ λ h inside. in_tail (λ inside behind. lasts_top (next ∷ rows) sorted.1 z inside w behind tied) inside (Contains-cons row (next ∷ rows) w among)
+      | false ↦ λ h inside. elim (Contains-cons row (last_rows (next ∷ rows)) z inside) [
+        | inl same ↦ here h same (Contains-cons row (next ∷ rows) w among)
+        | inr inner ↦ in_tail (λ inside behind. lasts_top (next ∷ rows) sorted.1 z inside w behind tied) inner (Contains-cons row (next ∷ rows) w among)
+      ]
+    ]) refl last
   where
     in_tail : (Contains (last_rows (next ∷ rows)) z → Contains (next ∷ rows) w → IsAtMost entry_cmp (entry_meant w.1) (entry_meant z.1))
         → Contains (last_rows (next ∷ rows)) z → (row ≡ w) ⊎ Contains (next ∷ rows) w → IsAtMost entry_cmp (entry_meant w.1) (entry_meant z.1)
@@ -118,13 +123,3 @@ lasts_top (row ∷ next ∷ rows) sorted z last w among tied =
         let level : row_cmp w row ≡ Equal = ap (row_cmp w) same ∙ tied in
         let turned = key_total.antisymm (key_meant row.0) (key_meant w.0) in
         absurd (let bad : Less ≡ Equal = sym under ∙ turned ∙ ap ordering_reverse level in cc)
-
-    by : (Contains (last_rows (next ∷ rows)) z → Contains (next ∷ rows) w → IsAtMost entry_cmp (entry_meant w.1) (entry_meant z.1))
-        → (b : Bool) → is_eq (row_cmp next row) ≡ b → Contains (cond b (last_rows (next ∷ rows)) (row ∷ last_rows (next ∷ rows))) z
-        → IsAtMost entry_cmp (entry_meant w.1) (entry_meant z.1)
-    by rest true h inside = in_tail rest inside (Contains-cons row (next ∷ rows) w among)
-    by rest false h inside = step (Contains-cons row (last_rows (next ∷ rows)) z inside)
-      where
-        step : (row ≡ z) ⊎ Contains (last_rows (next ∷ rows)) z → IsAtMost entry_cmp (entry_meant w.1) (entry_meant z.1)
-        step (inl same) = here h same (Contains-cons row (next ∷ rows) w among)
-        step (inr inner) = in_tail rest inner (Contains-cons row (next ∷ rows) w among)

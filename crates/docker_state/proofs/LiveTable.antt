@@ -7,7 +7,7 @@ use Rattle.docker_model.specs.file.Change.{Key, Body}
 use Rattle.docker_model.specs.state.Op.{Op, deleted, lapsed, put_with, Entry, key_cmp, body_of}
 use Rattle.docker_model.specs.state.State.{State, AreAscending, IsValid, live_table}
 use Rattle.cif_laws.proofs.lists.Membership.{Contains-cons, cons-Contains, cons-Contains-first, nil-Contains}
-use Rattle.state_laws.proofs.states.PlainTable.{Found, NotFound, find_in, one_per_key, live_at, live_none}
+use Rattle.state_laws.proofs.states.PlainTable.{find_in, one_per_key, live_at, live_none}
 use Rattle.docker_state.specs.Live.{put_before, live_rows, AreInKeyOrder}
 
 -- a key with its body
@@ -48,33 +48,27 @@ from_live (first ∷ entries) key body among = by first.1.op refl (from_live ent
 pub to_live : (entries : List (Key × Entry)) (key : Key) (entry : Entry) (body : Body) → entry.op ≡ put_with body → Contains entries (key, entry)
     → Contains (live_rows entries) (key, body)
 to_live [] key entry body is among = absurd (nil-Contains (key, entry) among)
-to_live (first ∷ entries) key entry body is among = by (to_live entries key entry body is) (Contains-cons first entries (key, entry) among)
+to_live (first ∷ entries) key entry body is among = elim (Contains-cons first entries (key, entry) among) [
+  | inl same ↦ search rules
+  | inr inside ↦ before first.1.op ((to_live entries key entry body is) inside)
+]
   where
     before : (op : Op) → Contains (live_rows entries) (key, body) → Contains (put_before first.0 op (live_rows entries)) (key, body)
     before deleted inside = inside
     before lapsed inside = inside
     before (put_with other) inside = cons-Contains (first.0, other) (live_rows entries) (key, body) inside
 
-    by : (Contains entries (key, entry) → Contains (live_rows entries) (key, body)) → (first ≡ (key, entry)) ⊎ Contains entries (key, entry)
-        → Contains (live_rows (first ∷ entries)) (key, body)
-    by rest (inl same) =
-        let op : first.1.op ≡ put_with body = (λ i. (same i).1.op) ∙ is in
-        subst (λ (o : Op). Contains (put_before first.0 o (live_rows entries)) (key, body)) (sym op)
-        (subst (λ (k : Key). Contains ((k, body) ∷ live_rows entries) (key, body)) (λ i. (sym same i).0) (cons-Contains-first (key, body) (live_rows entries)))
-    by rest (inr inside) = before first.1.op (rest inside)
-
 put_of : (op : Op) (body : Body) → body_of op ≡ Some body → op ≡ put_with body
 put_of = search rules
 
 -- in a valid state, if an entry puts a body under a key, the body is live under the key
 pub live_put : (state : State) → IsValid state → (key : Key) (body : Body) → PutThere state.entries key body → live_table state key ≡ Some body
-live_put state valid key body put = by (find_in state.entries key)
-  where
-    by : Found state.entries key ⊎ NotFound state.entries key → live_table state key ≡ Some body
-    by (inl found) =
-        let same = one_per_key state.entries valid.entries.1 key found.0.1 put.0 found.2 put.1 in
-        live_at state key found.0 found.1 ∙ (λ i. body_of (same i).op) ∙ ap body_of put.2
-    by (inr gone) = absurd (gone.1 put.0 put.1)
+live_put state valid key body put = elim (find_in state.entries key) [
+  | inl found ↦
+      let same = one_per_key state.entries valid.entries.1 key found.0.1 put.0 found.2 put.1 in
+      live_at state key found.0 found.1 ∙ (λ i. body_of (same i).op) ∙ ap body_of put.2
+  | inr gone ↦ absurd (gone.1 put.0 put.1)
+]
 
 -- if a body is live under a key, an entry puts the body under the key
 pub live_has : (state : State) (key : Key) (body : Body) → live_table state key ≡ Some body → PutThere state.entries key body

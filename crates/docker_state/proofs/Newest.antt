@@ -23,14 +23,13 @@ stamp_at_most = search rules
 -- the lower item
 below_with : (a b : LedgerItem) (stamp : FileStamp) → IsBelow ledger_item_cmp a b → IsBelow file_stamp_cmp b.stamp stamp
     → IsBelow file_stamp_cmp a.stamp stamp
-below_with a b stamp before low = by (at_most_or file_stamp_total stamp a.stamp)
-  where
-    by : IsAtMost file_stamp_cmp stamp a.stamp ⊎ IsBelow file_stamp_cmp a.stamp stamp → IsBelow file_stamp_cmp a.stamp stamp
-    by (inr below) = below
-    by (inl above) =
-        let up = at_most_trans file_stamp_total stamp a.stamp b.stamp above (stamp_at_most a b before) in
-        let same = level file_stamp_total b.stamp stamp (at_most_below file_stamp_cmp b.stamp stamp low) up in
-        let bad : Less ≡ Equal = sym low ∙ same in cc
+below_with a b stamp before low = elim (at_most_or file_stamp_total stamp a.stamp) [
+  | inr below ↦ below
+  | inl above ↦
+      let up = at_most_trans file_stamp_total stamp a.stamp b.stamp above (stamp_at_most a b before) in
+      let same = level file_stamp_total b.stamp stamp (at_most_below file_stamp_cmp b.stamp stamp low) up in
+      let bad : Less ≡ Equal = sym low ∙ same in cc
+]
 
 last_there : (before : List LedgerItem) (last : LedgerItem) → Contains (before ++ last ∷ []) last
 last_there [] last = cons-Contains-first last []

@@ -1,5 +1,5 @@
 -- Lemmas on a join in which the second state adds nothing to the first state.
-use Rattle.std.proofs.Common.{◌≡◌, Bool, true, false, List, [], ◌∷◌, ◌++◌, map, length, refl, ap, sym, ◌∙◌, subst, inl, inr, ◌⊎◌, Contains, arith}
+use Rattle.std.proofs.Common.{◌≡◌, Bool, true, false, List, [], ◌∷◌, ◌++◌, map, length, refl, ap, sym, ◌∙◌, subst, inl, inr, Contains, arith}
 use Rattle.std.proofs.lemmas.Grind.{common_steps}
 use Rattle.std.specs.Prelude.{Option, ◌↔◌, IsTrue}
 use Rattle.std.specs.Ordering.{ordering_reverse}
@@ -36,11 +36,10 @@ none_of_no_row = grind (common_steps, arith, nil-Contains)
 -- if neither the first row nor any row after it has to be staged, no row has to be staged
 pub none_of_more : (own : State) (floor : Option FileStamp) (row : Key × Entry) (rows : List (Key × Entry)) → ¬ IsToStage own floor row.0 row.1
     → HasNoneToStage own floor rows → HasNoneToStage own floor (row ∷ rows)
-none_of_more own floor row rows first others key entry among = by (Contains-cons row rows (key, entry) among)
-  where
-    by : (row ≡ (key, entry)) ⊎ Contains rows (key, entry) → ¬ IsToStage own floor key entry
-    by (inl same) = subst (λ (it : Key × Entry). ¬ IsToStage own floor it.0 it.1) same first
-    by (inr behind) = others key entry behind
+none_of_more own floor row rows first others key entry among = elim (Contains-cons row rows (key, entry) among) [
+  | inl same ↦ subst (λ (it : Key × Entry). ¬ IsToStage own floor it.0 it.1) same first
+  | inr behind ↦ others key entry behind
+]
 
 -- the lemma `none_of_more` for rows of the code's type: if neither the first row nor any row after it has to be staged, no row has to be staged
 pub none_of_rest : {A : Type 0} (meant : A → Key × Entry) (own : State) (floor : Option FileStamp) (rows behind : List A) (row : A) → rows ≡ row ∷ behind

@@ -1,5 +1,5 @@
 -- Lemmas on what staging one more entry does, and when a commit has nothing to do.
-use Rattle.std.proofs.Common.{◌≡◌, List, [], ◌++◌, sym, ◌∙◌, subst, inl, inr, ◌⊎◌, Contains, Some, None, eqb-true, arith, rules}
+use Rattle.std.proofs.Common.{◌≡◌, List, [], ◌++◌, sym, subst, inl, inr, ◌⊎◌, Contains, Some, None, eqb-true, arith, rules}
 use Rattle.std.proofs.lemmas.Grind.{common_steps}
 use Rattle.std.specs.Prelude.{Option, ◌↔◌, IsTrue, Bool, true, false, length, ◌==◌}
 use Rattle.std.specs.declared.cmp.Ordering.{Ordering}
@@ -8,7 +8,7 @@ use Rattle.std.specs.Ordering.{is_lt}
 use Rattle.std.proofs.Math.Nat.{max-zero}
 use Rattle.std.proofs.lemmas.List.Elements.{All-contains, Contains-append_left, Contains-append_cases}
 use Rattle.docker_model.specs.file.Change as model
-use Rattle.docker_model.specs.state.Stamp.{FileStamp, LedgerItem, file_stamp_cmp, IsFloor, IsKept}
+use Rattle.docker_model.specs.state.Stamp.{FileStamp, LedgerItem, IsFloor, IsKept}
 use Rattle.docker_model.specs.state.Op as ops
 use Rattle.docker_model.specs.state.Op.{entry_cmp}
 use Rattle.docker_model.specs.state.Order.{IsAtMost}
@@ -19,7 +19,7 @@ use Rattle.state_laws.specs.Staging.{IsGreaterThan, IsToStage, staged_state}
 use Rattle.state_laws.proofs.joins.StagedEntry.{to_stage_by_get}
 use Rattle.cif_laws.proofs.lists.Membership.{all_members, Contains-map, nil-Contains}
 use Rattle.state_laws.proofs.states.Lapse.{entry_stays}
-use Rattle.cif_laws.proofs.orders.Orders.{entry_total, file_stamp_total}
+use Rattle.cif_laws.proofs.orders.Orders.{entry_total}
 use Rattle.state_laws.proofs.states.PlainTable.{one_per_key}
 use Rattle.state_laws.proofs.states.OneJoin.{floor_unique}
 use Rattle.cif_laws.proofs.orders.AtMost.{at_most_itself}
@@ -48,9 +48,7 @@ module _ (own : State) (valid : IsValid own) (items : List LedgerItem) (floor : 
         where
           among : Contains own.ledger top.full ⊎ Contains items top.full → Contains own.ledger top.full
           among (inl here) = here
-          among (inr there) =
-              has top.full there (subst (λ (s : FileStamp). IsAtMost file_stamp_cmp s top.full.stamp) top.stamped
-              (at_most_itself file_stamp_total top.full.stamp))
+          among (inr there) = search rules
 
   all_kept : (item : LedgerItem) → Contains own.ledger item → IsKept floor item.stamp
   all_kept = search (rules, floor_unique, own_floor)
@@ -81,20 +79,14 @@ module _ (own : State) (valid : IsValid own) (items : List LedgerItem) (floor : 
     ledger_ascends = valid.ledger.ascending;
     ledger = λ item. (
       λ among. (Contains-append_left own.ledger items item among, all_kept _ among),
-      λ told. either item told.1 (Contains-append_cases own.ledger items item told.0),
+      λ told. elim (Contains-append_cases own.ledger items item told.0) [ inl here ↦ here | inr there ↦ has item there told.1 ],
     );
     entries_ascend = valid.entries.1;
     entries = λ key entry. (
       λ among. (entry, greatest_own _ _ among, entry_kept _ _ among, has_lapsed _ _ among),
-      λ told.
-          let here = in_first _ _ told.1.among in
-          subst (λ e. Contains own.entries (key, e)) (sym (has_lapsed _ _ here) ∙ told.3) here,
+      search rules,
     );
   })
-    where
-      either : (item : LedgerItem) → IsKept floor item.stamp → Contains own.ledger item ⊎ Contains items item → Contains own.ledger item
-      either item kept (inl here) = here
-      either item kept (inr there) = has item there kept
 
 -- a good entry can be staged after the staged entries, if its key is above their keys
 pub entry_here : (items : List LedgerItem) (staged : List (model.Key × ops.Entry)) (key : model.Key) (entry : ops.Entry) → IsAboveStaged staged key

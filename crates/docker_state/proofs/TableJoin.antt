@@ -1,5 +1,5 @@
 -- The join of two tables has, for each key, the greater of the two tables' entries.
-use Rattle.std.proofs.Common.{◌≡◌, List, ◌++◌, map, refl, ap, sym, ◌∙◌, subst, inl, inr, ◌⊎◌, Contains, Some, None}
+use Rattle.std.proofs.Common.{◌≡◌, List, ◌++◌, map, refl, ap, sym, ◌∙◌, subst, inl, inr, Contains, Some, None}
 use Rattle.std.specs.Prelude.{Option}
 use Rattle.std.specs.Ordering.{on, ord_max}
 use Rattle.std.specs.Cmp.{on_total}
@@ -75,55 +75,48 @@ module _ (first second joined : List (Key × Entry)) (up_first : AreAscending fi
       let same : v ≡ value = cc in
       record {
         among = Contains-append_left (map row_meant first) (map row_meant second) (key, entry_meant value) (in_rows first key value (is_a ∙ ap Some same));
-        greatest = λ other among. by other (Contains-append_cases (map row_meant first) (map row_meant second) (key, other) among);
+        greatest = λ other among. elim (Contains-append_cases (map row_meant first) (map row_meant second) (key, other) among) [
+          | inl inside ↦
+              let there = value_in first up_first key other inside in
+              let level_with : there.0 ≡ value = same_value there.0 value (value_at first key) there.1 (is_a ∙ here) in
+              subst (λ e. IsAtMost entry_cmp e (entry_meant value)) (ap entry_meant (sym level_with) ∙ there.2) (at_most_itself entry_total (entry_meant value))
+          | inr inside ↦ let there = value_in second up_second key other inside in absurd (let none : None ≡ Some there.0 = sym is_b ∙ there.1 in cc)
+        ];
       }
-    where
-      by : (other : ops.Entry) → Contains (map row_meant first) (key, other) ⊎ Contains (map row_meant second) (key, other)
-          → IsAtMost entry_cmp other (entry_meant value)
-      by other (inl inside) =
-          let there = value_in first up_first key other inside in
-          let level_with : there.0 ≡ value = same_value there.0 value (value_at first key) there.1 (is_a ∙ here) in
-          subst (λ e. IsAtMost entry_cmp e (entry_meant value)) (ap entry_meant (sym level_with) ∙ there.2) (at_most_itself entry_total (entry_meant value))
-      by other (inr inside) = let there = value_in second up_second key other inside in absurd (let none : None ≡ Some there.0 = sym is_b ∙ there.1 in cc)
   up key None (Some w) is_a is_b value here =
       let same : w ≡ value = cc in
       record {
         among = Contains-append_right (map row_meant first) (map row_meant second) (key, entry_meant value) (in_rows second key value (is_b ∙ ap Some same));
-        greatest = λ other among. by other (Contains-append_cases (map row_meant first) (map row_meant second) (key, other) among);
+        greatest = λ other among. elim (Contains-append_cases (map row_meant first) (map row_meant second) (key, other) among) [
+          | inr inside ↦
+              let there = value_in second up_second key other inside in
+              let level_with : there.0 ≡ value = same_value there.0 value (value_at second key) there.1 (is_b ∙ here) in
+              subst (λ e. IsAtMost entry_cmp e (entry_meant value)) (ap entry_meant (sym level_with) ∙ there.2) (at_most_itself entry_total (entry_meant value))
+          | inl inside ↦ let there = value_in first up_first key other inside in absurd (let none : None ≡ Some there.0 = sym is_a ∙ there.1 in cc)
+        ];
       }
-    where
-      by : (other : ops.Entry) → Contains (map row_meant first) (key, other) ⊎ Contains (map row_meant second) (key, other)
-          → IsAtMost entry_cmp other (entry_meant value)
-      by other (inr inside) =
-          let there = value_in second up_second key other inside in
-          let level_with : there.0 ≡ value = same_value there.0 value (value_at second key) there.1 (is_b ∙ here) in
-          subst (λ e. IsAtMost entry_cmp e (entry_meant value)) (ap entry_meant (sym level_with) ∙ there.2) (at_most_itself entry_total (entry_meant value))
-      by other (inl inside) = let there = value_in first up_first key other inside in absurd (let none : None ≡ Some there.0 = sym is_a ∙ there.1 in cc)
   up key (Some v) (Some w) is_a is_b value here =
       let top : IsGreater (on entry_meant entry_cmp) v w (higher v w) = greater_max (λ e. HasRecords (op_meant e.op)) (on_total entry_meant entry_total) v w in
       let same : higher v w ≡ value = cc in
       let greater : IsGreater (on entry_meant entry_cmp) v w value = subst (IsGreater (on entry_meant entry_cmp) v w) same top in
       record {
-        among = from greater.among;
-        greatest = λ other among. by greater other (Contains-append_cases (map row_meant first) (map row_meant second) (key, other) among);
+        among = elim greater.among [
+          | inl same ↦ Contains-append_left (map row_meant first) (map row_meant second) (key, entry_meant value)
+              (in_rows first key value (is_a ∙ ap Some (sym same)))
+          | inr same ↦ Contains-append_right (map row_meant first) (map row_meant second) (key, entry_meant value)
+              (in_rows second key value (is_b ∙ ap Some (sym same)))
+        ];
+        greatest = λ other among. elim (Contains-append_cases (map row_meant first) (map row_meant second) (key, other) among) [
+          | inl inside ↦
+              let there = value_in first up_first key other inside in
+              let level_with : v ≡ there.0 = same_value v there.0 (value_at first key) is_a there.1 in
+              subst (λ e. IsAtMost entry_cmp e (entry_meant value)) (ap entry_meant level_with ∙ there.2) greater.first
+          | inr inside ↦
+              let there = value_in second up_second key other inside in
+              let level_with : w ≡ there.0 = same_value w there.0 (value_at second key) is_b there.1 in
+              subst (λ e. IsAtMost entry_cmp e (entry_meant value)) (ap entry_meant level_with ∙ there.2) greater.second
+        ];
       }
-    where
-      from : (value ≡ v) ⊎ (value ≡ w) → Contains Both (key, entry_meant value)
-      from (inl same) = Contains-append_left (map row_meant first) (map row_meant second) (key, entry_meant value)
-          (in_rows first key value (is_a ∙ ap Some (sym same)))
-      from (inr same) = Contains-append_right (map row_meant first) (map row_meant second) (key, entry_meant value)
-          (in_rows second key value (is_b ∙ ap Some (sym same)))
-
-      by : IsGreater (on entry_meant entry_cmp) v w value → (other : ops.Entry)
-          → Contains (map row_meant first) (key, other) ⊎ Contains (map row_meant second) (key, other) → IsAtMost entry_cmp other (entry_meant value)
-      by greater other (inl inside) =
-          let there = value_in first up_first key other inside in
-          let level_with : v ≡ there.0 = same_value v there.0 (value_at first key) is_a there.1 in
-          subst (λ e. IsAtMost entry_cmp e (entry_meant value)) (ap entry_meant level_with ∙ there.2) greater.first
-      by greater other (inr inside) =
-          let there = value_in second up_second key other inside in
-          let level_with : w ≡ there.0 = same_value w there.0 (value_at second key) is_b there.1 in
-          subst (λ e. IsAtMost entry_cmp e (entry_meant value)) (ap entry_meant level_with ∙ there.2) greater.second
 
   -- each entry of the join is the greatest entry that the two tables have for its key
   pub joined_greatest : (key : model.Key) (entry : ops.Entry) → Contains (map row_meant joined) (key, entry) → IsGreatestAmong Both key entry
@@ -142,23 +135,30 @@ module _ (first second joined : List (Key × Entry)) (up_first : AreAscending fi
 
   -- if one of the tables has an entry for a key, so does the join
   pub joined_has : (key : model.Key) (entry : ops.Entry) → Contains Both (key, entry) → (m : ops.Entry) × Contains (map row_meant joined) (key, m)
-  joined_has key entry among = by (Contains-append_cases (map row_meant first) (map row_meant second) (key, entry) among)
-    where
-      by : Contains (map row_meant first) (key, entry) ⊎ Contains (map row_meant second) (key, entry)
-          → (m : ops.Entry) × Contains (map row_meant joined) (key, m)
-      by (inl inside) =
-          let e = value_in first up_first key entry inside in
-          let m = some_left e.0 (value_at second key) in
-          (entry_meant m.0, in_rows joined key m.0 (is.values key ∙ (λ i. picked_value higher (e.1 i) (value_at second key)) ∙ m.1))
-      by (inr inside) =
-          let e = value_in second up_second key entry inside in
-          let m = some_right (value_at first key) e.0 in
-          (entry_meant m.0, in_rows joined key m.0 (is.values key ∙ (λ i. picked_value higher (value_at first key) (e.1 i)) ∙ m.1))
+  joined_has key entry among = elim (Contains-append_cases (map row_meant first) (map row_meant second) (key, entry) among) [
+    | inl inside ↦
+        let e = value_in first up_first key entry inside in
+        let m = some_left e.0 (value_at second key) in
+        (entry_meant m.0, in_rows joined key m.0 (is.values key ∙ (λ i. picked_value higher (e.1 i) (value_at second key)) ∙ m.1))
+    | inr inside ↦
+        let e = value_in second up_second key entry inside in
+        let m = some_right (value_at first key) e.0 in
+        (entry_meant m.0, in_rows joined key m.0 (is.values key ∙ (λ i. picked_value higher (value_at first key) (e.1 i)) ∙ m.1))
+  ]
 
   -- if the bodies' lines are records, the greatest entry that the two tables have for a key is in the join
   pub greatest_joined : ((pair : model.Key × ops.Entry) → Contains Both pair → HasRecords pair.1.op) → (key : model.Key) (entry : ops.Entry)
       → IsGreatestAmong Both key entry → Contains (map row_meant joined) (key, entry)
-  greatest_joined records key entry best = by (Contains-append_cases (map row_meant first) (map row_meant second) (key, entry) best.among)
+  greatest_joined records key entry best = elim (Contains-append_cases (map row_meant first) (map row_meant second) (key, entry) best.among) [
+    | inl inside ↦
+        let e = value_in first up_first _ entry inside in
+        let m = some_left _ (value_at second key) in
+        at e.0 e.2 m.0 (is.values key ∙ (λ i. picked_value higher (e.1 i) (value_at second key)) ∙ m.1)
+    | inr inside ↦
+        let e = value_in _ up_second key _ inside in
+        let m = some_right (value_at first key) _ in
+        at e.0 e.2 m.0 (is.values key ∙ (λ i. picked_value higher (value_at first key) (e.1 i)) ∙ m.1)
+  ]
     where
       at : (e : Entry) → entry_meant e ≡ entry → (m : Entry) → value_at joined key ≡ Some m → Contains (map row_meant joined) (key, entry)
       at e e_is m m_is =
@@ -168,13 +168,3 @@ module _ (first second joined : List (Key × Entry)) (up_first : AreAscending fi
           let same : m ≡ e = exact_entry m _ (records (key, entry_meant m) top.among)
           (subst (λ (v : ops.Entry). HasRecords v.op) (sym e_is) (records (key, entry) best.among)) (ap (entry_cmp (entry_meant m)) e_is ∙ tied) in
           subst (λ v. Contains (map row_meant joined) (key, v)) (ap entry_meant same ∙ e_is) inside
-
-      by : Contains (map row_meant first) (key, entry) ⊎ Contains (map row_meant second) (key, entry) → Contains (map row_meant joined) (key, entry)
-      by (inl inside) =
-          let e = value_in first up_first _ entry inside in
-          let m = some_left _ (value_at second key) in
-          at e.0 e.2 m.0 (is.values key ∙ (λ i. picked_value higher (e.1 i) (value_at second key)) ∙ m.1)
-      by (inr inside) =
-          let e = value_in _ up_second key _ inside in
-          let m = some_right (value_at first key) _ in
-          at e.0 e.2 m.0 (is.values key ∙ (λ i. picked_value higher (value_at first key) (e.1 i)) ∙ m.1)

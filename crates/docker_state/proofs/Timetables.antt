@@ -1,5 +1,5 @@
 -- The rows of a timetable are good rows, since all live rows of a valid state are good rows.
-use Rattle.std.proofs.Common.{refl}
+use Rattle.std.proofs.Common.{rules}
 use Rattle.docker_model.specs.state.State.{State, IsValid, live_table}
 use Rattle.state_laws.specs.CountedRows.{IsOfGoodRows}
 use Rattle.state_laws.proofs.states.CountedRows.{counted_good}
@@ -12,10 +12,7 @@ use Rattle.docker_state.proofs.LiveTable.{live_ascends, live_walks}
 of_good_rows : (state : State) → IsValid state → IsOfGoodRows (live_table state)
 of_good_rows state valid = record {
   rows = live_rows state.entries;
-  are = record {
-    ascending = live_ascends state valid (live_rows state.entries) refl;
-    members = live_walks state valid (live_rows state.entries) refl;
-  };
+  are = search (rules, live_ascends, live_walks);
   bodies = good_bodies state valid;
 }
 

@@ -1,12 +1,12 @@
 -- The rows of a UID's schedules are next to each other. The live rows among them are the UID's live
 -- schedules.
 use Rattle.std.proofs.Common.{◌≡◌, ℕ, zero, suc, ◌-◌, ◌<◌, ◌≤◌, List, [], ◌∷◌, ◌++◌, map, take, drop, length, get_or, rules}
-use Rattle.std.proofs.Common.{refl, ap, sym, ◌∙◌, subst, inl, inr, ◌⊎◌, Bool, true, false, not, nat_lt, Contains, Some, None, arith}
-use Rattle.std.specs.List.{AllByRecursion, AllPairs, position, position_or_len}
+use Rattle.std.proofs.Common.{refl, ap, sym, ◌∙◌, subst, inl, inr, Bool, true, false, not, nat_lt, Contains, Some, None, arith}
+use Rattle.std.specs.List.{AllByRecursion, position, position_or_len}
 use Rattle.std.specs.List.Sorted.{IsPartitionedBy, IsPartitionPoint}
 use Rattle.std.specs.declared.cmp.Ordering.{Ordering}
 use Rattle.std.specs.declared.cmp.Ordering.TheVariants.{Less, Equal, Greater}
-use Rattle.std.specs.Ordering.{is_lt, is_le, ordering_then, ordering_reverse, nat_cmp}
+use Rattle.std.specs.Ordering.{is_lt, is_le, ordering_then, nat_cmp}
 use Rattle.std.specs.Cmp.{tied_itself}
 use Rattle.std.specs.Cmp.Lexicographic.{nat_list_cmp_total}
 use Rattle.std.proofs.lemmas.Bool.{cases_lt, ltb-false}
@@ -27,7 +27,7 @@ use Rattle.cif_laws.proofs.lists.Later.{pairs_from_later}
 use Rattle.cif_change.specs.Meaning.{key_meant}
 use Rattle.cif_change.specs.declared.key.Key.{Key}
 use Rattle.docker_join.specs.declared.entry.Entry.{Entry}
-use Rattle.docker_join.specs.Rows.{row_cmp, AreAscending}
+use Rattle.docker_join.specs.Rows.{AreAscending}
 use Rattle.docker_join.specs.Meaning.{row_meant}
 use Rattle.docker_state.specs.Live.{live_rows}
 use Rattle.docker_state.specs.UidPiece.{to_uid, is_before, AreTo, IsBeginning, IsPieceOfUid}
@@ -50,28 +50,16 @@ module _ (test : Ordering → Bool) (down : GoesDown test) (least : test Less �
       by Equal at told p at_b passed = ap test (nat_list_cmp_total.congr a.uid b.uid uid at ∙ at_b) ∙ passed
       by Less at told Greater at_b passed = absurd (let bad : false ≡ true = sym down.0 ∙ passed in cc)
       by Less at told Less at_b passed = ap test (nat_list_cmp_total.trans a.uid b.uid uid at at_b) ∙ passed
-      by Less at told Equal at_b passed =
-          let other : bytes_cmp uid b.uid ≡ Equal = nat_list_cmp_total.antisymm uid b.uid ∙ ap ordering_reverse at_b in
-          let same : bytes_cmp uid a.uid ≡ bytes_cmp b.uid a.uid = nat_list_cmp_total.congr uid b.uid a.uid other in
-          let turned : bytes_cmp b.uid a.uid ≡ Greater = nat_list_cmp_total.antisymm b.uid a.uid ∙ ap ordering_reverse at in
-          let less : bytes_cmp a.uid uid ≡ Less = nat_list_cmp_total.antisymm a.uid uid ∙ ap ordering_reverse (same ∙ turned) in
-          ap test less ∙ least
+      by Less at told Equal at_b passed = search (rules, nat_list_cmp_total.antisymm, nat_list_cmp_total.congr)
 
   passes_below : (a b : model.Key) → key_cmp a b ≡ Less → test (to_uid b uid) ≡ true → test (to_uid a uid) ≡ true
   passes_below = search (rules, schedules)
 
   parted : (rows : List (Key × Entry)) → AreAscending rows → IsPartitionedBy (λ row. test (to_uid (key_meant row.0) uid)) rows
-  parted rows up = λ i j d before within passes. by i j d passes within (cases_lt i j) before
-    where
-      below_at : AllPairs (IsBelow row_cmp) rows
-      below_at = pairs_from_later _ _ (later_of _ _ up)
-
-      by : (i j : ℕ) (d : Key × Entry) → test (to_uid (key_meant (get_or rows j d).0) uid) ≡ true → j < length rows → (i < j) ⊎ (j ≤ i) → i ≤ j
-          → test (to_uid (key_meant (get_or rows i d).0) uid) ≡ true
-      by i j d passes within (inl strictly) before = passes_below _ _ (below_at i j d strictly within) passes
-      by i j d passes within (inr after) before =
-          let same : j ≡ i = omega arith in
-          subst (λ k. test (to_uid (key_meant (get_or rows k d).0) uid) ≡ true) same passes
+  parted rows up = λ i j d before within passes. elim (cases_lt i j) [
+    | inl strictly ↦ passes_below _ _ ((pairs_from_later _ _ (later_of _ _ up)) i j d strictly within) passes
+    | inr after ↦ let same : j ≡ i = omega arith in subst (λ k. test (to_uid (key_meant (get_or rows k d).0) uid) ≡ true) same passes
+  ]
 
 -- whether a row's key is below the keys of the UID's schedules or among them
 abbrev pub is_up_to : List ℕ → Key × Entry → Bool
@@ -113,23 +101,17 @@ walk_within uid rows end end_is = subst (λ n. n ≤ length rows) (sym end_is) (
 -- the rows before the index `end` are the UID's schedules or come before them, and all other rows come after the UID's schedules
 pub walk_parts : (uid : List ℕ) (rows : List (Key × Entry)) (end : ℕ) → AreAscending rows → end ≡ position_or_len (λ row. not (is_up_to uid row)) rows
     → IsPartitionPoint (λ row. is_up_to uid row ≡ true) (λ row. is_up_to uid row ≡ false) rows end
-walk_parts uid rows end up end_is = (front, back)
+walk_parts uid rows end up end_is = (front, λ k d low high. by k d (is_up_to uid (get_or rows k d)) refl low high)
   where
     holds : (b : Bool) → not b ≡ false → b ≡ true
     holds true h = refl
     holds false h = absurd (let bad : true ≡ false = h in cc)
 
-    fails : (b : Bool) → not b ≡ true → b ≡ false
-    fails true h = absurd (let bad : false ≡ true = h in cc)
-    fails false h = refl
-
     front : (k : ℕ) (d : Key × Entry) → 0 ≤ k → k < end → is_up_to uid (get_or rows k d) ≡ true
     front k d low high = holds (is_up_to uid (get_or rows k d)) (fails_before_first (λ row. not (is_up_to uid row)) rows k d (subst (λ n. k < n) end_is high))
 
     first_fails : (d : Key × Entry) → end < length rows → is_up_to uid (get_or rows end d) ≡ false
-    first_fails d within = subst (λ n. is_up_to uid (get_or rows n d) ≡ false) (sym end_is)
-        (fails (is_up_to uid (get_or rows (position_or_len (λ row. not (is_up_to uid row)) rows) d))
-        (passes_at_first (λ row. not (is_up_to uid row)) rows d (subst (λ n. n < length rows) end_is within)))
+    first_fails d within = search (rules, passes_at_first)
 
     by : (k : ℕ) (d : Key × Entry) (b : Bool) → is_up_to uid (get_or rows k d) ≡ b → end ≤ k → k < length rows → b ≡ false
     by k d false is low high = refl
@@ -137,9 +119,6 @@ walk_parts uid rows end up end_is = (front, back)
         absurd (let passes : is_up_to uid (get_or rows end d) ≡ true = parted_up_to _ _ up end k d low high is in
         let never : is_up_to uid (get_or rows end d) ≡ false = first_fails d (omega arith) in
         let bad : true ≡ false = sym passes ∙ never in cc)
-
-    back : (k : ℕ) (d : Key × Entry) → end ≤ k → k < length rows → is_up_to uid (get_or rows k d) ≡ false
-    back k d low high = by k d (is_up_to uid (get_or rows k d)) refl low high
 
 -- if rows ascend, the rows after the first n ascend too
 pub behind_ascends : (rows : List (Key × Entry)) (n : ℕ) → AreAscending rows → AreAscending (drop n rows)
@@ -155,11 +134,10 @@ module _ {A : Type 0} (P : A → Type 0) where
   front_all xs zero bound all z among = absurd (nil-Contains z among)
   front_all [] (suc n) bound all z among = absurd (let none : suc n ≤ 0 = bound in omega arith)
   front_all (x ∷ xs) (suc n) bound all z among =
-      by (front_all xs n (omega arith) (λ k d low high. all (suc k) d (omega arith) (omega arith)) z) (Contains-cons x (take n xs) z among)
-    where
-      by : (Contains (take n xs) z → P z) → (x ≡ z) ⊎ Contains (take n xs) z → P z
-      by rest (inl same) = subst P same (all 0 x (omega arith) (omega arith))
-      by rest (inr inside) = rest inside
+      elim (Contains-cons x (take n xs) z among) [
+        | inl same ↦ subst P same (all 0 x (omega arith) (omega arith))
+        | inr inside ↦ (front_all xs n (omega arith) (λ k d low high. all (suc k) d (omega arith) (omega arith)) z) inside
+      ]
 
   -- if all elements at indexes from n on have a property, each element after the first n elements
   -- has it
@@ -185,9 +163,7 @@ pub piece_is : (uid : List ℕ) (rows rest here : List (Key × Entry)) (n m : �
 piece_is uid rows rest here n m bound rest_is bound_too here_is first second = record {
   before = take n rows;
   behind = drop m rest;
-  whole =
-      sym (take-append-drop n rows) ∙ ap (λ (xs : List (Key × Entry)). take n rows ++ xs) (sym rest_is ∙ sym (take-append-drop m rest))
-      ∙ sym (append_assoc (take n rows) (take m rest) (drop m rest)) ∙ ap (λ (xs : List (Key × Entry)). (take n rows ++ xs) ++ drop m rest) (sym here_is);
+  whole = search (rules, take-append-drop, append_assoc);
   below = λ row among. less_of (to_uid (key_meant row.0) uid) (front_all (λ r. is_before uid r ≡ true) rows n bound first.0 row among);
   here = λ row among.
       let inside : Contains (take m rest) row = subst (λ (xs : List (Key × Entry)). Contains xs row) here_is among in
@@ -245,16 +221,14 @@ module _ (state : State) (valid : IsValid state) (uid : List ℕ) (rows piece : 
       ap (λ (p : model.Key × ops.Entry). to_uid p.0 uid) (sym row.2) ∙ all row.0 row.1
 
   in_piece : (pair : model.Key × ops.Entry) → Contains state.entries pair → to_uid pair.0 uid ≡ Equal → Contains (map row_meant piece) pair
-  in_piece pair among tied = outer (Contains-append_cases (map row_meant is.before ++ map row_meant piece) (map row_meant is.behind) pair
-      (subst (λ (xs : List (model.Key × ops.Entry)). Contains xs pair) entries_are among))
-    where
-      inner : Contains (map row_meant is.before) pair ⊎ Contains (map row_meant piece) pair → Contains (map row_meant piece) pair
-      inner (inl front) = absurd (let bad : Less ≡ Equal = sym (stands Less is.before is.below pair front) ∙ tied in cc)
-      inner (inr here) = here
-
-      outer : Contains (map row_meant is.before ++ map row_meant piece) pair ⊎ Contains (map row_meant is.behind) pair → Contains (map row_meant piece) pair
-      outer (inl front) = inner (Contains-append_cases (map row_meant is.before) (map row_meant piece) pair front)
-      outer (inr back) = absurd (let bad : Greater ≡ Equal = sym (stands Greater is.behind is.above pair back) ∙ tied in cc)
+  in_piece pair among tied = elim (Contains-append_cases (map row_meant is.before ++ map row_meant piece) (map row_meant is.behind) pair
+      (subst (λ (xs : List (model.Key × ops.Entry)). Contains xs pair) entries_are among)) [
+        | inl front ↦ elim (Contains-append_cases (map row_meant is.before) (map row_meant piece) pair front) [
+          | inl front ↦ absurd (let bad : Less ≡ Equal = sym (stands Less is.before is.below pair front) ∙ tied in cc)
+          | inr here ↦ here
+        ]
+        | inr back ↦ absurd (let bad : Greater ≡ Equal = sym (stands Greater is.behind is.above pair back) ∙ tied in cc)
+      ]
 
   IsLiveSchedule : model.Key → Body → Type 0
   IsLiveSchedule key body = (schedule : ScheduleKey) × (lines : List (List ℕ)) × (key ≡ schedule_key schedule) × (body ≡ schedule_body lines) ×
@@ -282,10 +256,4 @@ module _ (state : State) (valid : IsValid state) (uid : List ℕ) (rows piece : 
   -- the live rows in `piece`, which has the UID's rows, are exactly the UID's live schedules
   pub live_of_uid : (walked : List (model.Key × Body)) → walked ≡ live_rows (map row_meant piece) → AreOfUid (live_table state) uid walked
   unfolding IsLiveSchedule
-  live_of_uid walked walked_is = subst (AreOfUid (live_table state) uid) (sym walked_is) (record {
-    ascending = ascends _ piece_up;
-    members = λ key body. (
-      λ among. live_schedule_of _ _ (from_live _ _ _ among),
-      λ made. back _ _ made,
-    );
-  })
+  live_of_uid walked walked_is = subst (AreOfUid (live_table state) uid) (sym walked_is) (search (rules, ascends, piece_up, live_schedule_of, from_live, back))

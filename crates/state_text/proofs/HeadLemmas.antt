@@ -79,7 +79,8 @@ lines_after count state key stamp n bytes put rest number lines split parted put
       parts = record {
         here = (parts.here, few, few.0, inl refl);
         text = append-nil (head ++ 1 ∷ to_be_bytes w32 n) ∙ sym (append_assoc head (1 ∷ []) (to_be_bytes w32 n))
-            ∙ (λ i. parts.text i ++ written i) ∙ sym (taken 30 (3 ∷ bytes) ((3 ∷ put) ++ number) lines whole (omega arith));
+            ∙ (λ i. parts.text i ++ (ap (to_be_bytes w32) is ∙ four_bytes number number_size number_small) i) ∙ sym
+            (taken 30 (3 ∷ bytes) ((3 ∷ put) ++ number) lines whole (omega arith));
       };
       is = refl;
       fresh = tt;
@@ -96,6 +97,3 @@ lines_after count state key stamp n bytes put rest number lines split parted put
 
     number_small : AreBytes number
     number_small = front_are number lines (subst AreBytes parted (behind_are put rest (subst AreBytes split (bytes_are bytes small))))
-
-    written : to_be_bytes w32 n ≡ number
-    written = ap (to_be_bytes w32) is ∙ four_bytes number number_size number_small

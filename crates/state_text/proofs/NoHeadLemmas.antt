@@ -58,9 +58,9 @@ module _ (state : State) (number : ℕ) (bytes key rest stamp op : List ℕ) (le
   put_read : (k : Key) (s : Stamp) → AreParts state (number ∷ bytes) (before_body k s)
       → (key_in number key ≡ k) × (stamp_in stamp ≡ s) × (slice_index op 0 ≡ 1)
   put_read k s parts = (
-    ap (λ t. key_in t key) (sym tag) ∙ ap (key_in (key_tag k)) (sym same_key) ∙ key_read k parts.here.0.0,
-    ap stamp_in (sym same_stamp) ∙ stamp_read _ s ledger parts.here.1,
-    sym (ap (λ xs. slice_index xs 0) same_op),
+    ap (λ t. key_in t key) (sym tag) ∙ ap (key_in (key_tag k)) (sym (front_same (key_bytes k) _ key _ text size)) ∙ key_read k parts.here.0.0,
+    ap stamp_in (sym (front_same (stamp_bytes s) _ stamp _ behind width)) ∙ stamp_read _ s ledger parts.here.1,
+    sym (ap (λ xs. slice_index xs 0) (back_same (stamp_bytes s) _ stamp _ behind width)),
   )
     where
       tag : key_tag k ≡ number
@@ -72,20 +72,11 @@ module _ (state : State) (number : ℕ) (bytes key rest stamp op : List ℕ) (le
       size : length (key_bytes k) ≡ length key
       size = key_width_is _ parts.here.0.0 ∙ ap key_width tag ∙ sym key_size
 
-      same_key : key_bytes k ≡ key
-      same_key = front_same (key_bytes k) _ key _ text size
-
       behind : stamp_bytes s ++ 1 ∷ [] ≡ stamp ++ op
       behind = back_same (key_bytes k) _ key _ text size
 
       width : length (stamp_bytes s) ≡ length stamp
       width = stamp_width state.ledger _ ledger parts.here.1 ∙ sym stamp_size
-
-      same_stamp : stamp_bytes s ≡ stamp
-      same_stamp = front_same (stamp_bytes s) _ stamp _ behind width
-
-      same_op : 1 ∷ [] ≡ op
-      same_op = back_same (stamp_bytes s) _ stamp _ behind width
 
   -- if the op's byte isn't 1, which stands for a put, the bytes aren't a put's tag, key, stamp and
   -- op
@@ -188,7 +179,8 @@ module _ (state : State) (bytes put rest number lines : List ℕ) (ledger : IsLe
       → AreParts state (3 ∷ put) (before_body (schedule_key key) stamp) × (from_be_bytes w32 number ≡ n)
   lines_read key stamp n len parts = (
     record { here = parts.here.0; text = front_same front behind (3 ∷ put) (number ++ lines) whole size },
-    ap (from_be_bytes w32) (sym (front_same (to_be_bytes w32 n) (drop len (3 ∷ bytes)) number lines after (sym number_size)))
+    ap (from_be_bytes w32) (sym (front_same (to_be_bytes w32 n) (drop len (3 ∷ bytes)) number lines
+        (back_same front behind (3 ∷ put) (number ++ lines) whole size) (sym number_size)))
         ∙ read_32 n (let few = parts.here.1.1 in omega arith),
   )
     where
@@ -205,9 +197,6 @@ module _ (state : State) (bytes put rest number lines : List ℕ) (ledger : IsLe
 
       size : length front ≡ length (3 ∷ put)
       size = let all = put_size state (schedule_key key) stamp ledger parts.here.0 in omega arith
-
-      after : behind ≡ number ++ lines
-      after = back_same front behind (3 ∷ put) (number ++ lines) whole size
 
   -- if no schedule can have this number of lines, the bytes don't begin with the head of a put
   pub bad_count : ¬ IsLineCount (from_be_bytes w32 number) → BeginsWithNoParts IsPutHead state (3 ∷ bytes)

@@ -1,6 +1,6 @@
 -- Lemmas on how stamps are judged, by searching a ledger.
 use Rattle.std.proofs.Common.{◌≡◌, ℕ, zero, suc, ◌<◌, ◌≤◌, List, [], ◌∷◌, length, get_or, map, refl, ap, sym}
-use Rattle.std.proofs.Common.{◌∙◌, subst, inl, inr, ◌⊎◌, arith, true, false, Contains}
+use Rattle.std.proofs.Common.{◌∙◌, subst, inl, inr, arith, true, false, Contains}
 use Rattle.std.specs.Prelude.{IsTrue, ◌↔◌}
 use Rattle.std.specs.List.{AllByRecursion}
 use Rattle.std.specs.List.Sorted.{IsNonDecreasingBy, IsPartitionPoint}
@@ -56,15 +56,13 @@ stamp_order item file x = file_stamp_cmp (item x).stamp file
 -- the comparison of a ledger's stamps with a given stamp is non-decreasing along the ledger
 pub stamps_rise : {A : Type 0} (item : A → LedgerItem) (items : List A) (file : FileStamp) → IsLedger (map item items)
     → IsNonDecreasingBy (λ x. ordering_index (stamp_order item file x)) items
-stamps_rise item items file is = λ i j d before within. by i j d before within (cases_lt i j)
-  where
-    by : (i j : ℕ) (d : _) → i ≤ j → j < length items → (i < j) ⊎ (j ≤ i)
-        → ordering_index (stamp_order item file (get_or items i d)) ≤ ordering_index (stamp_order item file (get_or items j d))
-    by i j d before within (inl strictly) = rises item _ (item (get_or items i d)).stamp (item (get_or items j d)).stamp
-        (stamps_below _ (item (get_or items j d)) (below_at _ items _ j d is.ascending strictly within))
-    by i j d before within (inr after) =
-        let same : i ≡ j = omega arith in
-        subst (λ k. ordering_index (stamp_order item file (get_or items i d)) ≤ ordering_index (stamp_order item file (get_or items k d))) same (omega arith)
+stamps_rise item items file is = λ i j d before within. elim (cases_lt i j) [
+  | inl strictly ↦ rises item _ (item (get_or items i d)).stamp (item (get_or items j d)).stamp
+      (stamps_below _ (item (get_or items j d)) (below_at _ items _ j d is.ascending strictly within))
+  | inr after ↦
+      let same : i ≡ j = omega arith in
+      subst (λ k. ordering_index (stamp_order item file (get_or items i d)) ≤ ordering_index (stamp_order item file (get_or items k d))) same (omega arith)
+]
 
 -- the image of an element is in the mapped list
 mapped : {A B : Type 0} (f : A → B) (xs : List A) (i : ℕ) (y : B) → i < length xs → ((d : A) → f (get_or xs i d) ≡ y) → Contains (map f xs) y
@@ -114,15 +112,13 @@ file_missing item items file at parts = ((λ yes. absurd (let no : false ≡ tru
         by (x ∷ xs) (suc k) below is = let rest = by xs k (omega arith) is in (suc rest.0, rest.1, (let low = rest.2 in omega arith), (λ d. rest.3 d), rest.4)
 
     nowhere : (k : ℕ) × (x : _) × (k < length items) × ((d : _) → get_or items k d ≡ x) × ((item x).stamp ≡ file) → ⊥
-    nowhere told = by (cases_lt told.0 at)
+    nowhere told = elim (cases_lt told.0 at) [
+      | inl before ↦ let below = parts.0 told.0 told.1 (omega arith) before in let same = ap (stamp_order item file) (told.3 told.1) in let tied = equal in cc
+      | inr after ↦ let above = parts.1 told.0 told.1 after told.2 in let same = ap (stamp_order item file) (told.3 told.1) in let tied = equal in cc
+    ]
       where
         equal : file_stamp_cmp (item told.1).stamp file ≡ Equal
         equal = subst (λ s. file_stamp_cmp s file ≡ Equal) (sym told.4) (tied_itself file_stamp_total file)
-
-        by : (told.0 < at) ⊎ (at ≤ told.0) → ⊥
-        by (inl before) = let below = parts.0 told.0 told.1 (omega arith) before in let same = ap (stamp_order item file) (told.3 told.1) in
-            let tied = equal in cc
-        by (inr after) = let above = parts.1 told.0 told.1 after told.2 in let same = ap (stamp_order item file) (told.3 told.1) in let tied = equal in cc
 
 -- no file in a ledger has a stamp whose day is after the last day, 31 December 2059
 pub day_too_late : (ledger : List LedgerItem) (stamp : Stamp) → IsLedger ledger → last_day < stamp.file.moment.day → ¬ IsStampIn ledger stamp

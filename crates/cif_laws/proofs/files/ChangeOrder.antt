@@ -1,7 +1,7 @@
 -- If two changes of a file have the same key, the second belongs to a later record. Two changes of
 -- one record have different keys.
-use Rattle.std.proofs.Common.{◌≡◌, ℕ, ◌+◌, ◌<◌, ◌≤◌, List, [], ◌∷◌, map, inl, inr, ◌⊎◌, refl, arith, Bool, false, rules}
-use Rattle.std.specs.Prelude.{Option, ◌||◌}
+use Rattle.std.proofs.Common.{◌≡◌, ℕ, ◌+◌, ◌<◌, ◌≤◌, List, [], ◌∷◌, map, inl, inr, ◌⊎◌, refl, arith, false, rules}
+use Rattle.std.specs.Prelude.{Option}
 use Rattle.std.specs.List.{AllByRecursion, AllPairs}
 use Rattle.docker_model.specs.records.Record.{Kind, kind_of}
 use Rattle.docker_model.specs.file.Change.{Key, tiploc_key, Act, Change, tiploc_named, new_tiploc_named}
@@ -25,14 +25,9 @@ number_from : (n : ℕ) (lines : List (List ℕ)) → AllByRecursion (λ (c : Ch
 number_from n [] = tt
 number_from n (line ∷ lines) =
     all_append (λ (c : Change). n ≤ c.number) (changes_of_record n line lines) (changes_from (n + 1) lines)
-    (all_weaker (λ (c : Change). c.number ≡ n) (λ (c : Change). n ≤ c.number) (λ c same. omega arith) (changes_of_record n line lines)
-    (number_in n (acts_by_kind (kind_of line) line lines)))
+    (search (rules, all_weaker, number_in))
     (all_weaker (λ (c : Change). n + 1 ≤ c.number) (λ (c : Change). n ≤ c.number) (λ c more. omega arith) (changes_from (n + 1) lines)
     (number_from (n + 1) lines))
-
--- if `a || b` is false, so is `b`
-second_of : (a b : Bool) → (a || b) ≡ false → b ≡ false
-second_of = search rules
 
 code_of : Key → List ℕ
 code_of (tiploc_key code) = code
@@ -40,18 +35,14 @@ code_of _ = []
 
 codes_differ : (line : List ℕ) → keeps_code line ≡ false → ¬ (tiploc_named line ≡ new_tiploc_named line)
 unfolding code_of
-codes_differ = search (rules, second_of, code_of)
+codes_differ = search (rules, code_of)
 
 -- two changes have different keys
 abbrev KeysDiffer : Change → Change → Type 0
 KeysDiffer first second = ¬ (first.key ≡ second.key)
 
-acts_differ : (n : ℕ) (kind : Option Kind) (line : List ℕ) (following : List (List ℕ))
-    → AllLater KeysDiffer (changes_of_acts n (acts_by_kind kind line following))
-acts_differ = search (rules, codes_differ)
-
 acts_apart : (n : ℕ) (kind : Option Kind) (line : List ℕ) (following : List (List ℕ)) → AllLater Apart (changes_of_acts n (acts_by_kind kind line following))
-acts_apart = search (rules, later_weaker_always, acts_differ)
+acts_apart = search (rules, later_weaker_always)
 
 -- for any two changes of these records, the second change belongs to a later record than the first,
 -- or the two changes have different keys
@@ -60,9 +51,7 @@ changes_apart n [] = tt
 changes_apart n (line ∷ lines) =
     later_append_all Apart (changes_of_record n line lines) (changes_from (n + 1) lines)
     (acts_apart n (kind_of line) line lines) (changes_apart (n + 1) lines)
-    (all_weaker (λ (c : Change). c.number ≡ n) (λ c. AllByRecursion (Apart c) (changes_from (n + 1) lines))
-    (λ c same. all_weaker (λ (d : Change). n + 1 ≤ d.number) (Apart c) (λ d more. inl (omega arith)) (changes_from (n + 1) lines) (number_from (n + 1) lines))
-    (changes_of_record n line lines) (number_in n (acts_by_kind (kind_of line) line lines)))
+    (search (rules, all_weaker, number_from, number_in))
 
 -- two changes of a file that belong to the same record have different keys
 pub file_keys_differ : (file : List (List ℕ)) → AllPairs (λ (first second : Change). first.number ≡ second.number → ¬ (first.key ≡ second.key)) (changes file)

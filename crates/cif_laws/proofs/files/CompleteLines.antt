@@ -1,7 +1,7 @@
 -- A text whose bytes are still being read has complete lines, each ended by a line feed, and an
 -- incomplete line after them.
 use Rattle.std.proofs.Common.{ℕ, ◌<◌, List, length, Bool, arith, ◌≡◌, ◌+◌, [], ◌∷◌, ◌++◌, refl, ap, sym, rules}
-use Rattle.std.proofs.Common.{◌∙◌, true, false, map, append-nil, ◌≤◌, subst, cond, length-append}
+use Rattle.std.proofs.Common.{◌∙◌, true, false, map, append-nil, ◌≤◌, cond, length-append}
 use Rattle.std.specs.Prelude.{◌==◌, nat_le, if◌then◌else◌}
 use Rattle.std.specs.List.{slice_split, onto_first}
 use Rattle.std.specs.Str.Lines.{strip_carriage_return}
@@ -180,10 +180,7 @@ sure_lines_grow text more = by on.pieces on.told on.open_is
     on = goes_on text more
 
     longer : (b : Bool) → nat_le 82 (length (open_line text)) ≡ b → (if b then 1 else 0) ≤ (if nat_le 82 (length (open_line text ++ on.first)) then 1 else 0)
-    longer true h =
-        let size = length-append (open_line text) on.first in
-        let low = leb-true 82 (length (open_line text)) h in
-        subst (λ c. 1 ≤ cond c 1 0) (sym (le-leb 82 (length (open_line text ++ on.first)) (omega arith))) (omega arith)
+    longer true h = search (rules, length-append, leb-true, le-leb, on.first)
     longer false h = omega arith
 
     most : (b : Bool) → cond b 1 0 ≤ 1
@@ -192,15 +189,5 @@ sure_lines_grow text more = by on.pieces on.told on.open_is
 
     by : (pieces : Lines) → complete_lines (text ++ more) ≡ complete_lines text ++ map strip_carriage_return (but_last ((open_line text ++ on.first) ∷ pieces))
         → open_line (text ++ more) ≡ last_of ((open_line text ++ on.first) ∷ pieces) → sure_lines text ≤ sure_lines (text ++ more)
-    by [] told last =
-        let before = sure_lines_is text in
-        let behind = sure_lines_is (text ++ more) ∙ (λ i. length (told i) + (if nat_le 82 (length (last i)) then 1 else 0)) in
-        let size = length-append (complete_lines text) [] in
-        let grown = longer (nat_le 82 (length (open_line text))) refl in
-        omega arith
-    by (next ∷ pieces) told last =
-        let before = sure_lines_is text in
-        let behind = sure_lines_is (text ++ more) in
-        let size = ap length told ∙ length-append (complete_lines text) (map strip_carriage_return (but_last ((open_line text ++ on.first) ∷ next ∷ pieces))) in
-        let grown = most (nat_le 82 (length (open_line text))) in
-        omega arith
+    by [] told last = search (rules, sure_lines_is, length-append)
+    by (next ∷ pieces) told last = search (rules, sure_lines_is, length-append, on.first)

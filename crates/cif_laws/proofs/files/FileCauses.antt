@@ -11,22 +11,22 @@ use Rattle.docker_model.specs.records.Record.{Lines, trailer, HasKind, kind_of, 
 use Rattle.docker_model.specs.records.Record.{IsRecord, leftmost_bad_byte}
 use Rattle.docker_model.specs.records.Field.{HasGoodFields, leftmost_bad_field, is_deletion}
 use Rattle.docker_model.specs.file.Journey.{midnights}
-use Rattle.docker_model.specs.file.File.{IsFile, follows_basic, IsWithinJourney, AreExtraDetails, first_record, BeginsFile}
+use Rattle.docker_model.specs.file.File.{IsFile, follows_basic, AreExtraDetails, first_record}
 use Rattle.docker_model.specs.file.Text.{lines_of}
 use Rattle.docker_model.specs.file.FileFault.{EndsInSchedule, HasThirdFall, FileCause, after_trailer}
 use Rattle.docker_model.specs.file.FileFault.{bad_kind, bad_place, bad_field, third_midnight, no_end, cause_rank, IsOutOfPlace}
 use Rattle.docker_model.specs.file.FileFault.{HoldsOf, IsCause, IsRecordFault, IsUnended, FileFault, IsFileFault, IsFileText}
-use Rattle.cif_laws.specs.RecordTest.{has_good_fields, is_record}
+use Rattle.cif_laws.specs.RecordTest.{has_good_fields}
 use Rattle.cif_laws.specs.ScheduleStage.{Stage, stage_after, is_sound_next}
 use Rattle.cif_laws.specs.FileStage.{Place, after_end, next_place, place_from, before_header, in_schedule}
-use Rattle.cif_laws.specs.FileStage.{place_by_kind, unit_by_kind, is_sound_at, IsPlaceOf, place_at}
+use Rattle.cif_laws.specs.FileStage.{place_by_kind, is_sound_at, IsPlaceOf, place_at}
 use Rattle.cif_laws.specs.RecordCause.{is_after_end, with_column, cause_of, place_cause, length_cause, field_cause, end_cause, byte_cause, kind_cause}
 use Rattle.cif_laws.proofs.lists.Membership.{Contains-cons, nil-Contains, cons-Contains-first}
 use Rattle.cif_laws.proofs.lists.AllOf.{all_weaker, all_append}
 use Rattle.cif_laws.proofs.files.GoodChanges.{Follows, follows_by, journey_follows}
 use Rattle.cif_laws.proofs.lists.BoolsAndOptions.{then_some, test_by_none, and_true, some_by_test}
 use Rattle.cif_laws.proofs.records.RecordTests.{record_iff_test, printable_by_none}
-use Rattle.cif_laws.proofs.schedules.ScheduleStages.{HasShape, details_of, IsSound, IsFront, midnights_of_journey, witness, witness_kind}
+use Rattle.cif_laws.proofs.schedules.ScheduleStages.{HasShape, details_of, midnights_of_journey, witness, witness_kind}
 use Rattle.cif_laws.proofs.files.FileStages.{next_by_test, stage_stops, IsWithin, IsAt, next_at, at_of_place, witness_next, at_begins}
 use Rattle.cif_laws.proofs.files.FileStages.{begins_iff_place, file_iff_place, place_of_more, begins_next_iff, one_place}
 
@@ -69,24 +69,18 @@ trailer_among records is = subst (λ r. Any (HasKind trailer) r) (sym is.whole)
 
 -- ---- which kinds of record are allowed at a `Place`
 
-same_unit_by_kind : (kind : Option Kind) (first second : List ℕ) → is_some (unit_by_kind kind first) ≡ is_some (unit_by_kind kind second)
-same_unit_by_kind = search rules
-
 -- whether a record is allowed at a `Place` depends only on the record's kind
 pub same_place_by_kind : (place : Place) (kind : Option Kind) (first second : List ℕ) → is_some (place_by_kind place kind first) ≡ is_some
     (place_by_kind place kind second)
-same_place_by_kind = search (rules, same_unit_by_kind)
+same_place_by_kind = search rules
 
 -- ---- which record makes a schedule pass midnight a third time
 
 no_basic : (line : List ℕ) → Follows line → ¬ HasKind basic_schedule line
 no_basic line follows basic = let bad : false ≡ true = sym (ap follows_basic basic) ∙ follows in cc
 
-within_follows : (line : List ℕ) → IsWithinJourney line → Follows line
-within_follows = search (rules, follows_by)
-
 shape_follows : (stage : Stage) (extra journey : Lines) → HasShape stage extra journey → AllByRecursion Follows journey
-shape_follows = search (rules, follows_by, all_weaker, within_follows, journey_follows)
+shape_follows = search (rules, follows_by, all_weaker, journey_follows)
 
 details_follow : (extra : Lines) → AreExtraDetails extra → AllByRecursion Follows extra
 details_follow = search (rules, follows_by)
@@ -108,11 +102,13 @@ ends_in_schedule stage lines records within = record {
 -- the third time at this record
 third_fall : (stage : Stage) (lines records : Lines) (line : List ℕ) → IsWithin stage lines records → HasGoodFields line → is_sound_next lines line ≡ false
     → HasThirdFall records line
-third_fall stage lines records line within fields test = (lines, ends_in_schedule stage _ records within, few within.front.sound, third)
+third_fall stage lines records line within fields test = (
+  lines,
+  ends_in_schedule stage _ records within,
+  search (rules, midnights_of_journey, details_of),
+  third,
+)
   where
-    front : IsFront stage lines
-    front = within.front
-
     neither : (a b : Bool) → (a || b) ≡ false → (a ≡ false) × (b ≡ false)
     neither true b h = (cc, cc)
     neither false b h = (refl, h)
@@ -126,11 +122,6 @@ third_fall stage lines records line within fields test = (lines, ends_in_schedul
 
     third : 2 < midnights (lines ++ line ∷ [])
     third = leb-false (midnights (lines ++ line ∷ [])) 2 (and_false (has_good_fields line) _ (test_by_none _ fields) parts.1)
-
-    few : IsSound front.basic front.journey → midnights lines ≤ 2
-    few (inl deletion) = let bad : true ≡ false = sym (subst (λ l. is_deletion (first_record l) ≡ true) (sym front.whole) deletion) ∙ parts.0 in cc
-    few (inr good) = subst (λ n. n ≤ 2) (sym (ap midnights front.whole ∙ midnights_of_journey front.basic _ front.journey front.kind
-        (details_of _ front.extra _ front.shape))) good.falls
 
 -- ---- `cause_of` is the cause of the fault at a record
 
@@ -150,22 +141,19 @@ module _ (limit : ℕ) (earlier : Lines) (place : Place) (line : List ℕ) (foun
   pub out_of_place : place_by_kind place (kind_of line) line ≡ None → IsOutOfPlace earlier line
   out_of_place none next same begins =
       let told = (begins_next_iff earlier place next found).0 begins in
-      let some : is_some (place_by_kind place (kind_of line) next) ≡ true = (λ i. is_some (place_by_kind place (sym same i) next))
-      ∙ ap is_some told.1.place_is in
+      let some : is_some (place_by_kind place (kind_of line) next) ≡ true = search (rules, told.1.place_is) in
       let bad : false ≡ true = (λ i. is_some (sym none i)) ∙ same_place_by_kind place (kind_of line) line next ∙ some in cc
 
   -- if the kind of a record is allowed at the `Place`, the record isn't out of place
   pub in_place : (next : Place) → ¬ (kind_of line ≡ None) → place_by_kind place (kind_of line) line ≡ Some next → ¬ IsOutOfPlace earlier line
-  in_place next known told out = by (kind_of line) refl
-    where
-      by : (kind : Option Kind) → kind_of line ≡ kind → ⊥
-      by None h = known h
-      by (Some kind) h =
-          let some : is_some (place_by_kind place (Some kind) (witness kind)) ≡ true =
-          same_place_by_kind _ (Some kind) _ line ∙ (λ i. is_some (place_by_kind place (sym h i) line)) ∙ ap is_some told in
-          let there = some_by_test _ some in
-          out (witness kind) (witness_kind kind ∙ sym h) (at_begins _ (earlier ++ witness kind ∷ [])
-          (next_at _ earlier _ there.0 at (witness_next _ earlier _ there.0 at there.1)))
+  in_place next known told out = (elim (kind_of line) as (λ kind. kind_of line ≡ kind → ⊥) [
+    | None ↦ λ h. known h
+    | Some kind ↦ λ h. let some : is_some (place_by_kind place (Some kind) (witness kind)) ≡ true =
+        same_place_by_kind _ (Some kind) _ line ∙ (λ i. is_some (place_by_kind place (sym h i) line)) ∙ ap is_some told in
+        let there = some_by_test _ some in
+        out (witness kind) (witness_kind kind ∙ sym h) (at_begins _ (earlier ++ witness kind ∷ [])
+        (next_at _ earlier _ there.0 at (witness_next _ earlier _ there.0 at there.1)))
+  ]) refl
 
   -- suppose that a record has good fields, and that its kind is allowed at the reader's `Place`. If
   -- the record still leads to no next `Place`, its schedule passes midnight for the third time at
@@ -178,10 +166,7 @@ module _ (limit : ℕ) (earlier : Lines) (place : Place) (line : List ℕ) (foun
       unsound = pick (is_sound_at place line) refl
         where
           pick : (b : Bool) → is_sound_at place line ≡ b → is_sound_at place line ≡ false
-          pick true h =
-              let some : next_place place line ≡ Some next =
-              (λ i. cond (and_true (is_record line) _ ((record_iff_test line).0 is) h i) (place_by_kind place (kind_of line) line) None) ∙ told in
-              let bad : None ≡ Some next = sym nowhere ∙ some in cc
+          pick true h = search (rules, and_true, record_iff_test)
           pick false h = h
 
       good : has_good_fields line ≡ true
@@ -204,14 +189,8 @@ module _ (limit : ℕ) (earlier : Lines) (place : Place) (line : List ℕ) (foun
   field_is r0 r1 r2 r3 r4 next told nowhere = by (leftmost_bad_field line) refl
     where
       by : (bad : Option ℕ) → leftmost_bad_field line ≡ bad → IsCause limit earlier line (with_column bad_field bad third_midnight)
-      by (Some column) h = record {
-        holds = h;
-        first = none_below _ (omega arith) (λ _. r0) (λ _. r1) (λ _. r2) (λ _. r3) (λ _. r4) (λ _. in_place _ r4 told) (λ below. absurd (omega arith));
-      }
-      by None h = record {
-        holds = third _ (r2, printable_by_none _ r3) told h nowhere;
-        first = none_below _ (omega arith) (λ _. r0) (λ _. r1) (λ _. r2) (λ _. r3) (λ _. r4) (λ _. in_place _ r4 told) (λ _. h);
-      }
+      by (Some column) h = search (rules, none_below, in_place)
+      by None h = search (rules, third, printable_by_none, none_below, in_place)
 
   place_is : ¬ (limit ≤ length earlier) → ¬ Any (HasKind trailer) earlier → length line ≡ 80 → leftmost_bad_byte line ≡ None → ¬ (kind_of line ≡ None)
       → next_place place line ≡ None → IsCause limit earlier line (place_cause place line)
@@ -219,10 +198,7 @@ module _ (limit : ℕ) (earlier : Lines) (place : Place) (line : List ℕ) (foun
     where
       by : (reached : Option Place) → place_by_kind place (kind_of line) line ≡ reached
           → IsCause limit earlier line (cond (is_none reached) bad_place (field_cause line))
-      by None h = record {
-        holds = out_of_place h;
-        first = none_below 5 (omega arith) (λ _. r0) (λ _. r1) (λ _. r2) (λ _. r3) (λ _. r4) (λ below. absurd (omega arith)) (λ below. absurd (omega arith));
-      }
+      by None h = search (rules, out_of_place, none_below)
       by (Some next) h = field_is r0 r1 r2 r3 r4 next h nowhere
 
   kind_is : ¬ (limit ≤ length earlier) → ¬ Any (HasKind trailer) earlier → length line ≡ 80 → leftmost_bad_byte line ≡ None → next_place place line ≡ None
@@ -230,11 +206,7 @@ module _ (limit : ℕ) (earlier : Lines) (place : Place) (line : List ℕ) (foun
   kind_is r0 r1 r2 r3 nowhere = by (kind_of line) refl
     where
       by : (kind : Option Kind) → kind_of line ≡ kind → IsCause limit earlier line (cond (is_none kind) bad_kind (place_cause place line))
-      by None h = record {
-        holds = h;
-        first = none_below _ (omega arith) (λ _. r0) (λ _. r1) (λ _. r2) (λ _. r3) (λ below. absurd (omega arith)) (λ below. absurd (omega arith))
-            (λ below. absurd (omega arith));
-      }
+      by None h = search (rules, none_below)
       by (Some kind) h = place_is r0 r1 r2 r3 (λ none. let bad : None ≡ Some kind = sym none ∙ h in cc) nowhere
 
   byte_is : ¬ (limit ≤ length earlier) → ¬ Any (HasKind trailer) earlier → length line ≡ 80 → next_place place line ≡ None
@@ -245,17 +217,11 @@ module _ (limit : ℕ) (earlier : Lines) (place : Place) (line : List ℕ) (foun
   length_is = grind (common_steps, arith, byte_is, eqb-true, eqb-false, none_below)
 
   end_is : ¬ (limit ≤ length earlier) → next_place place line ≡ None → IsCause limit earlier line (end_cause place line)
-  end_is r0 nowhere = by (is_after_end place) refl
-    where
-      by : (b : Bool) → is_after_end place ≡ b → IsCause limit earlier line (cond b after_trailer (length_cause place line))
-      by true h = record {
-        holds = trailer_among _ ((file_iff_place _).1 (found ∙ ap Some (end_by_test _ h)));
-        first = none_below _ (omega arith) (λ _. r0) (λ below. absurd (omega arith)) (λ below. absurd (omega arith)) (λ below. absurd (omega arith))
-            (λ below. absurd (omega arith)) (λ below. absurd (omega arith)) (λ below. absurd (omega arith));
-      }
-      by false h = length_is r0 (λ any.
-          let reached = trailer_leads _ _ _ _ found (any.0, any.2, any.3) any.4 in
-          let bad : true ≡ false = sym (ap is_after_end reached) ∙ h in cc) nowhere
+  end_is r0 nowhere =
+      (elim (is_after_end place) as (λ b. is_after_end place ≡ b → IsCause limit earlier line (cond b after_trailer (length_cause place line))) [
+        | true ↦ λ h. record { holds = trailer_among _ ((file_iff_place _).1 (found ∙ ap Some (end_by_test _ h))); first = search (rules, none_below) }
+        | false ↦ λ h. length_is r0 (search (rules, trailer_leads)) nowhere
+      ]) refl
 
   -- the cause computed from the reader's `Place` is the cause of the fault at the record
   pub cause_is : (limit ≤ length earlier) ⊎ (next_place place line ≡ None) → IsCause limit earlier line (cause_of limit (length earlier) place line)
@@ -274,15 +240,14 @@ module _ (limit : ℕ) (earlier : Lines) (place : Place) (line : List ℕ) (foun
     number = refl;
     earlier_within = within;
     earlier_begin = at_begins place earlier at;
-    here = ends here;
-    cause = cause_is here;
-  }
-    where
-      ends : (limit ≤ length earlier) ⊎ (next_place place line ≡ None) → (limit ≤ length earlier) ⊎ (¬ BeginsFile (earlier ++ line ∷ []))
-      ends (inl over) = inl over
-      ends (inr nowhere) = inr (λ begins.
+    here = elim here [
+      | inl over ↦ inl over
+      | inr nowhere ↦ inr (λ begins.
           let reached = (begins_iff_place (earlier ++ line ∷ [])).0 begins in
           let bad : None ≡ Some reached.0 = sym nowhere ∙ sym (place_of_more earlier place line found) ∙ reached.1 in cc)
+    ];
+    cause = cause_is here;
+  }
 
 -- if records within the limit lead the reader to a `Place` other than `after_end`, their fault is
 -- `no_end`
@@ -326,10 +291,7 @@ pass_from (line ∷ rest) limit records earlier place found within whole =
         → Pass limit records ⊎ HasRecordFault limit records
     by true h reached told later = inr (fault (inl (leb-true limit (length earlier) h)))
     by false h None told later = inr (fault (inr told))
-    by false h (Some next) told later =
-        let under = leb-false limit (length earlier) h in
-        let size = length-append earlier (line ∷ []) in
-        later next (place_of_more earlier place line found ∙ told) (omega arith)
+    by false h (Some next) told later = search (rules, leb-false, length-append, place_of_more)
 
 -- no record is at fault, or one of the records is at fault
 pub pass_or_fault : (limit : ℕ) (records : Lines) → Pass limit records ⊎ HasRecordFault limit records
@@ -359,6 +321,4 @@ file_or_not records = by (place_at records) refl
       where
         ended : (b : Bool) → is_after_end place ≡ b → IsFile records ⊎ ¬ IsFile records
         ended true end = inl ((file_iff_place records).1 (h ∙ ap Some (end_by_test place end)))
-        ended false end =
-            inr (λ is. let same = one_place records after_end place ((file_iff_place records).0 is) h in let bad : true ≡ false = ap is_after_end same ∙ end in
-            cc)
+        ended false end = search (rules, one_place, file_iff_place)

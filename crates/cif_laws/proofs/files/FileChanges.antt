@@ -1,12 +1,12 @@
 -- The changes of a file within the limit: each change is well formed, and a body that a change puts
 -- belongs to the key of the change.
-use Rattle.std.proofs.Common.{◌≡◌, ℕ, ◌+◌, ◌-◌, ◌^◌, ◌<◌, ◌≤◌, List, [], ◌∷◌, ◌++◌, map, length, Contains, subst, ap, refl, arith, length-append}
+use Rattle.std.proofs.Common.{◌≡◌, ℕ, ◌+◌, ◌-◌, ◌^◌, ◌<◌, ◌≤◌, List, [], ◌∷◌, ◌++◌, length, Contains, subst, ap, arith, length-append}
+use Rattle.std.proofs.Common.{rules}
 use Rattle.std.specs.List.{AllByRecursion, flat_map}
 use Rattle.std.proofs.lemmas.List.Elements.{recursion_from_All}
-use Rattle.docker_model.specs.records.Record.{kind_of}
 use Rattle.docker_model.specs.file.File.{IsFile, IsUnit, IsSchedule, most_records}
-use Rattle.docker_model.specs.file.Change.{Key, tiploc_key, association_key, schedule_key, Act, put, Body, schedule_body}
-use Rattle.docker_model.specs.file.Change.{Change, acts_by_kind, changes_of_record, changes_from, changes}
+use Rattle.docker_model.specs.file.Change.{Key, tiploc_key, association_key, schedule_key, put, Body, schedule_body}
+use Rattle.docker_model.specs.file.Change.{Change, changes_of_record, changes_from, changes}
 use Rattle.docker_model.specs.state.Op.{op_of}
 use Rattle.docker_model.specs.state.State.{IsBodyOf, IsOpOf}
 use Rattle.cif_laws.proofs.lists.Membership.{below_by_recursion}
@@ -17,17 +17,11 @@ use Rattle.cif_laws.proofs.files.GoodChanges.{IsGoodChange, units_changes}
 abbrev IsNumbered : ℕ → ℕ → Change → Type 0
 IsNumbered first count change = (first ≤ change.number) × (change.number < first + count)
 
-numbered_alike : (n : ℕ) (acts : List (Key × Act)) → AllByRecursion (λ (c : Change). c.number ≡ n)
-    (map (λ (act : Key × Act). record { number = n; key = act.0; act = act.1 }) acts)
-numbered_alike n [] = tt
-numbered_alike n (act ∷ acts) = (refl, numbered_alike n acts)
-
 numbers_within : (n : ℕ) (lines : List (List ℕ)) → AllByRecursion (IsNumbered n (length lines)) (changes_from n lines)
 numbers_within n [] = tt
 numbers_within n (line ∷ lines) =
     all_append (IsNumbered n (length (line ∷ lines))) (changes_of_record n line lines) (changes_from (n + 1) lines)
-    (all_weaker (λ (c : Change). c.number ≡ n) (IsNumbered n (length (line ∷ lines))) (λ c same. (omega arith, omega arith)) (changes_of_record n line lines)
-    (numbered_alike n (acts_by_kind (kind_of line) line lines)))
+    (search (rules, all_weaker))
     (all_weaker (IsNumbered (n + 1) (length lines)) (IsNumbered n (length (line ∷ lines))) (λ c inside. (omega arith, omega arith)) (changes_from (n + 1) lines)
     (numbers_within (n + 1) lines))
 
@@ -58,9 +52,7 @@ file_change file is few change among =
     all_good under = units_changes is.units is.last (recursion_from_All IsUnit is.units is.each) is.trailer_kind under
 
     behind : (rest : List (List ℕ)) → Contains (changes (is.first ∷ rest)) change → Contains (changes_from 2 rest) change
-    behind rest inside =
-        subst (λ k. Contains (map (λ (act : Key × Act). record { number = 1; key = act.0; act = act.1 })
-        (acts_by_kind k is.first rest) ++ changes_from 2 rest) change) is.header_kind inside
+    behind rest inside = search (rules, is.first, is.header_kind)
 
 -- a body that a change puts belongs to the key of the change
 pub body_of_file : (file : List (List ℕ)) → IsFile file → length file ≤ most_records → (change : Change) → Contains (changes file) change → (body : Body)

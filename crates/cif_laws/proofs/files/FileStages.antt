@@ -85,9 +85,7 @@ between_more : (records unit : Lines) → IsBetween records → IsUnit unit → 
 between_more records unit between is = record {
   first = between.first;
   units = between.units ++ unit ∷ [];
-  whole = (λ i. between.whole i ++ unit)
-      ∙ ap (λ rest. between.first ∷ rest) ((λ i. flat_map (λ u. u) between.units ++ sym (append-nil unit) i)
-      ∙ sym (flat_map-append (λ u. u) between.units (unit ∷ [])));
+  whole = search (rules, append-nil, flat_map-append, between.whole, between.first, between.units);
   header_record = between.header_record;
   header_kind = between.header_kind;
   header_fields = between.header_fields;
@@ -151,12 +149,7 @@ at_place_in after_journey lines records within = within_ended after_journey line
 
 within_more : (stage : Stage) (lines records : Lines) (line : List ℕ) (next : Stage) → IsWithin stage lines records → next_stage stage lines line ≡ Some next
     → IsWithin next (lines ++ line ∷ []) (records ++ line ∷ [])
-within_more stage lines records line next within found = record {
-  before = within.before;
-  whole = (λ i. within.whole i ++ line ∷ []) ∙ append_assoc within.before lines (line ∷ []);
-  between = within.between;
-  front = next_front stage lines line next within.front found;
-}
+within_more stage lines records line next within found = search (rules, append_assoc, next_front, within.before, within.whole, within.between, within.front)
 
 -- suppose that records have the structure of a `Place`, and that one more record leads the reader
 -- from this `Place` to a next `Place`. With that record, they have the structure of the next
@@ -166,18 +159,7 @@ pub next_at : (place : Place) (records : Lines) (line : List ℕ) (next : Place)
 next_at before_header records line next at found = by (next_by_test before_header line next found) (kind_of line) refl
   where
     by : IsNext before_header line next → (kind : Option Kind) → kind_of line ≡ kind → IsAt next (records ++ line ∷ [])
-    by told (Some header) h =
-        let reached : Some between_units ≡ Some next = (λ i. cond (is_header_kind (sym h i)) (Some between_units) None) ∙ told.place_is in
-        let same : between_units ≡ next = cc in
-        subst (λ p. IsAt p (records ++ line ∷ [])) same (subst (λ r. IsBetween (r ++ line ∷ [])) (sym at) (record {
-          first = line;
-          units = [];
-          whole = refl;
-          header_record = told.is;
-          header_kind = h;
-          header_fields = none_by_test (leftmost_bad_field line) told.sound;
-          each = tt;
-        }))
+    by told (Some header) h = search (rules, none_by_test, told.place_is, told.is, told.sound)
     by told _ h = let none = (λ i. cond (is_header_kind (sym h i)) (Some between_units) None) ∙ told.place_is in cc
 next_at between_units records line next at found =
     let told = next_by_test between_units line next found in
@@ -191,21 +173,18 @@ next_at (in_schedule stage lines) records line next at found =
         (λ i. in_stage_or (lines ++ line ∷ []) (sym h i) (cond (may_end stage lines) (unit_by_kind (kind_of line) line) None)) ∙ told.place_is in
         let same : place_in after (lines ++ line ∷ []) ≡ next = cc in
         let sound : is_sound_next lines line ≡ true = (λ i. cond (is_some (sym h i)) (is_sound_next lines line) (has_good_fields line)) ∙ told.sound in
-        subst (λ p. IsAt p (records ++ line ∷ [])) same (at_place_in after (lines ++ line ∷ []) (records ++ line ∷ [])
-        (within_more stage lines records line after at (test_by_next_line stage lines line after (record { is = told.is; sound = sound; stage_is = h }))))
-    by told None h = ended (may_end stage lines) refl
+        subst (λ p. IsAt p (records ++ line ∷ [])) same (search (rules, at_place_in, within_more, test_by_next_line, told.is))
+    by told None h = (elim (may_end stage lines) as (λ b. may_end stage lines ≡ b → IsAt next (records ++ line ∷ [])) [
+      | true ↦ λ may. unit_more_of records line next (within_ended stage lines records at may) told.is (none_by_test (leftmost_bad_field line) good)
+          ((λ i. cond (sym may i) (unit_by_kind (kind_of line) line) None) ∙ reached)
+      | false ↦ λ may. let none = (λ i. cond (sym may i) (unit_by_kind (kind_of line) line) None) ∙ reached in cc
+    ]) refl
       where
         reached : cond (may_end stage lines) (unit_by_kind (kind_of line) line) None ≡ Some next
         reached = (λ i. in_stage_or (lines ++ line ∷ []) (sym h i) (cond (may_end stage lines) (unit_by_kind (kind_of line) line) None)) ∙ told.place_is
 
         good : has_good_fields line ≡ true
         good = (λ i. cond (is_some (sym h i)) (is_sound_next lines line) (has_good_fields line)) ∙ told.sound
-
-        ended : (b : Bool) → may_end stage lines ≡ b → IsAt next (records ++ line ∷ [])
-        ended true may =
-            unit_more_of records line next (within_ended stage lines records at may) told.is (none_by_test (leftmost_bad_field line) good)
-            ((λ i. cond (sym may i) (unit_by_kind (kind_of line) line) None) ∙ reached)
-        ended false may = let none = (λ i. cond (sym may i) (unit_by_kind (kind_of line) line) None) ∙ reached in cc
 next_at after_end records line next at found = let told = (next_by_test after_end line next found).place_is in cc
 
 at_from : (rest : Lines) (place : Place) (records : Lines) (final : Place) → IsAt place records → place_from place rest ≡ Some final
@@ -290,11 +269,7 @@ pub next_of_stage : (stage : Stage) (lines : Lines) (line : List ℕ) (next : St
     → next_place (in_schedule stage lines) line ≡ Some (place_in next (lines ++ line ∷ []))
 next_of_stage stage lines line next found =
     let told = next_line_by_test stage lines line next found in
-    test_by_next (in_schedule stage lines) line (place_in next (lines ++ line ∷ [])) (record {
-      is = told.is;
-      sound = (λ i. cond (is_some (told.stage_is i)) (is_sound_next lines line) (has_good_fields line)) ∙ told.sound;
-      place_is = λ i. in_stage_or (lines ++ line ∷ []) (told.stage_is i) (cond (may_end stage lines) (unit_by_kind (kind_of line) line) None);
-    })
+    search (rules, test_by_next, told.is, told.stage_is, told.sound)
 
 -- like `next_of_stage`, for a reader at the `Place` that `place_in` gives for the stage
 next_in : (stage : Stage) (lines : Lines) (line : List ℕ) (next : Stage) → next_stage stage lines line ≡ Some next
@@ -329,8 +304,7 @@ unit_from (basic ∷ rest) stage more found = by (is_first_line basic) refl foun
         → place_from between_units ((basic ∷ rest) ++ more) ≡ place_from (place_in stage (basic ∷ rest)) more
     by true h told =
         let first = (first_line_iff_test basic).1 h in
-        (λ i. option_and_then (λ next. place_from next (rest ++ more)) (next_between basic (in_schedule after_basic (basic ∷ [])) first.is first.fields
-        (ap (λ k. unit_by_kind k basic) first.kind) i))
+        (search (rules, next_between, first.is, first.fields, first.kind))
         ∙ schedule_from rest after_basic (basic ∷ []) stage more told
     by false h told = cc
 

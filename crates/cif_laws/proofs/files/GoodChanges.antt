@@ -8,12 +8,12 @@ use Rattle.std.proofs.Math.Seq.{take-append_seam}
 use Rattle.std.proofs.lemmas.List.Elements.{All-from_recursion, recursion_from_All}
 use Rattle.docker_model.specs.records.Record.{Kind, tiploc_insert, tiploc_amend, association, basic_schedule}
 use Rattle.docker_model.specs.records.Record.{trailer, IsRecord, HasKind, kind_of, columns, column}
-use Rattle.docker_model.specs.records.Date.{is_date, is_end_date, is_days}
+use Rattle.docker_model.specs.records.Date.{is_date}
 use Rattle.docker_model.specs.records.Clock.{is_blank}
 use Rattle.docker_model.specs.records.Field.{HasGoodFields, is_deletion, is_stp_letter, is_stp_indicator, is_tiploc}
 use Rattle.docker_model.specs.records.Field.{is_transaction, checked, checked_fields, as_new, IsTiploc}
 use Rattle.docker_model.specs.file.File.{IsSchedule, IsJourney, IsSoundJourney, IsWithinJourney}
-use Rattle.docker_model.specs.file.File.{MayLackJourney, IsSingleKind, IsUnit, follows_basic}
+use Rattle.docker_model.specs.file.File.{IsSingleKind, IsUnit, follows_basic}
 use Rattle.docker_model.specs.file.Change.{Key, Act, Change, association_named, schedule_named}
 use Rattle.docker_model.specs.file.Change.{keeps_code, schedule_rest, acts_by_kind, changes_of_record, changes_from}
 use Rattle.docker_model.specs.state.Op.{op_of}
@@ -106,24 +106,7 @@ pub new_association_fields : (line : List ℕ) → IsRecord line → HasKind ass
 new_association_fields line is kind good kept = fields_good association (as_new line) (new_kind line ∙ kind) (by (good_fields association line kind good))
   where
     by : AllByRecursion (IsGoodIn line) (checked_fields association line) → AllByRecursion (IsGoodIn (as_new line)) (checked_fields association (as_new line))
-    by all =
-        let found = rw kept at all in
-        rw (no_deletion line is) (
-          transaction_good line is,
-          (
-            still_good line 16 21 is_date (omega arith) found.1.0,
-            (
-              still_good line 22 27 is_end_date (omega arith) found.1.1.0,
-              (
-                still_good line 28 34 is_days (omega arith) found.1.1.1.0,
-                (
-                  still_good line 38 44 is_tiploc (omega arith) found.1.1.1.1.0,
-                  (still_good line 80 80 is_stp_indicator (omega arith) found.1.1.1.1.1.0, tt),
-                ),
-              ),
-            ),
-          ),
-        )
+    by all = search (rules, no_deletion, transaction_good, still_good)
 
 -- setting the transaction to N preserves the good fields of a basic schedule that isn't a deletion
 pub new_basic_fields : (line : List ℕ) → IsRecord line → HasKind basic_schedule line → HasGoodFields line → is_deletion line ≡ false
@@ -132,21 +115,7 @@ new_basic_fields line is kind good kept = fields_good basic_schedule (as_new lin
   where
     by : AllByRecursion (IsGoodIn line) (checked_fields basic_schedule line) → AllByRecursion (IsGoodIn (as_new line))
         (checked_fields basic_schedule (as_new line))
-    by all =
-        let found = rw kept at all in
-        rw (no_deletion line is) (
-          transaction_good line is,
-          (
-            still_good line 10 15 is_date (omega arith) found.1.0,
-            (
-              still_good line 16 21 is_end_date (omega arith) found.1.1.0,
-              (
-                still_good line 22 28 is_days (omega arith) found.1.1.1.0,
-                (still_good line 80 80 is_stp_indicator (omega arith) found.1.1.1.1.0, tt),
-              ),
-            ),
-          ),
-        )
+    by all = search (rules, no_deletion, transaction_good, still_good)
 
 -- ---- the changes of a single record are well formed
 
@@ -181,19 +150,7 @@ single_acts line following is (inr (inr (inr kind))) good =
   where
     by : (b : Bool) → is_deletion line ≡ b → AllByRecursion IsGoodAct (acts_by_kind (Some association) line following)
     by true h = rw h ((association_key_good line is kind good, tt), tt)
-    by false h = rw h (
-      (
-        association_key_good line is kind good,
-        record {
-          is_record = new_record line is;
-          kind = new_kind line ∙ kind;
-          fields = new_association_fields line is kind good h;
-          new = is_new line is;
-          key_is = same_association line;
-        },
-      ),
-      tt,
-    )
+    by false h = search (rules, association_key_good, new_record, new_kind, new_association_fields, is_new, same_association)
 
 -- ---- the changes of a schedule are well formed
 
@@ -211,19 +168,10 @@ new_is_schedule lines schedule kept =
       kind = new_kind schedule.basic ∙ schedule.kind;
       fields = new_basic_fields schedule.basic records.0 schedule.kind schedule.fields kept;
       details = schedule.details;
-      journey_or_none = lacks schedule.journey_or_none;
+      journey_or_none = search (rules, new_column);
       sound = sound schedule.sound;
     }
   where
-    lacks : IsJourney schedule.journey ⊎ ((schedule.journey ≡ []) × MayLackJourney schedule.basic) → IsJourney schedule.journey
-        ⊎ ((schedule.journey ≡ []) × MayLackJourney (as_new schedule.basic))
-    lacks (inl journey) = inl journey
-    lacks (inr none) = inr (none.0, letter none.1)
-      where
-        letter : MayLackJourney schedule.basic → MayLackJourney (as_new schedule.basic)
-        letter (inl deletion) = let bad : false ≡ true = sym kept ∙ deletion in cc
-        letter (inr same) = inr (new_column schedule.basic 80 (omega arith) ∙ same)
-
     sound : (is_deletion schedule.basic ≡ true) ⊎ IsSoundJourney schedule.journey → (is_deletion (as_new schedule.basic) ≡ true)
         ⊎ IsSoundJourney schedule.journey
     sound (inl deletion) = let bad : false ≡ true = sym kept ∙ deletion in cc
@@ -337,14 +285,11 @@ unit_changes unit rest (inr schedule) stops few good =
 stops_by : (kind : Kind) (line : List ℕ) → HasKind kind line → follows_basic (Some kind) ≡ false → follows_basic (kind_of line) ≡ false
 stops_by kind line is stops = ap follows_basic is ∙ stops
 
-unit_stops : (unit rest : List (List ℕ)) → IsUnit unit → StopsHere (unit ++ rest)
-unit_stops = search (rules, stops_by)
-
 -- in a list of units followed by a trailer, the first record can't follow a basic schedule
 pub units_stop : (units : List (List (List ℕ))) (last : List ℕ) → AllByRecursion IsUnit units → HasKind trailer last
     → StopsHere (flat_map (λ unit. unit) units ++ last ∷ [])
 units_stop [] last all end = stops_by trailer last end refl
-units_stop (unit ∷ units) last all end = search (rules, append_assoc, unit_stops)
+units_stop (unit ∷ units) last all end = search (rules, append_assoc)
 
 -- the changes of units within the limit are well formed
 pub units_changes : (units : List (List (List ℕ))) (last : List ℕ) → AllByRecursion IsUnit units → HasKind trailer last

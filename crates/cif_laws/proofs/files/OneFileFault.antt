@@ -1,5 +1,5 @@
 -- A text has at most one fault, and the text of a file has none.
-use Rattle.std.proofs.Common.{ℕ, List, [], ◌∷◌, ◌≡◌, ◌+◌, ◌++◌, ◌⊎◌, inl, inr, refl, ap, sym, subst, rules}
+use Rattle.std.proofs.Common.{ℕ, List, [], ◌∷◌, ◌≡◌, ◌++◌, ◌⊎◌, inl, inr, refl, ap, sym, subst, rules}
 use Rattle.std.proofs.Common.{append_assoc, ◌≤◌, length, arith, length-append, ◌∙◌, append-nil}
 use Rattle.std.specs.Prelude.{◌==◌, if◌then◌else◌, unwrap_or}
 use Rattle.std.proofs.lemmas.Bool.{cases_order}
@@ -8,7 +8,7 @@ use Rattle.docker_model.specs.records.Field.{leftmost_bad_field}
 use Rattle.docker_model.specs.file.File.{IsFile, BeginsFile}
 use Rattle.docker_model.specs.file.Text.{lines_of}
 use Rattle.docker_model.specs.file.FileFault.{FileFault, IsRecordFault, FileCause, bad_byte, bad_field, too_many, after_trailer, bad_length, bad_kind}
-use Rattle.docker_model.specs.file.FileFault.{bad_place, third_midnight, no_end, cause_rank, HoldsOf, IsCause, IsUnended, IsFileFault, IsFileText}
+use Rattle.docker_model.specs.file.FileFault.{bad_place, third_midnight, no_end, cause_rank, IsCause, IsUnended, IsFileFault, IsFileText}
 
 -- the first line of the list, or `line` if the list is empty. Proofs use this value to compare the
 -- indexes of two records in a list
@@ -41,11 +41,10 @@ begins_front front rest begins = (rest ++ begins.0, subst IsFile (append_assoc f
 -- if records begin a file within the limit, none of these records is at fault
 not_within : (limit : ℕ) (records : Lines) (fault : FileFault) (is : IsRecordFault limit records fault) (more : Lines)
     → BeginsFile (is.earlier ++ is.line ∷ more) → length (is.earlier ++ is.line ∷ more) ≤ limit → ⊥
-not_within limit records fault is more begins within = by is.here
-  where
-    by : (limit ≤ length is.earlier) ⊎ (¬ BeginsFile (is.earlier ++ is.line ∷ [])) → ⊥
-    by (inl over) = let size = length-append is.earlier (is.line ∷ more) in omega arith
-    by (inr none) = none (begins_front (is.earlier ++ is.line ∷ []) more (subst BeginsFile (sym (append_assoc is.earlier (is.line ∷ []) more)) begins))
+not_within limit records fault is more begins within = elim is.here [
+  | inl over ↦ let size = length-append is.earlier (is.line ∷ more) in omega arith
+  | inr none ↦ none (begins_front (is.earlier ++ is.line ∷ []) more (subst BeginsFile (sym (append_assoc is.earlier (is.line ∷ []) more)) begins))
+]
 
 -- the column that a cause names, or 0 if the cause names no column. The rank and the column
 -- determine the cause
@@ -72,35 +71,24 @@ same_cause first second same columns = sym (cause_again first) ∙ (λ i. cause_
 unfoldable pub column_told : ℕ → List ℕ → ℕ
 column_told rank line = if rank == 3 then unwrap_or (leftmost_bad_byte line) 0 else (if rank == 6 then unwrap_or (leftmost_bad_field line) 0 else 0)
 
-column_is : (limit : ℕ) (earlier : Lines) (line : List ℕ) (cause : FileCause) → HoldsOf limit earlier line cause
-    → column_told (cause_rank cause) line ≡ column_of cause
-unfolding column_of column_told
-column_is = search rules
-
 -- the fault at a record has at most one cause
 pub one_cause : (limit : ℕ) (earlier : Lines) (line : List ℕ) (first second : FileCause) → IsCause limit earlier line first → IsCause limit earlier line second
     → first ≡ second
-one_cause = search (rules, cases_order, same_cause, column_is, column_told)
+one_cause = search (rules, cases_order, same_cause, column_told)
 
 -- in a list of records, the first record at fault has only one fault
 record_fault_unique : (limit : ℕ) (records : Lines) (first second : FileFault) → IsRecordFault limit records first → IsRecordFault limit records second
     → first ≡ second
 record_fault_unique limit records first second one two =
-    by (same_place one.earlier two.earlier one.line two.line one.later two.later (sym one.whole ∙ two.whole))
-  where
-    by : Placed one.earlier one.line two.earlier two.line → first ≡ second
-    by (inl same) =
-        let causes : first.cause ≡ second.cause = one_cause limit two.earlier two.line first.cause second.cause
-        (subst (λ line. IsCause limit two.earlier line first.cause) same.1
-        (subst (λ earlier. IsCause limit earlier one.line first.cause) same.0 one.cause)) two.cause in
-        let numbers : first.number ≡ second.number = one.number ∙ ap (λ earlier. length earlier + 1) same.0 ∙ sym two.number in
-        λ i. record { number = numbers i; cause = causes i }
-    by (inr (inl told)) =
-        absurd (not_within limit records first one told.0 (subst BeginsFile told.1 two.earlier_begin)
-        (subst (λ earlier. length earlier ≤ limit) told.1 two.earlier_within))
-    by (inr (inr told)) =
-        absurd (not_within limit records second two told.0 (subst BeginsFile told.1 one.earlier_begin)
-        (subst (λ earlier. length earlier ≤ limit) told.1 one.earlier_within))
+    elim (same_place one.earlier two.earlier one.line two.line one.later two.later (sym one.whole ∙ two.whole)) [
+      | inl same ↦ search (rules, one_cause, first.cause, second.cause, two.earlier, two.line, same.1, one.line)
+      | inr (inl told) ↦
+          absurd (not_within limit records first one told.0 (subst BeginsFile told.1 two.earlier_begin)
+          (subst (λ earlier. length earlier ≤ limit) told.1 two.earlier_within))
+      | inr (inr told) ↦
+          absurd (not_within limit records second two told.0 (subst BeginsFile told.1 one.earlier_begin)
+          (subst (λ earlier. length earlier ≤ limit) told.1 one.earlier_within))
+    ]
 
 not_both_faults : (limit : ℕ) (records : Lines) (first second : FileFault) → IsRecordFault limit records first → IsUnended limit records second → ⊥
 not_both_faults limit records first second one two =

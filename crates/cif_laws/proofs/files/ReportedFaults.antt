@@ -115,8 +115,7 @@ pub fault_stays : (limit : ℕ) (text more : List ℕ) (fault : FileFault) → I
 fault_stays limit text more fault told =
     record {
       is = by (cases_lt (length told.is.earlier) (length (complete_lines text)));
-      told = (let grown = sure_lines_grow text more in let before = told.told in
-          omega arith);
+      told = search (rules, sure_lines_grow, told.told);
     }
   where
     on : GoesOn text more
@@ -130,27 +129,14 @@ fault_stays limit text more fault told =
     open_told high false h most = absurd (omega arith)
 
     most : length told.is.earlier + 1 ≤ length (complete_lines text) + cond (nat_le 82 (length (open_line text))) 1 0
-    most =
-        subst (λ n. n ≤ length (complete_lines text) + cond (nat_le 82 (length (open_line text))) 1 0) told.is.number
-        (subst (λ n. fault.number ≤ n) (sure_lines_is text) told.told)
+    most = search (rules, sure_lines_is, told.is.number, fault.number, told.told)
 
     by : (length told.is.earlier < length (complete_lines text)) ⊎ (length (complete_lines text) ≤ length told.is.earlier)
         → IsRecordFault limit (lines_of (text ++ more)) fault
     by (inl below) =
         let within = within_front (complete_lines text) (line_left (open_line text)) told.is.earlier told.is.line told.is.later (sym (lines_of_told text)
         ∙ told.is.whole) below in
-        fault_in_front limit (complete_lines text) (lines_of (text ++ more))
-        (map strip_carriage_return (without_empty_last ((open_line text ++ on.first) ∷ on.pieces))) fault on.lines (record {
-          earlier = told.is.earlier;
-          line = told.is.line;
-          later = within.0;
-          whole = within.1;
-          number = told.is.number;
-          earlier_within = told.is.earlier_within;
-          earlier_begin = told.is.earlier_begin;
-          here = told.is.here;
-          cause = told.is.cause;
-        })
+        search (rules, fault_in_front, on.first, on.pieces, on.lines, told.is.earlier, told.is.line, within.0)
     by (inr high) =
         let opened = open_told high (nat_le 82 (length (open_line text))) refl most in
         let long = opened.1 in
@@ -219,10 +205,7 @@ fault_so_far_or_none limit text = by (cases_lt (length (open_line text)) 82)
         let number = number_within limit (complete_lines text) fault.0 fault.1 in
         inl (
           fault.0,
-          record {
-            is = fault_in_front limit (complete_lines text) (lines_of text) (line_left (open_line text)) fault.0 (lines_of_told text) fault.1;
-            told = omega arith;
-          },
+          search (rules, fault_in_front, lines_of_told, fault.0, fault.1),
         )
 
     opened : Pass limit (lines_of text) ⊎ HasRecordFault limit (lines_of text) → 82 ≤ length (open_line text)
@@ -255,17 +238,17 @@ passes_so_far limit text none =
 
 -- like `fault_so_far_or_none`, with `PassesSoFar` in place of `TellsNoFault`
 pub fault_so_far_or_passes : (limit : ℕ) (text : List ℕ) → ((fault : FileFault) × IsFaultSoFar limit text fault) ⊎ PassesSoFar limit text
-fault_so_far_or_passes limit text = by (fault_so_far_or_none limit text)
-  where
-    by : ((fault : FileFault) × IsFaultSoFar limit text fault) ⊎ TellsNoFault limit text → ((fault : FileFault) × IsFaultSoFar limit text fault)
-        ⊎ PassesSoFar limit text
-    by (inl fault) = inl fault
-    by (inr none) = inr (passes_so_far limit text none)
+fault_so_far_or_passes limit text = elim (fault_so_far_or_none limit text) [ inl fault ↦ inl fault | inr none ↦ inr (passes_so_far limit text none) ]
 
 -- suppose that the complete lines in the first bytes of a text begin some file within the limit. If
 -- the incomplete line has at most 81 bytes, the first bytes of the text determine no fault
 pub passes_no_fault : (limit : ℕ) (text : List ℕ) (fault : FileFault) → PassesSoFar limit text → ¬ IsFaultSoFar limit text fault
-passes_no_fault limit text fault passes told = by told.is.here
+passes_no_fault limit text fault passes told = elim told.is.here [
+  | inl over ↦ let most = passes.1 in let under = below in let told_is = same in absurd (omega arith)
+  | inr none ↦
+      none (begins_front (told.is.earlier ++ told.is.line ∷ []) within.0
+      (subst BeginsFile (take_told text passes.2 ∙ within.1 ∙ sym (append_assoc told.is.earlier (told.is.line ∷ []) within.0)) passes.0))
+]
   where
     same : sure_lines text ≡ length (complete_lines text)
     same = sure_lines_short text passes.2
@@ -277,12 +260,6 @@ passes_no_fault limit text fault passes told = by told.is.here
     within =
         within_front (complete_lines text) (line_left (open_line text)) told.is.earlier told.is.line told.is.later
         (sym (lines_of_told text) ∙ told.is.whole) below
-
-    by : (limit ≤ length told.is.earlier) ⊎ (¬ BeginsFile (told.is.earlier ++ told.is.line ∷ [])) → ⊥
-    by (inl over) = let most = passes.1 in let under = below in let told_is = same in absurd (omega arith)
-    by (inr none) =
-        none (begins_front (told.is.earlier ++ told.is.line ∷ []) within.0
-        (subst BeginsFile (take_told text passes.2 ∙ within.1 ∙ sym (append_assoc told.is.earlier (told.is.line ∷ []) within.0)) passes.0))
 
 -- ---- which fault a reader reports while it reads a text in pieces
 
@@ -316,15 +293,9 @@ pub fault_at_feed : (limit : ℕ) (text front rest : List ℕ) (place : Place) �
 fault_at_feed limit text front rest place plain found within here = record {
   is = record_fault limit (complete_lines text) place (strip_carriage_return (open_line text ++ front)) found (lines_of (text ++ (front ++ 10 ∷ rest)))
       (complete_lines rest ++ line_left (open_line (text ++ (front ++ 10 ∷ rest))))
-      (lines_of_told (text ++ (front ++ 10 ∷ rest)) ∙ (λ i. complete_lines_cut text front rest plain i ++ line_left (open_line (text ++ (front ++ 10 ∷ rest))))
-      ∙ append_assoc (complete_lines text) (strip_carriage_return (open_line text ++ front) ∷ complete_lines rest)
-      (line_left (open_line (text ++ (front ++ 10 ∷ rest)))))
+      (search (rules, lines_of_told, complete_lines_cut, append_assoc))
       within here;
-  told =
-      let told_is = sure_lines_is (text ++ (front ++ 10 ∷ rest)) in
-      let size = ap length (complete_lines_cut text front rest plain) ∙ length-append (complete_lines text)
-      (strip_carriage_return (open_line text ++ front) ∷ complete_lines rest) in
-      omega arith;
+  told = search (rules, sure_lines_is, complete_lines_cut, length-append);
 }
 
 -- an incomplete line of more than 81 bytes is at fault, whatever bytes follow
@@ -336,13 +307,7 @@ fault_at_long limit text place found within long =
     let told_is = sure_lines_long text long in
     subst (λ cause. IsFaultSoFar limit text (record { number = length (complete_lines text) + 1; cause = cause }))
     (cause_of_length limit (length (complete_lines text)) place (strip_carriage_return (open_line text)) apart)
-    (record {
-      is =
-          record_fault limit (complete_lines text) place (strip_carriage_return (open_line text)) found (lines_of text) []
-          (lines_of_open text (omega arith)) within
-          (inr (no_next_place place (strip_carriage_return (open_line text)) apart));
-      told = omega arith;
-    })
+    (search (rules, record_fault, lines_of_open, no_next_place))
 
 -- at the end of a text, an incomplete line that isn't empty is the last line. If that line leads
 -- the reader to no next `Place` or is beyond the limit, the line is at fault

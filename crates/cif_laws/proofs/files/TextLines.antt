@@ -35,25 +35,14 @@ piece_is = search (rules, last_is, eqb-true)
 -- suppose that a text consists of `lines`. If a piece and a line feed are put in front of the text,
 -- the new text consists of the piece's line, followed by `lines`
 one_more : (piece : List ℕ) (lines : List (List ℕ)) (rest : List ℕ) → IsTextOf lines rest → IsTextOf (strip_carriage_return piece ∷ lines) (piece ++ 10 ∷ rest)
-one_more piece [] rest told = by (piece_is _)
-  where
-    by : (piece ≡ strip_carriage_return piece) ⊎ (piece ≡ strip_carriage_return piece ++ 13 ∷ []) → IsTextOf (strip_carriage_return piece ∷ [])
-        (piece ++ 10 ∷ rest)
-    by (inl e) = (10 ∷ [], inl (inl refl), λ i. e i ++ 10 ∷ told i)
-    by (inr e) = (13 ∷ 10 ∷ [], inl (inr refl), (λ i. e i ++ 10 ∷ told i) ∙ append_assoc (strip_carriage_return piece) (13 ∷ []) (10 ∷ []))
-one_more piece (line ∷ lines) rest told = by (piece_is _)
-  where
-    by : (piece ≡ strip_carriage_return piece) ⊎ (piece ≡ strip_carriage_return piece ++ 13 ∷ []) → IsTextOf (strip_carriage_return piece ∷ line ∷ lines)
-        (piece ++ 10 ∷ rest)
-    by (inl e) = (10 ∷ [], rest, inl refl, (λ i. e i ++ 10 ∷ rest) ∙ sym (append_assoc (strip_carriage_return piece) (10 ∷ []) rest), told)
-    by (inr e) = (
-      13 ∷ 10 ∷ [],
-      rest,
-      inr refl,
-      (λ i. e i ++ 10 ∷ rest) ∙ append_assoc (strip_carriage_return piece) (13 ∷ []) (10 ∷ rest)
-          ∙ sym (append_assoc (strip_carriage_return piece) (13 ∷ 10 ∷ []) rest),
-      told,
-    )
+one_more piece [] rest told = elim (piece_is _) [
+  | inl e ↦ (10 ∷ [], inl (inl refl), λ i. e i ++ 10 ∷ told i)
+  | inr e ↦ (13 ∷ 10 ∷ [], inl (inr refl), (λ i. e i ++ 10 ∷ told i) ∙ append_assoc (strip_carriage_return piece) (13 ∷ []) (10 ∷ []))
+]
+one_more piece (line ∷ lines) rest told = elim (piece_is _) [
+  | inl e ↦ (10 ∷ [], rest, inl refl, (λ i. e i ++ 10 ∷ rest) ∙ sym (append_assoc (strip_carriage_return piece) (10 ∷ []) rest), told)
+  | inr e ↦ (13 ∷ 10 ∷ [], rest, inr refl, search (rules, append_assoc), told)
+]
 
 -- a text that is made by joining pieces with line feeds consists of these pieces, without their
 -- carriage returns
@@ -81,9 +70,6 @@ pub record IsPlain (line : List ℕ) : Type 0 where
   pub stays : strip_carriage_return line ≡ line
   pub strips : strip_carriage_return (line ++ 13 ∷ []) ≡ line
 
-keeps_last : (piece : List ℕ) → 0 < length piece → without_empty_last (piece ∷ []) ≡ piece ∷ []
-keeps_last = search rules
-
 keeps_first : (piece : List ℕ) (pieces : List (List ℕ)) → 0 < length pieces → without_empty_last (piece ∷ pieces) ≡ piece ∷ without_empty_last pieces
 keeps_first = search rules
 
@@ -93,7 +79,7 @@ lines_after : (piece rest : List ℕ) → All (λ b. (b == 10) ≡ false) piece 
 lines_after = search (rules, slice_split_at, length-slice_split, keeps_first)
 
 lines_last : (piece : List ℕ) → All (λ b. (b == 10) ≡ false) piece → 0 < length piece → lines_of piece ≡ strip_carriage_return piece ∷ []
-lines_last = search (rules, slice_split_none, keeps_last)
+lines_last = search (rules, slice_split_none)
 
 -- if a text begins with a plain line and a line end, its first line is this plain line
 lines_one : (line rest end : List ℕ) → IsPlain line → IsLineEnd end → lines_of ((line ++ end) ++ rest) ≡ line ∷ lines_of rest

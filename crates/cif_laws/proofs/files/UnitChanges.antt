@@ -1,13 +1,13 @@
 -- The changes of a file are the changes of its units, in order. A schedule ends before the first
 -- record that can't follow a basic schedule.
-use Rattle.std.proofs.Common.{◌≡◌, ℕ, ◌+◌, List, [], ◌∷◌, ◌++◌, length, map, subst, ap, sym, ◌∙◌, true, Some, arith, append_assoc, append-nil}
+use Rattle.std.proofs.Common.{◌≡◌, ℕ, ◌+◌, List, [], ◌∷◌, ◌++◌, length, map, subst, ap, sym, ◌∙◌, true, arith, append_assoc, append-nil}
 use Rattle.std.proofs.Common.{rules}
 use Rattle.std.specs.Prelude.{Option}
 use Rattle.std.specs.List.{AllByRecursion, flat_map}
 use Rattle.std.proofs.lemmas.List.Elements.{recursion_from_All}
 use Rattle.docker_model.specs.records.Record.{Kind, basic_schedule}
 use Rattle.docker_model.specs.records.Record.{trailer, HasKind, kind_of}
-use Rattle.docker_model.specs.file.File.{IsFile, IsSchedule, IsSingleKind, IsUnit, follows_basic}
+use Rattle.docker_model.specs.file.File.{IsFile, IsSchedule, IsUnit, follows_basic}
 use Rattle.docker_model.specs.file.Change.{Key, Act, Change, schedule_rest, acts_by_kind, changes_of_record, changes_from, changes}
 use Rattle.cif_laws.specs.UnitChange.{changes_of_unit, changes_of_units, change_of_schedule}
 use Rattle.cif_laws.proofs.files.GoodChanges.{StopsHere, Follows, rest_is, schedule_follows, units_stop}
@@ -18,17 +18,6 @@ change_of_act n act = record { number = n; key = act.0; act = act.1 }
 
 -- ---- the changes of a unit depend only on its first record and, for a schedule, on the rest of
 -- the schedule
-
--- if the acts of a record don't depend on the records after it, the changes of the record don't
--- depend on them either
-alike_by : (n : ℕ) (kind : Kind) (line : List ℕ) (following others : List (List ℕ)) → HasKind kind line
-    → acts_by_kind (Some kind) line following ≡ acts_by_kind (Some kind) line others → changes_of_record n line following ≡ changes_of_record n line others
-alike_by = search rules
-
--- the changes of a single record don't depend on the records after it
-single_alike : (n : ℕ) (line : List ℕ) (following others : List (List ℕ)) → IsSingleKind line
-    → changes_of_record n line following ≡ changes_of_record n line others
-single_alike = search (rules, alike_by)
 
 -- the change of a basic schedule depends only on the basic schedule and on the other records of its
 -- schedule
@@ -80,7 +69,7 @@ schedule_then = grind (arith, basic_alike, is_basic, rest_is, schedule_change, b
 -- changes of those records
 pub unit_then : (n : ℕ) (unit rest : List (List ℕ)) → IsUnit unit → StopsHere rest → changes_from n (unit ++ rest) ≡ changes_of_unit n unit ++ changes_from
     (n + length unit) rest
-unit_then = search (rules, single_alike, schedule_then)
+unit_then = search (rules, schedule_then)
 
 -- the changes of units followed by a trailer are the changes of the units
 units_then : (n : ℕ) (units : List (List (List ℕ))) (last : List ℕ) → AllByRecursion IsUnit units → HasKind trailer last

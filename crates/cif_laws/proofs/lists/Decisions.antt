@@ -1,6 +1,6 @@
 -- Decidable facts. A fact is decidable if there is a proof of the fact or of its negation.
 use Rattle.std.proofs.Common.{◌≡◌, ℕ, suc, ◌<◌, ◌≤◌, List, [], ◌∷◌, subst, inl, rules}
-use Rattle.std.proofs.Common.{◌⊎◌, Bool, true, nat_le, ◌==◌, if◌then◌else◌, All, Some, None}
+use Rattle.std.proofs.Common.{◌⊎◌, Bool, true, nat_le, All, None}
 use Rattle.std.specs.Prelude.{Option}
 use Rattle.std.specs.List.{AllByRecursion}
 use Rattle.std.specs.declared.cmp.Ordering.{Ordering}
@@ -9,8 +9,7 @@ use Rattle.std.specs.Cmp.{IsTotalOrder, tied_itself}
 use Rattle.std.proofs.lemmas.Bool.Decides.{leb_tells, eqb_tells}
 use Rattle.std.proofs.lemmas.List.Elements.{All-from_recursion, recursion_from_All}
 use Rattle.std.proofs.lemmas.Map.Lookups.{CmpEqualImpliesEq}
-use Rattle.docker_model.specs.records.Record.{Kind, header, tiploc_insert, tiploc_amend, tiploc_delete, association, basic_schedule, extra_details}
-use Rattle.docker_model.specs.records.Record.{origin_location, intermediate_location, terminating_location, change_en_route, trailer}
+use Rattle.docker_model.specs.records.Record.{Kind}
 
 -- the fact is decidable: there is a proof of the fact or of its negation
 abbrev pub Decided : Type 0 → Type 0
@@ -75,33 +74,6 @@ same_decided {A} {cmp} total exact a b = decided_along (exact a b) (λ same. sub
 pub none_decided : {A : Type 0} (o : Option A) → Decided (o ≡ None)
 none_decided = search rules
 
--- a different number for each kind of record. Two kinds are compared by their numbers
-kind_rank : Option Kind → ℕ
-kind_rank None = 0
-kind_rank (Some header) = 1
-kind_rank (Some tiploc_insert) = 2
-kind_rank (Some tiploc_amend) = 3
-kind_rank (Some tiploc_delete) = 4
-kind_rank (Some association) = 5
-kind_rank (Some basic_schedule) = 6
-kind_rank (Some extra_details) = 7
-kind_rank (Some origin_location) = 8
-kind_rank (Some intermediate_location) = 9
-kind_rank (Some terminating_location) = 10
-kind_rank (Some change_en_route) = 11
-kind_rank (Some trailer) = 12
-
-kind_at : ℕ → Option Kind
-kind_at n =
-    if n == 0 then None else (if n == 1 then Some header else (if n == 2 then Some tiploc_insert else (if n == 3 then Some tiploc_amend
-    else (if n == 4 then Some tiploc_delete else (if n == 5 then Some association else (if n == 6 then Some basic_schedule
-    else (if n == 7 then Some extra_details else (if n == 8 then Some origin_location else (if n == 9 then Some intermediate_location
-    else (if n == 10 then Some terminating_location else (if n == 11 then Some change_en_route else Some trailer)))))))))))
-
-kind_again : (kind : Option Kind) → kind_at (kind_rank kind) ≡ kind
-unfolding kind_rank kind_at
-kind_again = search rules
-
 -- it is decidable whether two kinds of record are equal
 pub kind_decided : (first second : Option Kind) → Decided (first ≡ second)
-kind_decided = search (rules, decided_along, kind_again, kind_at, kind_rank, nat_decided)
+kind_decided = search (rules, decided_along, nat_decided)

@@ -1,6 +1,7 @@
 -- Lemmas on membership in the lists that `filter` and `filter_map` return, and on the results of a
 -- search.
 use Rattle.std.proofs.Common.{◌≡◌, List, [], ◌∷◌, refl, ap, sym, ◌∙◌, subst, inl, inr, ◌⊎◌, Some, None, Bool, true, false, cond, Contains, arith}
+use Rattle.std.proofs.Common.{rules}
 use Rattle.std.specs.Prelude.{Option, filter, find, ◌&&◌}
 use Rattle.std.specs.List.{list_all, filter_map, cons_option}
 use Rattle.cif_laws.proofs.lists.Membership.{Contains-cons, cons-Contains, cons-Contains-first, nil-Contains}
@@ -60,7 +61,5 @@ module _ {A B : Type 0} (h : A → Option B) where
       by : (o : Option B) → h z ≡ o → (Contains xs x → Contains (filter_map h xs) y) → (z ≡ x) ⊎ Contains xs x → Contains (cons_option o (filter_map h xs)) y
       by None none rest (inl same) = absurd (let bad : None ≡ Some y = sym none ∙ ap h same ∙ is in cc)
       by None none rest (inr inside) = rest inside
-      by (Some b) some rest (inl same) =
-          let e : Some b ≡ Some y = sym some ∙ ap h same ∙ is in let f : b ≡ y = cc in
-          subst (Contains (b ∷ filter_map h xs)) f (cons-Contains-first b (filter_map h xs))
+      by (Some b) some rest (inl same) = search (rules, cons-Contains-first)
       by (Some b) some rest (inr inside) = cons-Contains b (filter_map h xs) y (rest inside)

@@ -1,6 +1,6 @@
 -- Lemmas on `AllLater`, which says that each member of a list is related to each later member. For
 -- example, a list is strictly ascending if each member is below each later member.
-use Rattle.std.proofs.Common.{arith, List, [], ◌∷◌, ◌≡◌, inl, inr, ◌⊎◌, Contains, Bool, true, false, cond, map, ◌++◌}
+use Rattle.std.proofs.Common.{arith, List, [], ◌∷◌, ◌≡◌, inl, inr, ◌⊎◌, Contains, Bool, true, false, cond, map, ◌++◌, rules}
 use Rattle.std.proofs.lemmas.Grind.{common_steps}
 use Rattle.std.specs.Prelude.{⊤, filter}
 use Rattle.std.specs.List.{AllByRecursion, AllPairs, flat_map}
@@ -63,13 +63,12 @@ pub later_append : {A : Type 0} (R : A → A → Type 0) (xs ys : List A) → Al
     → AllLater R (xs ++ ys)
 later_append R [] ys first second across = second
 later_append {A} R (x ∷ xs) ys first second across = (
-  each_member _ (xs ++ ys) (λ z among. by z (Contains-append_cases xs ys z among)),
+  each_member _ (xs ++ ys) (λ z among. elim (Contains-append_cases xs ys z among) [
+    | inl here ↦ below_by_recursion _ xs _ first.0 here
+    | inr there ↦ across x z (cons-Contains-first x _) there
+  ]),
   later_append _ xs _ first.1 second (λ a b in_a in_b. across a b (cons-Contains x _ a in_a) in_b),
 )
-  where
-    by : (z : A) → Contains xs z ⊎ Contains ys z → R x z
-    by z (inl here) = below_by_recursion _ xs _ first.0 here
-    by z (inr there) = across x z (cons-Contains-first x _) there
 
 -- suppose that `AllLater` holds for several lists. If each member of a list is related to each
 -- member of every later list, `AllLater` holds for their concatenation
@@ -78,8 +77,7 @@ pub later_flat_map : {A B : Type 0} (R : B → B → Type 0) (S : A → A → Ty
     → ((x y : A) → Contains xs x → Contains xs y → S x y → (a b : B) → Contains (f x) a → Contains (f y) b → R a b) → AllLater R (flat_map f xs)
 later_flat_map R S f [] later each across = tt
 later_flat_map R S f (x ∷ xs) later each across = later_append R _ (flat_map f xs) (each x (cons-Contains-first _ xs))
-    (later_flat_map _ S _ xs later.1 (λ y among. each y (cons-Contains _ xs _ among)) (λ y z in_y in_z. across y z (cons-Contains x _ y in_y)
-    (cons-Contains _ xs _ in_z))) (λ a b in_a in_b.
+    (later_flat_map _ S _ xs later.1 (λ y among. each y (cons-Contains _ xs _ among)) (search (rules, cons-Contains))) (λ a b in_a in_b.
     let found = Contains-flat_map f _ b in_b in
     across x found.0 (cons-Contains-first _ xs) (cons-Contains _ xs _ found.1) (below_by_recursion (S x) _ found.0 later.0 found.1) a b in_a found.2)
 

@@ -52,12 +52,10 @@ map-Contains f (z ∷ xs) x among = grind (arith, cons-Contains-first, cons-Cont
 -- each member of `flat_map f xs` is a member of `f x`, for some member `x` of `xs`
 pub Contains-flat_map : {A B : Type 0} (f : A → List B) (xs : List A) (y : B) → Contains (flat_map f xs) y → (x : A) × Contains xs x × Contains (f x) y
 Contains-flat_map f [] y among = absurd (nil-Contains y among)
-Contains-flat_map f (x ∷ xs) y among = by (Contains-flat_map f xs y) (Contains-append_cases (f x) (flat_map f xs) y among)
-  where
-    by : (Contains (flat_map f xs) y → (z : _) × Contains xs z × Contains (f z) y) → Contains (f x) y ⊎ Contains (flat_map f xs) y
-        → (z : _) × Contains (x ∷ xs) z × Contains (f z) y
-    by rest (inl here) = (x, cons-Contains-first x xs, here)
-    by rest (inr inside) = let found = rest inside in (found.0, cons-Contains x xs found.0 found.1, found.2)
+Contains-flat_map f (x ∷ xs) y among = elim (Contains-append_cases (f x) (flat_map f xs) y among) [
+  | inl here ↦ (x, cons-Contains-first x xs, here)
+  | inr inside ↦ let found = (Contains-flat_map f xs y) inside in (found.0, cons-Contains x xs found.0 found.1, found.2)
+]
 
 -- each member of `f x`, for a member `x` of `xs`, is a member of `flat_map f xs`
 pub flat_map-Contains : {A B : Type 0} (f : A → List B) (xs : List A) (x : A) (y : B) → Contains xs x → Contains (f x) y → Contains (flat_map f xs) y
@@ -94,22 +92,19 @@ pub same_members_turned : {A : Type 0} (xs ys : List A) → SameMembers (xs ++ y
 same_members_turned xs ys x = (by xs ys, by ys xs)
   where
     by : (us vs : List _) → Contains (us ++ vs) x → Contains (vs ++ us) x
-    by us vs among = which (Contains-append_cases us vs x among)
-      where
-        which : Contains us x ⊎ Contains vs x → Contains (vs ++ us) x
-        which (inl left) = Contains-append_right vs us x left
-        which (inr right) = Contains-append_left vs us x right
+    by us vs among = elim (Contains-append_cases us vs x among) [
+      | inl left ↦ Contains-append_right vs us x left
+      | inr right ↦ Contains-append_left vs us x right
+    ]
 
 member_rotated : {A : Type 0} (a b c : List A) (x : A) → Contains ((a ++ b) ++ c) x → Contains ((b ++ c) ++ a) x
-member_rotated a b c x among = outer (Contains-append_cases (a ++ b) c x among)
-  where
-    inner : Contains a x ⊎ Contains b x → Contains ((b ++ c) ++ a) x
-    inner (inl here) = Contains-append_right (b ++ c) a x here
-    inner (inr here) = Contains-append_left (b ++ c) a x (Contains-append_left b c x here)
-
-    outer : Contains (a ++ b) x ⊎ Contains c x → Contains ((b ++ c) ++ a) x
-    outer (inl here) = inner (Contains-append_cases a b x here)
-    outer (inr here) = Contains-append_left (b ++ c) a x (Contains-append_right b c x here)
+member_rotated a b c x among = elim (Contains-append_cases (a ++ b) c x among) [
+  | inl here ↦ elim (Contains-append_cases a b x here) [
+    | inl here ↦ Contains-append_right (b ++ c) a x here
+    | inr here ↦ Contains-append_left (b ++ c) a x (Contains-append_left b c x here)
+  ]
+  | inr here ↦ Contains-append_left (b ++ c) a x (Contains-append_right b c x here)
+]
 
 -- the concatenation of three lists has the same members if the first list is moved to the end
 pub same_members_rotated : {A : Type 0} (a b c : List A) → SameMembers ((a ++ b) ++ c) ((b ++ c) ++ a)

@@ -1,16 +1,15 @@
 -- Two well-formed keys compare like their bytes, and so do two well-formed ledger items.
-use Rattle.std.proofs.Common.{◌≡◌, ℕ, ◌<◌, ◌^◌, ◌/◌, ◌%◌, List, [], ◌∷◌, ◌++◌, length, sym, ◌∙◌, arith, append_assoc, length-append}
+use Rattle.std.proofs.Common.{◌≡◌, ℕ, ◌<◌, ◌^◌, List, [], ◌∷◌, ◌++◌, length, sym, ◌∙◌, arith, append_assoc, length-append}
 use Rattle.std.proofs.lemmas.Grind.{common_steps}
 use Rattle.std.proofs.Common.{rules}
 use Rattle.std.specs.Int.{w16, to_be_bytes}
 use Rattle.std.specs.declared.cmp.Ordering.{Ordering}
 use Rattle.std.specs.Ordering.{ordering_then, nat_cmp}
-use Rattle.std.proofs.lemmas.Cmp.{ranked}
-use Rattle.docker_model.specs.file.Change.{Key, association_key, schedule_key, AssociationKey, ScheduleKey}
+use Rattle.docker_model.specs.file.Change.{Key, schedule_key, ScheduleKey}
 use Rattle.docker_model.specs.state.Order.{bytes_cmp}
 use Rattle.docker_model.specs.state.Stamp.{LedgerItem, ledger_item_cmp}
-use Rattle.docker_model.specs.state.Op.{key_cmp, key_tag, association_key_cmp, schedule_key_cmp}
-use Rattle.docker_model.specs.state.State.{IsGoodItem, IsGoodKey, IsGoodAssociationKey, IsGoodScheduleKey}
+use Rattle.docker_model.specs.state.Op.{key_cmp, key_tag, schedule_key_cmp}
+use Rattle.docker_model.specs.state.State.{IsGoodItem, IsGoodKey, IsGoodScheduleKey}
 use Rattle.docker_model.specs.state.StateText.{item_bytes, key_bytes}
 use Rattle.cif_laws.proofs.orders.Orders.{then_equal_right}
 
@@ -27,14 +26,9 @@ fronts_first [] (y ∷ ys) more others behind same is = absurd (omega arith)
 fronts_first (x ∷ xs) [] more others behind same is = absurd (omega arith)
 fronts_first (x ∷ xs) (y ∷ ys) more others behind same is = grind (arith, then_assoc, (fronts_first xs ys more others behind (omega arith) is))
 
--- two numbers below 2^16 compare by their high bytes, and if these are equal, by their low bytes
-digits_cmp : (m n : ℕ) → m < 2 ^ 16 → n < 2 ^ 16 → (high low : Ordering) → high ≡ nat_cmp (m / 256 % 256) (n / 256 % 256) → low ≡ nat_cmp (m % 256) (n % 256)
-    → ordering_then high low ≡ nat_cmp m n
-digits_cmp = search (rules, ranked)
-
 -- two numbers below 2^16 compare like their two bytes, if the high byte is first
 pub two_bytes_cmp : (m n : ℕ) → m < 2 ^ 16 → n < 2 ^ 16 → bytes_cmp (to_be_bytes w16 m) (to_be_bytes w16 n) ≡ nat_cmp m n
-two_bytes_cmp = search (rules, then_equal_right, digits_cmp)
+two_bytes_cmp = search (rules, then_equal_right)
 
 -- like `two_bytes_cmp`, with more bytes after each number
 day_first : (m n : ℕ) (more others : List ℕ) (behind : Ordering) → m < 2 ^ 16 → n < 2 ^ 16 → bytes_cmp more others ≡ behind
@@ -52,10 +46,6 @@ of_three a b c = append_assoc a b c
 
 of_five : (a b c d e : List ℕ) → a ++ b ++ c ++ d ++ e ≡ a ++ (b ++ (c ++ (d ++ e)))
 of_five a b c d e = simp append_assoc
-
-association_order : (a b : AssociationKey) → IsGoodAssociationKey a → IsGoodAssociationKey b
-    → association_key_cmp a b ≡ bytes_cmp (key_bytes (association_key a)) (key_bytes (association_key b))
-association_order = search (rules, then_equal_right, fronts_first, day_first, of_five)
 
 schedule_order : (a b : ScheduleKey) → IsGoodScheduleKey a → IsGoodScheduleKey b → schedule_key_cmp a b ≡ bytes_cmp (key_bytes (schedule_key a))
     (key_bytes (schedule_key b))
@@ -75,4 +65,4 @@ schedule_order a b good other =
 -- two well-formed keys compare like their bytes, if the tag of each key is put before its bytes
 pub key_order : (first second : Key) → IsGoodKey first → IsGoodKey second
     → key_cmp first second ≡ bytes_cmp (key_tag first ∷ key_bytes first) (key_tag second ∷ key_bytes second)
-key_order = search (rules, association_order, schedule_order)
+key_order = search (rules, schedule_order, then_equal_right, fronts_first, day_first, of_five)

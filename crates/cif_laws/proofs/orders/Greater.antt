@@ -1,5 +1,5 @@
 -- The laws of taking the greater of two values. Some of them hold only if valid values that compare as equal are equal.
-use Rattle.std.proofs.Common.{◌≡◌, refl, sym, subst, inl, inr, ◌⊎◌, rules}
+use Rattle.std.proofs.Common.{◌≡◌, refl, sym, subst, inl, inr, rules}
 use Rattle.std.specs.declared.cmp.Ordering.{Ordering}
 use Rattle.std.specs.declared.cmp.Ordering.TheVariants.{Equal}
 use Rattle.std.specs.Ordering.{ord_max}
@@ -14,11 +14,7 @@ IsExact {A} valid cmp = (a b : A) → valid a → valid b → cmp a b ≡ Equal 
 module _ {A : Type 0} (valid : A → Type 0) {cmp : A → A → Ordering} (total : IsTotalOrder cmp) where
   -- the greater of two valid values is valid
   pub greater_closed : (a b c : A) → valid a → valid b → IsGreater cmp a b c → valid c
-  greater_closed a b c good_a good_b is = by is.among
-    where
-      by : (c ≡ a) ⊎ (c ≡ b) → valid c
-      by (inl same) = subst valid (sym same) good_a
-      by (inr same) = subst valid (sym same) good_b
+  greater_closed a b c good_a good_b is = elim is.among [ inl same ↦ subst valid (sym same) good_a | inr same ↦ subst valid (sym same) good_b ]
 
   -- if a value is at least as great as each of two values, it is at least as great as the greater
   -- of them
@@ -42,10 +38,8 @@ module _ {A : Type 0} (valid : A → Type 0) {cmp : A → A → Ordering} (total
       → IsGreater cmp a b ab → IsGreater cmp ab c left → IsGreater cmp b c bc → IsGreater cmp a bc right → left ≡ right
   greater_associates exact a b c ab bc left right good_a good_b good_c is_ab is_left is_bc is_right = exact left right
       (greater_closed _ _ _ (greater_closed _ _ _ good_a good_b is_ab) good_c is_left)
-      (greater_closed _ _ _ good_a (greater_closed _ _ _ good_b good_c is_bc) is_right) (level total _ _ (greater_least _ _ _ _ is_left
-      (greater_least _ _ _ _ is_ab is_right.first (at_most_trans total _ _ _ is_bc.first is_right.second))
-      (at_most_trans total _ _ _ is_bc.second is_right.second)) (greater_least _ _ _ _ is_right (at_most_trans total _ _ _ is_ab.first is_left.first)
-      (greater_least _ _ _ _ is_bc (at_most_trans total _ _ _ is_ab.second is_left.first) is_left.second)))
+      (greater_closed _ _ _ good_a (greater_closed _ _ _ good_b good_c is_bc) is_right)
+      (level total _ _ (search (rules, greater_least, at_most_trans)) (search (rules, greater_least, at_most_trans)))
 
   -- `ord_max` of two values is the greater of them
   pub greater_max : (a b : A) → IsGreater cmp a b (ord_max cmp a b)

@@ -1,6 +1,6 @@
 -- The least of the members of a list that pass a test. There is a least member if any member passes
 -- the test.
-use Rattle.std.proofs.Common.{◌≡◌, List, [], ◌∷◌, refl, ap, sym, ◌∙◌, subst, inl, inr, ◌⊎◌, Some, None, Bool, true, false, Contains, rules}
+use Rattle.std.proofs.Common.{◌≡◌, List, [], ◌∷◌, refl, sym, ◌∙◌, subst, inl, inr, ◌⊎◌, Some, None, Bool, true, false, Contains, rules}
 use Rattle.std.specs.Prelude.{find, ◌&&◌, not}
 use Rattle.std.specs.List.{list_all}
 use Rattle.std.specs.declared.cmp.Ordering.{Ordering}
@@ -9,7 +9,7 @@ use Rattle.std.specs.Cmp.{IsTotalOrder}
 use Rattle.docker_model.specs.state.Order.{IsAtMost, IsBelow}
 use Rattle.cif_laws.proofs.lists.Membership.{Contains-cons, cons-Contains, cons-Contains-first, nil-Contains}
 use Rattle.cif_laws.proofs.lists.BoolsAndOptions.{both}
-use Rattle.cif_laws.proofs.orders.AtMost.{at_most_trans, at_most_itself, at_most_below, at_most_or}
+use Rattle.cif_laws.proofs.orders.AtMost.{at_most_itself, at_most_or}
 use Rattle.cif_laws.proofs.lists.FilteredMembers.{find_some, find_none, all_of, all_by}
 
 module _ {A : Type 0} {cmp : A → A → Ordering} (total : IsTotalOrder cmp) (test : A → Bool) where
@@ -36,47 +36,18 @@ module _ {A : Type 0} {cmp : A → A → Ordering} (total : IsTotalOrder cmp) (t
   least_in (x ∷ xs) = by (test x) refl (least_in xs)
     where
       alone : test x ≡ true → ((z : A) → Contains xs z → test z ≡ false) → IsLeast (x ∷ xs) x
-      alone h none = record { among = cons-Contains-first _ xs; passes = h; first = λ z among passes. pick z passes (Contains-cons _ xs _ among) }
-        where
-          pick : (z : A) → test z ≡ true → (x ≡ z) ⊎ Contains xs z → IsAtMost cmp x z
-          pick z passes (inl e) = subst (IsAtMost cmp x) e (at_most_itself total x)
-          pick z passes (inr inside) = absurd (let bad : true ≡ false = sym passes ∙ none z inside in cc)
+      alone h none = search (rules, cons-Contains-first, at_most_itself)
 
       better : test x ≡ true → (y : A) → IsLeast xs y → IsAtMost cmp x y ⊎ IsBelow cmp y x → (z : A) × IsLeast (x ∷ xs) z
-      better h y best (inl low) =
-          (x, record { among = cons-Contains-first _ xs; passes = h; first = λ z among passes. pick z passes (Contains-cons _ xs _ among) })
-        where
-          pick : (z : A) → test z ≡ true → (x ≡ z) ⊎ Contains xs z → IsAtMost cmp x z
-          pick z passes (inl e) = subst (IsAtMost cmp x) e (at_most_itself total x)
-          pick z passes (inr inside) = at_most_trans total _ y _ low (best.first z inside passes)
-      better h y best (inr below) =
-          (y, record { among = cons-Contains x _ y best.among; passes = best.passes; first = λ z among passes. pick z passes (Contains-cons _ xs _ among) })
-        where
-          pick : (z : A) → test z ≡ true → (x ≡ z) ⊎ Contains xs z → IsAtMost cmp y z
-          pick z passes (inl e) = subst (IsAtMost cmp y) e (at_most_below cmp _ x below)
-          pick z passes (inr inside) = best.first z inside passes
+      better h y best (inl low) = search (rules, cons-Contains-first)
+      better h y best (inr below) = search (rules, cons-Contains, best.among, best.passes)
 
       by : (b : Bool) → test x ≡ b → ((z : A) → Contains xs z → test z ≡ false) ⊎ ((z : A) × IsLeast xs z) → ((z : A) → Contains (x ∷ xs) z → test z ≡ false)
           ⊎ ((z : A) × IsLeast (x ∷ xs) z)
       by true h (inl none) = inr (x, alone h none)
       by true h (inr (y, best)) = inr (better h y best (at_most_or total _ y))
-      by false h (inl none) = inl (λ z among. pick z (Contains-cons _ xs _ among))
-        where
-          pick : (z : A) → (x ≡ z) ⊎ Contains xs z → test z ≡ false
-          pick z (inl e) = subst (λ v. test v ≡ false) e h
-          pick z (inr inside) = none z inside
-      by false h (inr (y, best)) = inr (
-        y,
-        record {
-          among = cons-Contains x _ y best.among;
-          passes = best.passes;
-          first = λ z among passes. pick z passes (Contains-cons _ xs _ among);
-        },
-      )
-        where
-          pick : (z : A) → test z ≡ true → (x ≡ z) ⊎ Contains xs z → IsAtMost cmp y z
-          pick z passes (inl e) = absurd (let bad : false ≡ true = sym h ∙ ap test e ∙ passes in cc)
-          pick z passes (inr inside) = best.first z inside passes
+      by false h (inl none) = inl (λ z among. elim (Contains-cons _ xs _ among) [ inl e ↦ subst (λ v. test v ≡ false) e h | inr inside ↦ none z inside ])
+      by false h (inr (y, best)) = search (rules, cons-Contains, best.among, best.passes)
 
   -- if the search for the least member finds a member, it is the least of the members that pass the
   -- test
@@ -92,14 +63,10 @@ module _ {A : Type 0} {cmp : A → A → Ordering} (total : IsTotalOrder cmp) (t
 
   -- if the search for the least member returns `None`, no member passes the test
   pub none_passes : (xs : List A) → find (is_least xs) xs ≡ None → (z : A) → Contains xs z → test z ≡ false
-  none_passes xs none = by (least_in _)
-    where
-      by : ((z : A) → Contains xs z → test z ≡ false) ⊎ ((x : A) × IsLeast xs x) → (z : A) → Contains xs z → test z ≡ false
-      by (inl fails) = fails
-      by (inr (x, best)) =
-          let holds : is_least xs x ≡ true = (λ i. best.passes i && all_by _ _ (λ z among. behind_none _ _ (best.first z among)) i) in
-          let bad : true ≡ false = sym holds ∙ find_none _ _ _ none best.among in
-          absurd (true_is_not bad)
-        where
-          true_is_not : true ≡ false → ⊥
-          true_is_not h = cc
+  none_passes xs none = elim (least_in _) [
+    | inl fails ↦ fails
+    | inr (x, best) ↦
+        let holds : is_least xs x ≡ true = (λ i. best.passes i && all_by _ _ (λ z among. behind_none _ _ (best.first z among)) i) in
+        let bad : true ≡ false = sym holds ∙ find_none _ _ _ none best.among in
+        absurd (cc)
+  ]

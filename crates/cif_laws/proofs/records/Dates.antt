@@ -1,7 +1,7 @@
 -- Lemmas on day numbers, and on their relation to the calendar of the crate `jiff`.
-use Rattle.std.proofs.Common.{◌≡◌, ℕ, ◌≤◌, true, pos, arith, zero, suc, ◌+◌, ◌<◌, ◌∙◌, subst, Bool, false, cond, refl, ◌⊎◌, inl, inr, sym, ℤ, ap, ◌-◌}
+use Rattle.std.proofs.Common.{◌≡◌, ℕ, ◌≤◌, true, pos, arith, zero, suc, ◌+◌, ◌<◌, ◌∙◌, subst, Bool, false, cond, refl, inl, inr, ◌-◌}
 use Rattle.std.proofs.Common.{rules}
-use Rattle.std.specs.Prelude.{◌↔◌, nat_le, count_by, unsigned_abs}
+use Rattle.std.specs.Prelude.{◌↔◌, nat_le, count_by}
 use Rattle.std.specs.List.{range_with_len}
 use Rattle.std.proofs.lemmas.Bool.{leb-true, le-leb, cases_order, lt-leb}
 use Rattle.std.proofs.lemmas.List.Sums.{sum_by-cons}
@@ -23,31 +23,19 @@ count_prefix : (p : ℕ → Bool) (a n k : ℕ) → k ≤ n → ((i : ℕ) → i
     → count_by p (range_with_len a n) ≡ k
 count_prefix p a zero k within passes fails = omega arith
 count_prefix p a (suc n) zero within passes fails =
-    let first : p a ≡ false = subst (λ x. p x ≡ false) add-zero-here (fails 0 (omega arith) (omega arith)) in
-    let rest = count_prefix p (a + 1) n 0 (omega arith) (λ i below. absurd (omega arith)) (λ i low high. subst (λ x. p x ≡ false) (shifted i)
+    let first : p a ≡ false = subst (λ x. p x ≡ false) (omega arith) (fails 0 (omega arith) (omega arith)) in
+    let rest = count_prefix p (a + 1) n 0 (omega arith) (λ i below. absurd (omega arith)) (λ i low high. subst (λ x. p x ≡ false) (omega arith)
     (fails (i + 1) (omega arith) (omega arith))) in
     sum_by-cons (λ x. cond (p x) 1 0) a (range_with_len (a + 1) n) ∙ (λ i. cond (first i) 1 0 + rest i)
-  where
-    add-zero-here : a + 0 ≡ a
-    add-zero-here = omega arith
-
-    shifted : (i : ℕ) → a + (i + 1) ≡ (a + 1) + i
-    shifted i = omega arith
 count_prefix p a (suc n) (suc k) within passes fails =
-    let first : p a ≡ true = subst (λ x. p x ≡ true) add-zero-here (passes 0 (omega arith)) in
+    let first : p a ≡ true = subst (λ x. p x ≡ true) (omega arith) (passes 0 (omega arith)) in
     let rest = count_prefix p (a + 1) n k (omega arith)
     (λ i below. subst (λ x. p x ≡ true) (shifted i) (passes (i + 1) (omega arith)))
     (λ i low high. subst (λ x. p x ≡ false) (shifted i) (fails (i + 1) (omega arith) (omega arith))) in
-    sum_by-cons (λ x. cond (p x) 1 0) a (range_with_len (a + 1) n) ∙ (λ i. cond (first i) 1 0 + rest i) ∙ one_more
+    sum_by-cons (λ x. cond (p x) 1 0) a (range_with_len (a + 1) n) ∙ (λ i. cond (first i) 1 0 + rest i) ∙ (omega arith)
   where
-    add-zero-here : a + 0 ≡ a
-    add-zero-here = omega arith
-
     shifted : (i : ℕ) → a + (i + 1) ≡ (a + 1) + i
     shifted i = omega arith
-
-    one_more : 1 + k ≡ suc k
-    one_more = omega arith
 
 -- 1 January 1960 has the day count 4,368,300 in the calendar of `jiff`
 start_of_1960 : day_count (pos 1960) 1 1 ≡ 4_368_300
@@ -62,26 +50,19 @@ later_year y y₂ m d m₂ d₂ civil day lt = day_count-lt_year (pos y) m d (po
 
 -- no day of a year is earlier than 1 January of that year
 first_of_year : (y m d : ℕ) → y ≤ 9999 → 1 ≤ m → 1 ≤ d → day_count (pos y) 1 1 ≤ day_count (pos y) m d
-first_of_year y m d low month day = by (cases_order 1 m)
-  where
-    by : (1 ≡ m) ⊎ ((1 < m) ⊎ (m < 1)) → day_count (pos y) 1 1 ≤ day_count (pos y) m d
-    by (inl same) = let step = day_count-day (pos y) 1 1 d (omega arith) day in subst (λ v. day_count (pos y) 1 1 ≤ day_count (pos y) v d) same (omega arith)
-    by (inr (inl lt)) = let up = day_count-lt_month (pos y) 1 1 m d (civil_start y low) day lt in omega arith
-    by (inr (inr gt)) = absurd (omega arith)
+first_of_year y m d low month day = elim (cases_order 1 m) [
+  | inl same ↦ let step = day_count-day (pos y) 1 1 d (omega arith) day in subst (λ v. day_count (pos y) 1 1 ≤ day_count (pos y) v d) same (omega arith)
+  | inr (inl lt) ↦ let up = day_count-lt_month (pos y) 1 1 m d (civil_start y low) day lt in omega arith
+  | inr (inr gt) ↦ absurd (omega arith)
+]
 
 first_of_month : (y m d : ℕ) → 1 ≤ d → day_count (pos y) m 1 ≤ day_count (pos y) m d
 first_of_month y m d day = let step = day_count-day (pos y) m 1 d (omega arith) day in omega arith
 
-from_1960 : (y m d : ℕ) → 1960 ≤ y → y ≤ 9999 → 1 ≤ m → 1 ≤ d → 4_368_300 ≤ day_count (pos y) m d
-from_1960 = search (rules, start_of_1960, first_of_year, cases_order, pos, later_year, civil_start)
-
-abs_is : (z : ℤ) (n : ℕ) → z ≡ pos n → unsigned_abs z ≡ n
-abs_is z n e = ap unsigned_abs e
-
 -- the day number of a date is its day count in the calendar of `jiff`, minus the day count of 1
 -- January 1960
 pub day_number-day_count : (y m d : ℕ) → 1960 ≤ y → y ≤ 9999 → 1 ≤ m → 1 ≤ d → day_number y m d + 4_368_300 ≡ day_count (pos y) m d
-day_number-day_count = search (rules, from_1960, pos, signed_arith, days_from_civil-day_count, abs_is)
+day_number-day_count = search (rules, pos, signed_arith, days_from_civil-day_count, start_of_1960, first_of_year, cases_order, later_year, civil_start)
 
 -- `year_of`, `month_of` and `day_of_month` are inverse to `day_number`
 module _ (y m d : ℕ) (year : 1960 ≤ y) (last : y ≤ 2059) (civil : IsCivilDate (pos y) m d) where
@@ -101,24 +82,19 @@ module _ (y m d : ℕ) (year : 1960 ≤ y) (last : y ≤ 2059) (civil : IsCivilD
       omega arith
 
   month_passes : (i : ℕ) → i < m → nat_le (day_number y (1 + i) 1) (day_number y m d) ≡ true
-  month_passes i below = by (cases_order (1 + i) m)
-    where
-      by : (1 + i ≡ m) ⊎ ((1 + i < m) ⊎ (m < 1 + i)) → nat_le (day_number y (1 + i) 1) (day_number y m d) ≡ true
-      by (inl same) =
-          let first = first_of_month y m d civil.2.0 in
-          let there = day_number-day_count y m 1 year (omega arith) civil.1.0 (omega arith) in
-          let here = number_here in
-          le-leb (day_number y (1 + i) 1) (day_number y m d) (subst (λ v. day_number y v 1 ≤ day_number y m d) (sym same) (omega arith))
-      by (inr (inl lt)) =
-          let up = day_count-lt_month (pos y) (1 + i) 1 m d (
-            civil.0,
-            (omega arith, (let high = civil.1.1 in omega arith)),
-            (omega arith, omega (arith, days_in_month_bounds (pos y) (1 + i))),
-          ) civil.2.0 lt in
-          let there = day_number-day_count y (1 + i) 1 year (omega arith) (omega arith) (omega arith) in
-          let here = number_here in
-          le-leb (day_number y (1 + i) 1) (day_number y m d) (omega arith)
-      by (inr (inr gt)) = absurd (omega arith)
+  month_passes i below = elim (cases_order (1 + i) m) [
+    | inl same ↦ search (rules, first_of_month, day_number-day_count, number_here, le-leb, civil.2.0, civil.1.0)
+    | inr (inl lt) ↦
+        let up = day_count-lt_month (pos y) (1 + i) 1 m d (
+          civil.0,
+          (omega arith, (let high = civil.1.1 in omega arith)),
+          (omega arith, omega (arith, days_in_month_bounds (pos y) (1 + i))),
+        ) civil.2.0 lt in
+        let there = day_number-day_count y (1 + i) 1 year (omega arith) (omega arith) (omega arith) in
+        let here = number_here in
+        le-leb (day_number y (1 + i) 1) (day_number y m d) (omega arith)
+    | inr (inr gt) ↦ absurd (omega arith)
+  ]
 
   month_fails : (i : ℕ) → m ≤ i → i < 12 → nat_le (day_number y (1 + i) 1) (day_number y m d) ≡ false
   month_fails i low high =

@@ -10,7 +10,7 @@ use Rattle.std.proofs.lemmas.Grind.{flat_map-append}
 use Rattle.std.proofs.lemmas.List.Elements.{recursion_from_All, All-from_recursion}
 use Rattle.docker_model.specs.records.Record.{is_printable, leftmost_bad_byte, IsRecord, Kind, HasKind}
 use Rattle.docker_model.specs.records.Record.{kind_of}
-use Rattle.docker_model.specs.records.Clock.{is_present_time, half_minutes, is_scheduled_time, scheduled_time}
+use Rattle.docker_model.specs.records.Clock.{is_present_time, is_scheduled_time, scheduled_time}
 use Rattle.docker_model.specs.records.Field.{HasGoodFields}
 use Rattle.docker_model.specs.file.Journey.{fall_count, Occasion, times_of, times_along, midnights, times_by_kind, timed}
 use Rattle.cif_laws.specs.RecordTest.{is_record}
@@ -18,7 +18,6 @@ use Rattle.cif_laws.specs.TimesSoFar.{falls_after, last_of, later_or}
 use Rattle.cif_laws.proofs.lists.AllOf.{all_append, all_map}
 use Rattle.cif_laws.proofs.records.Columns.{good_fields}
 use Rattle.cif_laws.proofs.lists.BoolsAndOptions.{both, test_by_none, none_by_test, and_true, either}
-use Rattle.cif_laws.proofs.records.GoodFields.{clock_minute}
 
 -- ---- bytes are a record if and only if they pass the test `is_record`
 
@@ -42,9 +41,7 @@ pub no_bad_byte : (bytes : List ℕ) → AllPass is_printable bytes → leftmost
 no_bad_byte bytes all = by (nat_lt (printable_front bytes) (length bytes)) refl
   where
     by : (t : Bool) → nat_lt (printable_front bytes) (length bytes) ≡ t → leftmost_bad_byte bytes ≡ None
-    by true h =
-        let whole = front_whole bytes (recursion_from_All (λ b. is_printable b ≡ true) bytes all) in let less = ltb-true (printable_front bytes)
-        (length bytes) h in absurd (omega arith)
+    by true h = search (rules, front_whole, recursion_from_All, ltb-true, printable_front)
     by false h = bad_byte_by bytes false h
 
 -- if no byte is bad, all bytes are printable
@@ -142,11 +139,8 @@ no_times_before line lines none = ap (λ times. map (λ (time : Occasion × ℕ)
 abbrev IsWithinDay : Occasion × ℕ → Type 0
 IsWithinDay time = time.1 ≤ last_time
 
-half_minutes_within : (field : List ℕ) → is_present_time field ≡ true → half_minutes field ≤ last_time
-half_minutes_within = search (rules, clock_minute, both)
-
 timed_within : (occasion : Occasion) (field : List ℕ) → is_scheduled_time field ≡ true → AllByRecursion IsWithinDay (timed occasion (scheduled_time field))
-timed_within = search (rules, either, half_minutes_within)
+timed_within = search (rules, either)
 
 present_scheduled : (field : List ℕ) → is_present_time field ≡ true → is_scheduled_time field ≡ true
 present_scheduled = search rules

@@ -13,10 +13,10 @@ use Rattle.docker_model.specs.file.FileFault.{bad_place, bad_field, third_midnig
 use Rattle.cif_laws.specs.ScheduleFault.{HoldsInSchedule, IsScheduleFault, IsOutOfSchedule}
 use Rattle.cif_laws.specs.RecordTest.{is_record, has_good_fields}
 use Rattle.cif_laws.specs.ScheduleStage.{after_basic, is_first_line, is_basic_kind, Stage, next_stage, stage_of, stage_after, may_end, is_sound_next}
-use Rattle.cif_laws.specs.FileStage.{unit_by_kind, in_schedule, place_in, in_stage_or, is_sound_at, next_place, Place, between_units, IsPlaceOf}
+use Rattle.cif_laws.specs.FileStage.{unit_by_kind, in_schedule, place_in, in_stage_or, next_place, Place, between_units, IsPlaceOf}
 use Rattle.cif_laws.specs.RecordCause.{with_column, field_cause, first_line_cause, schedule_cause, is_after_end}
 use Rattle.cif_laws.specs.RecordCause.{kind_cause, cause_of}
-use Rattle.cif_laws.proofs.files.OneFileFault.{column_of, column_told, same_cause}
+use Rattle.cif_laws.proofs.files.OneFileFault.{column_told, same_cause}
 use Rattle.cif_laws.proofs.records.RecordTests.{record_iff_test, no_bad_byte}
 use Rattle.cif_laws.proofs.schedules.ScheduleStages.{begins_iff_stage, witness, witness_kind, witness_record, witness_fields, front_of_basic}
 use Rattle.cif_laws.proofs.schedules.ScheduleStages.{front_begins, first_line_iff_test, no_lines_begin, next_line_by_test, begins_more_iff}
@@ -26,14 +26,10 @@ use Rattle.cif_laws.proofs.files.FileStages.{stage_stops, tracked_place}
 
 -- ---- the fault at a record that can't continue a schedule has at most one cause
 
-column_in : (earlier : Lines) (line : List ℕ) (cause : FileCause) → HoldsInSchedule earlier line cause → column_told (cause_rank cause) line ≡ column_of cause
-unfolding column_of column_told
-column_in = search rules
-
 -- the fault at a line that can't continue a schedule has at most one cause
 pub one_schedule_cause : (earlier : Lines) (line : List ℕ) (first second : FileCause) → IsScheduleFault earlier line first → IsScheduleFault earlier line second
     → first ≡ second
-one_schedule_cause = search (rules, cases_order, same_cause, column_in, column_told)
+one_schedule_cause = search (rules, cases_order, same_cause, column_told)
 
 -- ---- if a record can't be the first record of a schedule, the cause of its fault is
 -- `first_line_cause`
@@ -57,11 +53,15 @@ basic_is = search rules
 
 -- a good basic schedule begins some schedule
 witness_begins : BeginsSchedule (witness basic_schedule ∷ [])
-witness_begins = front_begins after_basic (witness basic_schedule ∷ []) (front_of_basic (witness basic_schedule) (record {
-  is = (record_iff_test (witness basic_schedule)).1 (witness_record basic_schedule);
-  kind = witness_kind basic_schedule;
-  fields = witness_fields basic_schedule;
-}))
+witness_begins = front_begins after_basic (witness basic_schedule ∷ []) (search (
+  rules,
+  front_of_basic,
+  witness,
+  record_iff_test,
+  witness_record,
+  witness_kind,
+  witness_fields,
+))
 
 kind_is_known : (line : List ℕ) (kind : Kind) → kind_of line ≡ Some kind → ¬ (kind_of line ≡ None)
 kind_is_known line kind is none = let bad : None ≡ Some kind = sym none ∙ is in cc
@@ -74,18 +74,14 @@ first_line_fault line is test = by (kind_of line) refl
     here begins = let bad : true ≡ false = sym (begins_first line begins) ∙ test in cc
 
     out : is_basic_kind (kind_of line) ≡ false → IsOutOfSchedule [] line
-    out other next same begins =
-        let told = (first_line_iff_test next).1 (begins_first next begins) in
-        let bad : true ≡ false = (λ i. is_basic_kind (sym told.kind i)) ∙ ap is_basic_kind same ∙ other in cc
+    out other next same begins = search (rules, first_line_iff_test, begins_first)
 
     inside : kind_of line ≡ Some basic_schedule → ¬ IsOutOfSchedule [] line
     inside kind outside = outside (witness basic_schedule) (witness_kind basic_schedule ∙ sym kind) witness_begins
 
     field : (bad : Option ℕ) → leftmost_bad_field line ≡ bad → kind_of line ≡ Some basic_schedule
         → IsScheduleFault [] line (with_column bad_field bad third_midnight)
-    field None h kind =
-        let first = (first_line_iff_test line).0 (record { is = is; kind = kind; fields = h }) in
-        let wrong : true ≡ false = sym first ∙ test in cc
+    field None h kind = search (rules, first_line_iff_test)
     field (Some at) h kind = record {
       earlier_begin = no_lines_begin;
       here = here;
@@ -96,21 +92,11 @@ first_line_fault line is test = by (kind_of line) refl
     placed : (kind : Kind) → kind_of line ≡ Some kind → (b : Bool) → is_basic_kind (Some kind) ≡ b
         → IsScheduleFault [] line (cond b (field_cause line) bad_place)
     placed kind h true basic = field (leftmost_bad_field line) refl (h ∙ basic_is (Some kind) basic)
-    placed kind h false basic = record {
-      earlier_begin = no_lines_begin;
-      here = here;
-      holds = out (ap is_basic_kind h ∙ basic);
-      first = none_below [] line 5 (omega arith) (λ _. kind_is_known line kind h) (λ below. absurd (omega arith)) (λ below. absurd (omega arith));
-    }
+    placed kind h false basic = search (rules, no_lines_begin, none_below, kind_is_known)
 
     by : (kind : Option Kind) → kind_of line ≡ kind
         → IsScheduleFault [] line (cond (is_none kind) bad_kind (cond (is_basic_kind kind) (field_cause line) bad_place))
-    by None h = record {
-      earlier_begin = no_lines_begin;
-      here = here;
-      holds = h;
-      first = none_below [] line 4 (omega arith) (λ below. absurd (omega arith)) (λ below. absurd (omega arith)) (λ below. absurd (omega arith));
-    }
+    by None h = search (rules, no_lines_begin, none_below)
     by (Some kind) h = placed kind h (is_basic_kind (Some kind)) refl
 
 -- ---- if a later record can't continue the schedule, the cause of its fault is `schedule_cause`
@@ -153,9 +139,7 @@ schedule_fault (basic ∷ rest) stage line at is nowhere = by (kind_of line) ref
 
     few : is_deletion (first_record (basic ∷ rest)) ≡ false → IsSound front.basic front.journey → midnights (basic ∷ rest) ≤ 2
     few kept (inl deletion) = let bad : true ≡ false = sym (subst (λ l. is_deletion (first_record l) ≡ true) (sym front.whole) deletion) ∙ kept in cc
-    few kept (inr good) =
-        subst (λ n. n ≤ 2) (sym (ap midnights front.whole ∙ midnights_of_journey front.basic front.extra front.journey front.kind
-        (details_of stage front.extra front.journey front.shape))) good.falls
+    few kept (inr good) = search (rules, midnights_of_journey, details_of, front.whole, front.basic, front.extra, front.journey, front.kind, front.shape)
 
     told : (kind : Kind) (next : Stage) → kind_of line ≡ Some kind → stage_after stage (Some kind) ≡ Some next → IsNoNextLine stage (basic ∷ rest) line
         → IsScheduleFault (basic ∷ rest) line (field_cause line)
@@ -236,8 +220,7 @@ no_other = search rules
 pub next_place_of_stage : (stage : Stage) (lines : Lines) (line : List ℕ) → IsOfSchedule stage lines line
     → next_place (in_schedule stage lines) line ≡ option_map (λ next. place_in next (lines ++ line ∷ [])) (next_stage stage lines line)
 next_place_of_stage stage lines line of =
-    (λ i. cond (is_record line && is_sound_at (in_schedule stage lines) line) (in_stage_or (lines ++ line ∷ []) (stage_after stage (kind_of line))
-    (no_other stage lines line of i)) None)
+    (search (rules, no_other))
     ∙ by (stage_after stage (kind_of line))
   where
     tested : (b : Bool) (next : Stage) → cond b (Some (place_in next (lines ++ line ∷ []))) None ≡ option_map (λ s. place_in s (lines ++ line ∷ []))
@@ -268,8 +251,7 @@ cause_of_record = search (rules, lt-leb, no_bad_byte)
 pub cause_in_schedule : (limit count : ℕ) (stage : Stage) (lines : Lines) (line : List ℕ) → count < limit → IsRecord line → IsOfSchedule stage lines line
     → cause_of limit count (in_schedule stage lines) line ≡ schedule_cause stage line
 cause_in_schedule limit count stage lines line under is of = cause_of_record limit _ (in_schedule stage lines) _ under refl is
-    ∙ (λ i. cond (is_none (kind_of line)) bad_kind
-    (cond (is_none (in_stage_or (lines ++ line ∷ []) (stage_after stage (kind_of line)) (no_other stage _ line of i))) bad_place (field_cause line)))
+    ∙ (search (rules, no_other))
     ∙ ap (λ b. cond (is_none (kind_of line)) bad_kind (cond b bad_place (field_cause line))) (by (stage_after stage (kind_of line)))
   where
     by : (after : Option Stage) → is_none (in_stage_or (lines ++ line ∷ []) after None) ≡ is_none after
@@ -289,14 +271,7 @@ pub fault_of_schedule : (limit : ℕ) (earlier : Lines) (stage : Stage) (lines :
     → IsPlaceOf earlier (in_schedule stage lines) → length earlier < limit → IsRecord line
     → IsOfSchedule stage lines line → IsScheduleFault lines line cause
     → (next_place (in_schedule stage lines) line ≡ None) × (cause_of limit (length earlier) (in_schedule stage lines) line ≡ cause)
-fault_of_schedule limit earlier stage lines line cause found under is of fault = (
-  next_place_of_stage stage lines line of ∙ ap (option_map (λ next. place_in next (lines ++ line ∷ []))) nowhere,
-  cause_in_schedule limit (length earlier) stage lines line under is of ∙ one_schedule_cause lines line (schedule_cause stage line) cause
-      (schedule_fault lines stage line at is nowhere) fault,
-)
-  where
-    at : stage_of lines ≡ Some stage
-    at = (tracked_place earlier (in_schedule stage lines) found).0
-
-    nowhere : next_stage stage lines line ≡ None
-    nowhere = no_next_stage lines stage line at fault.here
+fault_of_schedule limit earlier stage lines line cause found under is of fault =
+    let at : stage_of lines ≡ Some stage = (tracked_place earlier (in_schedule stage lines) found).0 in
+    let nowhere : next_stage stage lines line ≡ None = no_next_stage lines stage line at fault.here in
+    search (rules, next_place_of_stage, cause_in_schedule, one_schedule_cause, schedule_fault)

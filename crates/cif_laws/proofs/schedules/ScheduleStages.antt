@@ -15,11 +15,10 @@ use Rattle.docker_model.specs.file.Journey.{times_along, fall_count, midnights}
 use Rattle.docker_model.specs.file.File.{IsWithinJourney, IsJourney, AreExtraDetails, IsSoundJourney, first_record, MayLackJourney, IsSchedule, BeginsSchedule}
 use Rattle.cif_laws.specs.RecordTest.{is_record, has_good_fields}
 use Rattle.cif_laws.specs.TimesSoFar.{falls_after, last_of}
-use Rattle.cif_laws.specs.ScheduleStage.{in_journey, after_basic, Stage, after_details, after_journey, is_basic_kind, is_first_line}
+use Rattle.cif_laws.specs.ScheduleStage.{in_journey, after_basic, Stage, after_details, after_journey, is_first_line}
 use Rattle.cif_laws.specs.ScheduleStage.{is_sound_next, stage_after, next_stage, may_lack, may_end, stage_from, stage_of}
 use Rattle.cif_laws.proofs.records.Builders.{no_text, hd, ti, ta, aa, bs, lo, li, lt, cr, zz, wide}
 use Rattle.cif_laws.proofs.lists.AllOf.{all_append}
-use Rattle.cif_laws.proofs.records.Columns.{fields_good}
 use Rattle.cif_laws.proofs.lists.BoolsAndOptions.{both, none_by_test, test_by_none, and_true, either, then_some, some_then}
 use Rattle.cif_laws.proofs.records.RecordTests.{record_iff_test, no_times, no_times_before, midnights_step, last_time}
 use Rattle.cif_laws.proofs.records.RecordTests.{no_fall_last, times_append, along_within, fewer_midnights}
@@ -62,9 +61,6 @@ details_of = search rules
 
 -- ---- the first record leads the reader to the stage `after_basic`
 
-basic_by_test : (kind : Option Kind) → is_basic_kind kind ≡ true → kind ≡ Some basic_schedule
-basic_by_test = search rules
-
 -- the record can be the first record of a schedule: it is a basic schedule with good fields
 pub record IsFirstLine (line : List ℕ) : Type 0 where
   pub is : IsRecord line
@@ -73,7 +69,7 @@ pub record IsFirstLine (line : List ℕ) : Type 0 where
 
 -- a record can be the first record of a schedule if and only if it passes the test `is_first_line`
 pub first_line_iff_test : (line : List ℕ) → IsFirstLine line ↔ (is_first_line line ≡ true)
-first_line_iff_test = search (rules, and_true, record_iff_test, test_by_none, both, basic_by_test, none_by_test)
+first_line_iff_test = search (rules, and_true, record_iff_test, test_by_none, both, none_by_test)
 
 -- after a record that can be the first record of a schedule, a reader is at the stage `after_basic`
 pub front_of_basic : (line : List ℕ) → IsFirstLine line → IsFront after_basic (line ∷ [])
@@ -81,14 +77,10 @@ front_of_basic = search rules
 
 -- ---- a schedule passes midnight as often as its journey
 
--- extra details have no times
-details_no_times : (extra journey : Lines) → AreExtraDetails extra → times_along (extra ++ journey) ≡ times_along journey
-details_no_times = search (rules, no_times_before, no_times)
-
 -- the times of a schedule are the times of its journey
 pub times_of_journey : (basic : List ℕ) (extra journey : Lines) → HasKind basic_schedule basic → AreExtraDetails extra
     → times_along (basic ∷ extra ++ journey) ≡ times_along journey
-times_of_journey = search (rules, no_times_before, no_times, details_no_times)
+times_of_journey = search (rules, no_times_before, no_times)
 
 -- a schedule passes midnight as often as its journey
 pub midnights_of_journey : (basic : List ℕ) (extra journey : Lines) → HasKind basic_schedule basic → AreExtraDetails extra
@@ -96,10 +88,6 @@ pub midnights_of_journey : (basic : List ℕ) (extra journey : Lines) → HasKin
 midnights_of_journey = search (rules, times_of_journey)
 
 -- ---- one more record leads the reader to the next stage
-
--- a record of extra details has no bad field
-pub no_extra_fields : (line : List ℕ) → HasKind extra_details line → HasGoodFields line
-no_extra_fields line kind = fields_good extra_details line kind tt
 
 -- the next record has good fields, and the schedule passes midnight at most twice up to this record
 pub record IsSoundNext (lines : Lines) (line : List ℕ) : Type 0 where
@@ -139,8 +127,7 @@ sound_more stage lines line front test = by (sound_next_by_test lines _ test) fr
         (details_of _ front.extra _ front.shape) in
         let falls = next.falls in
         inr (record {
-          fields = All-from_recursion HasGoodFields (front.journey ++ line ∷ []) (all_append HasGoodFields _ (line ∷ [])
-              (recursion_from_All HasGoodFields front.journey good.fields) (next.fields, tt));
+          fields = All-from_recursion HasGoodFields (front.journey ++ line ∷ []) (search (rules, all_append, recursion_from_All));
           falls = omega arith;
         })
 
@@ -204,32 +191,10 @@ next_front stage lines line next front test = by (kind_of line) refl (next_line_
   where
     by : (kind : Option Kind) → kind_of line ≡ kind → IsNextLine stage lines line next → IsFront next (lines ++ line ∷ [])
     by None h told = let none : None ≡ Some next = sym (no_stage_of_none stage) ∙ ap (stage_after stage) (sym h) ∙ told.stage_is in cc
-    by (Some kind) h told = shaped (shape_more stage kind next front.extra front.journey line front.shape h (ap (stage_after stage) (sym h) ∙ told.stage_is))
-      where
-        shaped : (HasShape next front.extra (front.journey ++ line ∷ [])) ⊎ (HasShape next (line ∷ []) front.journey × (front.extra ≡ [])
-            × (front.journey ≡ [])) → IsFront next (lines ++ line ∷ [])
-        shaped (inl shape) = record {
-          basic = front.basic;
-          extra = front.extra;
-          journey = front.journey ++ line ∷ [];
-          whole = (λ i. front.whole i ++ line ∷ []) ∙ ap (λ rest. front.basic ∷ rest) (append_assoc front.extra front.journey (line ∷ []));
-          records = all_append IsRecord lines (line ∷ []) front.records (told.is, tt);
-          kind = front.kind;
-          fields = front.fields;
-          shape = shape;
-          sound = sound_more stage lines line front told.sound;
-        }
-        shaped (inr alone) = record {
-          basic = front.basic;
-          extra = line ∷ [];
-          journey = front.journey;
-          whole = (λ i. front.whole i ++ line ∷ []) ∙ (λ i. (front.basic ∷ alone.1 i ++ alone.2 i) ++ line ∷ []) ∙ (λ i. front.basic ∷ line ∷ sym alone.2 i);
-          records = all_append IsRecord lines (line ∷ []) front.records (told.is, tt);
-          kind = front.kind;
-          fields = front.fields;
-          shape = alone.0;
-          sound = front.sound;
-        }
+    by (Some kind) h told = elim (shape_more stage kind next front.extra front.journey line front.shape h (ap (stage_after stage) (sym h) ∙ told.stage_is)) [
+      | inl shape ↦ search (rules, append_assoc, all_append, sound_more, front.basic, front.extra, front.journey, front.whole, front.records, told.is)
+      | inr alone ↦ search (rules, all_append, front.basic, front.journey, front.whole, alone.1, alone.2, front.records)
+    ]
 
 -- ---- if records have the structure of a stage at which the schedule may end, they are a schedule
 
@@ -307,7 +272,16 @@ witness_sound stage lines kind front = test_by_sound_next lines _ (by front.soun
   where
     by : IsSound front.basic front.journey → (is_deletion (first_record lines) ≡ true) ⊎ IsSoundNext lines (witness kind)
     by (inl deletion) = inl (subst (λ l. is_deletion (first_record l) ≡ true) (sym front.whole) deletion)
-    by (inr good) = inr (record { fields = witness_fields kind; falls = few (witness_times _) })
+    by (inr good) = inr (record {
+      fields = witness_fields kind;
+      falls = elim (witness_times _) [
+        | inl none ↦ let whole = joined [] none ∙ ap fall_count (append-nil (times_along front.journey)) in let falls = good.falls in omega arith
+        | inr one ↦
+            let whole = joined (last_time ∷ []) one ∙ no_fall_last (times_along front.journey)
+            (along_within _ (recursion_from_All HasGoodFields front.journey good.fields)) in
+            let falls = good.falls in omega arith
+      ];
+    })
       where
         same : times_along lines ≡ times_along front.journey
         same = ap times_along front.whole ∙ times_of_journey front.basic _ front.journey front.kind (details_of _ front.extra _ front.shape)
@@ -315,15 +289,6 @@ witness_sound stage lines kind front = test_by_sound_next lines _ (by front.soun
         joined : (times : List ℕ) → times_along (witness kind ∷ []) ≡ times → midnights (lines ++ witness kind ∷ []) ≡ fall_count
             (times_along front.journey ++ times)
         joined times is = ap fall_count (times_append lines _ ∙ (λ i. same i ++ is i))
-
-        few : (times_along (witness kind ∷ []) ≡ []) ⊎ (times_along (witness kind ∷ []) ≡ last_time ∷ []) → midnights (lines ++ witness kind ∷ []) ≤ 2
-        few (inl none) =
-            let whole = joined [] none ∙ ap fall_count (append-nil (times_along front.journey)) in
-            let falls = good.falls in omega arith
-        few (inr one) =
-            let whole = joined (last_time ∷ []) one ∙ no_fall_last (times_along front.journey)
-            (along_within _ (recursion_from_All HasGoodFields front.journey good.fields)) in
-            let falls = good.falls in omega arith
 
 -- suppose that records have the structure of a stage, and that a kind leads to a next stage. With
 -- the record `witness kind` appended, the records have the structure of that next stage
@@ -480,9 +445,6 @@ kinds_lead basic extra journey (inl none) (inr lack) = search (rules, test_by_la
 kinds_lead basic extra journey (inr one) (inl is) = search (rules, journey_along)
 kinds_lead basic extra journey (inr one) (inr lack) = search (rules, test_by_lack)
 
-extra_fields : (extra : Lines) → AreExtraDetails extra → AllByRecursion HasGoodFields extra
-extra_fields = search (rules, no_extra_fields)
-
 -- the records of a schedule lead the reader to a stage at which the schedule may end
 pub stage_of_schedule : (lines : Lines) → IsSchedule lines → (stage : Stage) × IsWholeBy lines stage
 stage_of_schedule lines is = subst (λ l. (stage : Stage) × IsWholeBy l stage) (sym is.whole) (lead.final, record { found = found; may = lead.may })
@@ -495,10 +457,7 @@ stage_of_schedule lines is = subst (λ l. (stage : Stage) × IsWholeBy l stage) 
 
     sound : (is_deletion is.basic ≡ true) ⊎ IsSoundJourney is.journey → IsSoundRest is.basic [] (is.extra ++ is.journey)
     sound (inl deletion) = inl deletion
-    sound (inr good) = inr (
-      all_append HasGoodFields _ is.journey (extra_fields _ is.details) (recursion_from_All HasGoodFields is.journey good.fields),
-      subst (λ n. n ≤ 2) (sym (midnights_of_journey is.basic _ is.journey is.kind is.details)) good.falls,
-    )
+    sound (inr good) = search (rules, all_append, recursion_from_All, midnights_of_journey)
 
     found : stage_of (is.basic ∷ is.extra ++ is.journey) ≡ Some lead.final
     found =
@@ -523,11 +482,8 @@ begins_iff_stage basic rest = (
 -- the empty list of records begins some schedule
 pub no_lines_begin : BeginsSchedule []
 no_lines_begin =
-    begins_shorter [] (witness basic_schedule ∷ []) (front_begins after_basic (witness basic_schedule ∷ []) (front_of_basic (witness basic_schedule) (record {
-      is = (record_iff_test (witness basic_schedule)).1 (witness_record basic_schedule);
-      kind = witness_kind basic_schedule;
-      fields = witness_fields basic_schedule;
-    })))
+    begins_shorter [] (witness basic_schedule ∷ []) (front_begins after_basic (witness basic_schedule ∷ [])
+    (search (rules, front_of_basic, witness, record_iff_test, witness_record, witness_kind, witness_fields)))
 
 -- suppose that records lead the reader to a stage. With one more record they begin a schedule if
 -- and only if this record leads to a next stage
@@ -564,11 +520,7 @@ schedule_or_not lines = by (stage_of lines) refl
       where
         ended : (b : Bool) → may_end stage lines ≡ b → IsSchedule lines ⊎ ¬ IsSchedule lines
         ended true may = inl (schedule_of_front stage lines (front_of_stage lines stage h) may)
-        ended false may = inr (λ is.
-            let whole = stage_of_schedule lines is in
-            let both_are : Some whole.0 ≡ Some stage = sym whole.1.found ∙ h in
-            let same : whole.0 ≡ stage = cc in
-            let bad : true ≡ false = sym whole.1.may ∙ ap (λ s. may_end s lines) same ∙ may in cc)
+        ended false may = search (rules, stage_of_schedule)
 
 -- ---- which kinds of record are allowed at a stage
 

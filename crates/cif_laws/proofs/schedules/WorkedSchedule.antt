@@ -1,5 +1,5 @@
 -- The schedule of the example file is a schedule.
-use Rattle.std.proofs.Common.{◌≡◌, ℕ, List, [], ◌∷◌, length, refl, inl, inr, true, lit≤}
+use Rattle.std.proofs.Common.{◌≡◌, ℕ, List, [], ◌∷◌, length, refl, inl, inr, true, lit≤, rules}
 use Rattle.std.specs.List.{list_all}
 use Rattle.std.proofs.lemmas.List.Elements.{All-from_recursion}
 use Rattle.std.proofs.lemmas.List.Sums.{AllPass-from_list_all}
@@ -31,8 +31,7 @@ f2_is_schedule = record {
   extra = [];
   journey = f2_origin ∷ f2_terminus ∷ [];
   whole = refl;
-  records = All-from_recursion IsRecord f2_schedule
-      (record_by_test f2_basic refl refl, (record_by_test f2_origin refl refl, (record_by_test f2_terminus refl refl, tt)));
+  records = search (rules, f2_schedule, record_by_test, f2_basic, f2_origin, f2_terminus);
   kind = refl;
   fields = refl;
   details = inl refl;

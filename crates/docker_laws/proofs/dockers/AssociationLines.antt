@@ -1,6 +1,6 @@
 -- Lemmas on the docker line of an association for one start day of the base train. The association
 -- lines of a docker are exactly these lines, for all associations and start days.
-use Rattle.std.proofs.Common.{◌≡◌, ℕ, List, [], ◌∷◌, refl, ap, sym, ◌∙◌, subst, Some, None, Bool, true, false, cond, Contains, eqb-true, arith}
+use Rattle.std.proofs.Common.{◌≡◌, ℕ, List, [], ◌∷◌, refl, sym, ◌∙◌, subst, Some, None, Bool, true, false, cond, Contains, eqb-true, arith}
 use Rattle.std.proofs.Common.{rules}
 use Rattle.std.specs.Prelude.{Option, not, ◌&&◌, ◌==◌}
 use Rattle.std.specs.Ordering.{is_eq}
@@ -18,7 +18,7 @@ use Rattle.docker_model.specs.docker.Association.{category_occasion, is_date_ind
 use Rattle.docker_laws.specs.LiveRows.{Link, IsTrainOn, TellsTrains, IsLinkOn, TellsLinks}
 use Rattle.docker_laws.specs.Gathering.{start_days, counts_as, partner_identity, line_at, line_with, is_in_force}
 use Rattle.cif_laws.proofs.lists.Membership.{nil-Contains, Contains-single, single-Contains}
-use Rattle.cif_laws.proofs.lists.BoolsAndOptions.{both, not_true}
+use Rattle.cif_laws.proofs.lists.BoolsAndOptions.{both}
 use Rattle.cif_laws.proofs.orders.Orders.{association_key_total, exact_association_key}
 use Rattle.cif_laws.proofs.lists.Sorted.{AreApart}
 use Rattle.docker_laws.proofs.dockers.StartDays.{event_within, start_days_iff}
@@ -64,10 +64,7 @@ module _ (live : Table) (trains : List ℕ → ℕ → Option Train) (links : Gr
     where
       by : (found : Option Link) → IsLinkOn live (group_of key) start found → counts_as found key ≡ true
           → IsChosenAssociation live (group_of key) start key line
-      by None none h = absurd (false_true h)
-        where
-          false_true : false ≡ true → ⊥
-          false_true bad = cc
+      by None none h = absurd (cc)
       by (Some link) chosen h =
           let same = exact_association_key link.key key (eq_is (association_key_cmp link.key key) h) in
           let lines = one_association live link.key key link.line line same chosen.associated.is_live is_live in
@@ -80,12 +77,9 @@ module _ (live : Table) (trains : List ℕ → ℕ → Option Train) (links : Gr
       let q = both (counts_as (links (group_of key) start) key) (not (key.indicator == 67)) p.0 in
       record {
         chosen = counts key line start is_live q.0;
-        no_cancellation = λ cancelled. true_false (ap (λ n. n == 67) (sym cancelled) ∙ not_true (key.indicator == 67) q.1);
+        no_cancellation = λ cancelled. cc;
         date_indicator = p.1;
       }
-    where
-      true_false : true ≡ false → ⊥
-      true_false bad = cc
 
   no_letter : (key : AssociationKey) → ¬ (key.indicator ≡ 67) → not (key.indicator == 67) ≡ true
   no_letter = search (rules, eqb-true)
@@ -93,14 +87,12 @@ module _ (live : Table) (trains : List ℕ → ℕ → Option Train) (links : Gr
   in_force_forth : (key : AssociationKey) (line : List ℕ) (start : ℕ) → IsInForce live start key line → is_in_force links start key line ≡ true
   in_force_forth key line start is = (λ i. counted i && no_letter key is.no_cancellation i && is.date_indicator i)
     where
-      by : (found : Option Link) → IsLinkOn live (group_of key) start found → counts_as found key ≡ true
-      by None none = absurd (none key line is.chosen)
-      by (Some link) chosen =
-          let same = (one_link live (group_of key) start link.key key link.line line chosen is.chosen).0 in
-          (λ i. is_eq (association_key_cmp (same i) key)) ∙ (λ i. is_eq (tied_itself association_key_total key i))
-
       counted : counts_as (links (group_of key) start) key ≡ true
-      counted = by (links (group_of key) start) (tell_links (group_of key) start)
+      counted = (elim (links (group_of key) start) as (λ found. IsLinkOn live (group_of key) start found → counts_as found key ≡ true) [
+        | None ↦ λ none. absurd (none key line is.chosen)
+        | Some link ↦ λ chosen. let same = (one_link live (group_of key) start link.key key link.line line chosen is.chosen).0 in
+            (λ i. is_eq (association_key_cmp (same i) key)) ∙ (λ i. is_eq (tied_itself association_key_total key i))
+      ]) (tell_links (group_of key) start)
 
   -- ---- the association lines of the docker are exactly the lines that `link_piece` computes
 
@@ -149,16 +141,14 @@ module _ (live : Table) (trains : List ℕ → ℕ → Option Train) (links : Gr
       → (docker_line : DockerLine) → Contains (link_piece trains links day key line start) docker_line → IsOfAssociation live place day key start docker_line
   link_piece_back key line start is_live here docker_line among = by (is_in_force links start key line) refl among
     where
-      with_base : IsInForce live start key line → (occasion : Occasion) → category_occasion (columns 35 36 line) ≡ Some occasion → (found : Option Train)
-          → IsTrainOn live key.base start found
-          → Contains (line_with trains day start key line (Some occasion) found) docker_line → IsOfAssociation live place day key start docker_line
-      with_base force occasion category None none inside = absurd (nil-Contains _ inside)
-      with_base force occasion category (Some base) runs inside = made_at _ _ _ here force _ category _ runs _ refl _ inside
-
       with_category : IsInForce live start key line → (category : Option Occasion) → category_occasion (columns 35 36 line) ≡ category
           → Contains (line_with trains day start key line category (trains key.base start)) docker_line → IsOfAssociation live place day key start docker_line
       with_category force None is inside = absurd (nil-Contains _ inside)
-      with_category force (Some occasion) is inside = with_base force occasion is (trains key.base start) (tell key.base start) inside
+      with_category force (Some occasion) is inside = (elim (trains key.base start) as (λ found. IsTrainOn live key.base start found → Contains
+          (line_with trains day start key line (Some occasion) found) docker_line → IsOfAssociation live place day key start docker_line) [
+            | None ↦ λ none inside. absurd (nil-Contains _ inside)
+            | Some base ↦ λ runs inside. made_at _ _ _ here force _ is _ runs _ refl _ inside
+          ]) (tell key.base start) inside
 
       by : (b : Bool) → is_in_force links start key line ≡ b
           → Contains (cond b (line_with trains day start key line (category_occasion (columns 35 36 line)) (trains key.base start)) []) docker_line
@@ -175,7 +165,14 @@ module _ (live : Table) (trains : List ℕ → ℕ → Option Train) (links : Gr
       (trains made.key.base made.start)) []) docker_line) (sym (in_force_forth _ _ _
       (record { chosen = made.chosen; no_cancellation = made.no_cancellation; date_indicator = made.date_indicator })))
       (subst (λ category. Contains (line_with trains day made.start made.key made.association category (trains made.key.base made.start)) docker_line)
-      (sym made.category) (by (trains made.key.base made.start) (tell made.key.base made.start)))
+      (sym made.category) ((elim (trains made.key.base made.start) as (λ found. IsTrainOn live made.key.base made.start found → Contains
+      (line_with trains day made.start made.key made.association (Some made.occasion) found) docker_line) [
+        | None ↦ λ none. absurd (none made.base_key made.base made.base_runs)
+        | Some base ↦ λ runs. let same = one_train _ _ _ _ _ _ _ runs made.base_runs in
+            let first : first_event_at base.lines made.key.location made.key.suffix ≡ Some made.event = search rules in
+            subst (λ at. Contains (line_at trains day made.start made.key made.association made.occasion base at) docker_line) (sym first)
+            (at_day base same.0 same.1)
+      ]) (tell made.key.base made.start)))
     where
       the_identity : List ℕ
       the_identity = partner_identity trains made.key.associated (partner_start (column 37 made.association) made.start)
@@ -189,20 +186,8 @@ module _ (live : Table) (trains : List ℕ → ℕ → Option Train) (links : Gr
           let today : (event_day made.start base.lines made.event == day) ≡ true =
           (λ i. event_day made.start (lines i) made.event == day) ∙ (λ i. made.today i == day) ∙ number_itself _ in
           let identities = one_identity _ _ _ _ _ made.partner (partner_is _ _) in
-          let line_is : docker_line ≡ the_line base made.event =
-          made.is ∙ (λ i. line_of_association made.occasion made.key.indicator (sym keys i) made.start (sym lines i) made.event made.key.associated
-          (identities i)) in
+          let line_is : docker_line ≡ the_line base made.event = search rules in
           subst (λ b. Contains (cond b (the_line base made.event ∷ []) []) docker_line) (sym today) (single-Contains _ _ (sym line_is))
-
-      by : (found : Option Train) → IsTrainOn live made.key.base made.start found
-          → Contains (line_with trains day made.start made.key made.association (Some made.occasion) found) docker_line
-      by None none = absurd (none made.base_key made.base made.base_runs)
-      by (Some base) runs =
-          let same = one_train _ _ _ _ _ _ _ runs made.base_runs in
-          let first : first_event_at base.lines made.key.location made.key.suffix ≡ Some made.event = ap
-          (λ ls. first_event_at ls made.key.location made.key.suffix) same.1 ∙ made.first_there in
-          subst (λ at. Contains (line_at trains day made.start made.key made.association made.occasion base at) docker_line) (sym first)
-          (at_day base same.0 same.1)
 
   -- of the docker lines that an association has for one start day, no two tie in the order of
   -- docker lines

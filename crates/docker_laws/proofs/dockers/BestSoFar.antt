@@ -1,6 +1,6 @@
 -- The best element of a list can be computed element by element. Of the elements that pass a test,
 -- the best element is the one that comes first in an order.
-use Rattle.std.proofs.Common.{◌≡◌, List, [], ◌∷◌, ◌++◌, refl, sym, ◌∙◌, subst, inl, inr, ◌⊎◌, Some, None, Bool, true, false, cond, Contains}
+use Rattle.std.proofs.Common.{◌≡◌, List, [], ◌∷◌, ◌++◌, refl, sym, ◌∙◌, subst, inl, inr, Some, None, Bool, true, false, cond}
 use Rattle.std.proofs.lemmas.Grind.{common_steps}
 use Rattle.std.proofs.Common.{arith}
 use Rattle.std.specs.Prelude.{Option}
@@ -25,22 +25,26 @@ module _ {A : Type 0} {cmp : A → A → Ordering} (total : IsTotalOrder cmp) (t
 
   -- if a list has no best element, an appended element that passes the test is the best element
   first_one : (xs : List A) (x : A) → test x ≡ true → IsBest cmp test xs None → IsBest cmp test (xs ++ x ∷ []) (Some x)
-  first_one xs x h none =
-      (Contains-append_right xs (x ∷ []) x (single-Contains x x refl), h, λ z among passes. by z passes (Contains-append_cases xs (x ∷ []) z among))
-    where
-      by : (z : A) → test z ≡ true → Contains xs z ⊎ Contains (x ∷ []) z → IsAtMost cmp x z
-      by z passes (inl here) = absurd (let bad : true ≡ false = sym passes ∙ none z here in cc)
-      by z passes (inr last) = subst (IsAtMost cmp x) (Contains-single x z last) (at_most_itself total x)
+  first_one xs x h none = (
+    Contains-append_right xs (x ∷ []) x (single-Contains x x refl),
+    h,
+    λ z among passes. elim (Contains-append_cases xs (x ∷ []) z among) [
+      | inl here ↦ absurd (let bad : true ≡ false = sym passes ∙ none z here in cc)
+      | inr last ↦ subst (IsAtMost cmp x) (Contains-single x z last) (at_most_itself total x)
+    ],
+  )
 
   -- an appended element that passes the test and comes before the best element is the new best
   -- element
   comes_before : (xs : List A) (x b : A) → test x ≡ true → cmp x b ≡ Less → IsBest cmp test xs (Some b) → IsBest cmp test (xs ++ x ∷ []) (Some x)
-  comes_before xs x b h below best =
-      (Contains-append_right xs (x ∷ []) x (single-Contains x x refl), h, λ z among passes. by z passes (Contains-append_cases xs (x ∷ []) z among))
-    where
-      by : (z : A) → test z ≡ true → Contains xs z ⊎ Contains (x ∷ []) z → IsAtMost cmp x z
-      by z passes (inl here) = at_most_trans total x b z (at_most_below cmp x b below) (best.2 z here passes)
-      by z passes (inr last) = subst (IsAtMost cmp x) (Contains-single x z last) (at_most_itself total x)
+  comes_before xs x b h below best = (
+    Contains-append_right xs (x ∷ []) x (single-Contains x x refl),
+    h,
+    λ z among passes. elim (Contains-append_cases xs (x ∷ []) z among) [
+      | inl here ↦ at_most_trans total x b z (at_most_below cmp x b below) (best.2 z here passes)
+      | inr last ↦ subst (IsAtMost cmp x) (Contains-single x z last) (at_most_itself total x)
+    ],
+  )
 
   -- appending an element that doesn't come before the best element leaves the best element
   -- unchanged
@@ -51,13 +55,11 @@ module _ {A : Type 0} {cmp : A → A → Ordering} (total : IsTotalOrder cmp) (t
   pub best_more : (xs : List A) (x : A) (found : Option A) → IsBest cmp test xs found → IsBest cmp test (xs ++ x ∷ []) (with_one_more cmp test found x)
   best_more xs x found best = by (test x) refl found best
     where
-      inner : test x ≡ true → (b : A) → IsBest cmp test xs (Some b) → (o : Ordering) → cmp x b ≡ o
-          → IsBest cmp test (xs ++ x ∷ []) (cond (is_lt o) (Some x) (Some b))
-      inner h b best_so_far Less e = comes_before xs x b h e best_so_far
-      inner h b best_so_far Equal e = stays xs x b (λ less. let bad : Equal ≡ Less = sym e ∙ less in cc) best_so_far
-      inner h b best_so_far Greater e = stays xs x b (λ less. let bad : Greater ≡ Less = sym e ∙ less in cc) best_so_far
-
       by : (t : Bool) → test x ≡ t → (so_far : Option A) → IsBest cmp test xs so_far → IsBest cmp test (xs ++ x ∷ []) (cond t (better cmp so_far x) so_far)
       by false h so_far is = fails xs x so_far h is
       by true h None none = first_one xs x h none
-      by true h (Some b) is = inner h b is (cmp x b) refl
+      by true h (Some b) is = (elim (cmp x b) as (λ o. cmp x b ≡ o → IsBest cmp test (xs ++ x ∷ []) (cond (is_lt o) (Some x) (Some b))) [
+        | Less ↦ λ e. comes_before xs x b h e is
+        | Equal ↦ λ e. stays xs x b (λ less. let bad : Equal ≡ Less = sym e ∙ less in cc) is
+        | Greater ↦ λ e. stays xs x b (λ less. let bad : Greater ≡ Less = sym e ∙ less in cc) is
+      ]) refl

@@ -225,14 +225,13 @@ module _ (live : Table) (place : List ℕ) (day : ℕ) (good : HasGoodBodies liv
   lines_cut [] [] come rest = refl
   lines_cut [] (origin ∷ origins) come rest = absurd come
   lines_cut (line ∷ lines) [] come rest = absurd come
-  lines_cut (line ∷ lines) (origin ∷ origins) come rest = ap (first_columns 56) (append_assoc (ended (line_text line ++ origin)) more rest)
+  lines_cut (line ∷ lines) (origin ∷ origins) come rest =
+      let more : List ℕ = flat_map (λ (it : DockerLine × List ℕ). ended (detailed_line it)) (zip lines origins) in
+      ap (first_columns 56) (append_assoc (ended (line_text line ++ origin)) more rest)
       ∙ line_cut _ (line_text line) _ (more ++ rest) (wide_line _ (wide_docker_line live _ day _ good (from_docker live _ day _ origin come.0)))
       (plain_origin _ place _ line _ good come.0)
       ∙ ap (λ bytes. ended (line_text line) ++ bytes) (lines_cut lines _ come.1 rest)
       ∙ sym (append_assoc (ended (line_text line)) (flat_map (λ it. ended (line_text it)) lines) (first_columns 56 rest))
-    where
-      more : List ℕ
-      more = flat_map (λ (it : DockerLine × List ℕ). ended (detailed_line it)) (zip lines origins)
 
   -- the first 56 columns of a detailed docker are the docker
   pub docker_in_details : (text : List ℕ) → IsTiploc place → IsDetailedText live place day text → IsDockerText live place day (first_columns 56 text)
@@ -248,15 +247,8 @@ module _ (live : Table) (place : List ℕ) (day : ℕ) (good : HasGoodBodies liv
       whole front wide =
           ap (first_columns 56) (append_assoc (ended (padded front)) middle (ended (padded last_line)))
           ∙ line_cut 56 front (spaces 427) (middle ++ ended (padded last_line)) wide (wide_spaces 427).plain
-          ∙ ap (λ bytes. ended front ++ bytes) (lines_cut is.lines is.origins is.come_from (ended (padded last_line))
-          ∙ ap (λ bytes. flat_map (λ line. ended (line_text line)) is.lines ++ bytes) end)
+          ∙ ap (λ bytes. ended front ++ bytes) (search (rules, lines_cut))
           ∙ sym (append_assoc (ended front) (flat_map (λ line. ended (line_text line)) is.lines) (ended last_line))
-        where
-          end : first_columns 56 (ended (padded last_line)) ≡ ended last_line
-          end =
-              ap (first_columns 56) (sym (append-nil (ended (padded last_line))))
-              ∙ line_cut 56 last_line (spaces 427) [] wide_last (wide_spaces 427).plain
-              ∙ append-nil (ended last_line)
 
   -- ---- the width of a detailed docker
 

@@ -38,8 +38,7 @@ here_is n place (time ∷ times) = ap (λ rest. as_event (n, (place, time)) ∷ 
 from_is : (n place : ℕ) (lines : List (List ℕ)) → map as_event (enumerate_from n (flat_map times_at (enumerate_from place lines))) ≡ events_from n place lines
 from_is n place [] = refl
 from_is n place (line ∷ lines) =
-    let long : length (map (λ (time : Occasion × ℕ). (place, time)) (times_of line)) ≡ length (times_of line) = length-map (times_of line)
-    (λ (time : Occasion × ℕ). (place, time)) in
+    let long : length (map (λ (time : Occasion × ℕ). (place, time)) (times_of line)) ≡ length (times_of line) = search (rules, length-map) in
     ap (map as_event) (numbered_append n (times_at (place, line)) (flat_map times_at (enumerate_from (place + 1) lines)))
     ∙ map-append as_event (enumerate_from n (times_at (place, line))) (enumerate_from (n + length (times_at (place, line)))
     (flat_map times_at (enumerate_from (place + 1) lines)))
@@ -118,16 +117,12 @@ pub number_there : (lines : List (List ℕ)) (number : ℕ) → ((event : Event)
     ↔ ((1 ≤ number) × (number ≤ length (times_along lines)))
 number_there lines number = (forth, back)
   where
-    long : length (enumerate_from 1 (placed_times lines)) ≡ length (times_along lines)
-    long = sym (length-map (enumerate_from 1 (placed_times lines)) as_event) ∙ as_many lines
-
     some : ℕ × Placed
     some = (0, (0, (arrival, 0)))
 
     number_at : (k : ℕ) (d : Event) → k < length (events_of lines) → (get_or (events_of lines) k d).number ≡ 1 + k
     number_at k d low =
-        let counted : k < length (enumerate_from 1 (placed_times lines)) = subst (λ n. k < n)
-        (length-map (enumerate_from 1 (placed_times lines)) as_event) low in
+        let counted : k < length (enumerate_from 1 (placed_times lines)) = search (rules, length-map, as_event) in
         ap (λ (e : Event). e.number) (get_or-map as_event (enumerate_from 1 (placed_times lines)) k some d counted)
         ∙ ap (λ (c : ℕ × Placed). c.0) (get_or-enumerate_from 1 (placed_times lines) k some
         (subst (λ n. k < n) (length-enumerate_from 1 (placed_times lines)) counted))
@@ -140,15 +135,13 @@ number_there lines number = (forth, back)
         (omega arith, omega arith)
 
     back : (1 ≤ number) × (number ≤ length (times_along lines)) → (event : Event) × Contains (events_of lines) event × (event.number ≡ number)
-    back within = by number within.0 within.1
-      where
-        by : (n : ℕ) → 1 ≤ n → n ≤ length (times_along lines) → (event : Event) × Contains (events_of lines) event × (event.number ≡ n)
-        by zero low high = absurd (omega arith)
-        by (suc k) low high =
-            let whole = as_many lines in
-            let inside : k < length (events_of lines) = omega arith in
-            let is = number_at k (as_event some) inside in (
-              get_or (events_of lines) k (as_event some),
-              Contains-get_or (events_of lines) k (as_event some) inside,
-              (let e : (get_or (events_of lines) k (as_event some)).number ≡ suc k = omega arith in e),
-            )
+    back within = (elim number as (λ n. 1 ≤ n → n ≤ length (times_along lines) → (event : Event) × Contains (events_of lines) event × (event.number ≡ n)) [
+      | zero ↦ λ low high. absurd (omega arith)
+      | suc k ↦ λ low high. let whole = as_many lines in
+          let inside : k < length (events_of lines) = omega arith in
+          let is = number_at k (as_event some) inside in (
+            get_or (events_of lines) k (as_event some),
+            Contains-get_or (events_of lines) k (as_event some) inside,
+            (let e : (get_or (events_of lines) k (as_event some)).number ≡ suc k = omega arith in e),
+          )
+    ]) within.0 within.1

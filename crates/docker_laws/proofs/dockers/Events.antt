@@ -1,7 +1,7 @@
 -- The events of a schedule have different numbers, and the record of each event is a location
 -- record.
 use Rattle.std.proofs.Common.{◌≡◌, ℕ, suc, ◌+◌, ◌<◌, ◌≤◌, List, [], ◌∷◌, ◌++◌, length, get_or, refl, rules}
-use Rattle.std.proofs.Common.{ap, sym, ◌∙◌, subst, inl, inr, ◌⊎◌, Some, None, Contains, map, arith}
+use Rattle.std.proofs.Common.{ap, sym, subst, inl, inr, ◌⊎◌, Some, None, Contains, map, arith}
 use Rattle.std.specs.Prelude.{Option}
 use Rattle.std.specs.List.{enumerate_from}
 use Rattle.std.proofs.lemmas.List.Elements.{Contains-append_cases}
@@ -39,12 +39,11 @@ numbers_ascend lines = later_map (λ (a b : Event). a.number < b.number) as_even
 
 -- two events with the same number are equal
 pub one_event : (lines : List (List ℕ)) (a b : Event) → Contains (events_of lines) a → Contains (events_of lines) b → a.number ≡ b.number → a ≡ b
-one_event lines a b in_a in_b same = by (one_before (λ (x y : Event). x.number < y.number) (events_of lines) a b (numbers_ascend lines) in_a in_b)
-  where
-    by : (a ≡ b) ⊎ (a.number < b.number) ⊎ (b.number < a.number) → a ≡ b
-    by (inl e) = e
-    by (inr (inl below)) = absurd (omega arith)
-    by (inr (inr above)) = absurd (omega arith)
+one_event lines a b in_a in_b same = elim (one_before (λ (x y : Event). x.number < y.number) (events_of lines) a b (numbers_ascend lines) in_a in_b) [
+  | inl e ↦ e
+  | inr (inl below) ↦ absurd (omega arith)
+  | inr (inr above) ↦ absurd (omega arith)
+]
 
 -- ---- the record of each event contains the event's occasion and time
 
@@ -53,26 +52,20 @@ one_event lines a b in_a in_b same = by (one_before (λ (x y : Event). x.number 
 stands_at : {A : Type 0} (n : ℕ) (xs : List A) (z : ℕ × A) (d : A) → Contains (enumerate_from n xs) z → (k : ℕ) × (z.0 ≡ n + k) × (k < length xs)
     × (get_or xs k d ≡ z.1)
 stands_at n [] z d among = absurd (nil-Contains z among)
-stands_at n (x ∷ xs) z d among = by (stands_at (n + 1) xs z d) (Contains-cons (n, x) (enumerate_from (n + 1) xs) z among)
-  where
-    by : (Contains (enumerate_from (n + 1) xs) z → (k : ℕ) × (z.0 ≡ n + 1 + k) × (k < length xs) × (get_or xs k d ≡ z.1))
-        → ((n, x) ≡ z) ⊎ Contains (enumerate_from (n + 1) xs) z
-        → (k : ℕ) × (z.0 ≡ n + k) × (k < length (x ∷ xs)) × (get_or (x ∷ xs) k d ≡ z.1)
-    by rest (inl e) = (0, (let same : n ≡ z.0 = ap (λ (v : ℕ × _). v.0) e in omega arith), omega arith, ap (λ (v : ℕ × _). v.1) e)
-    by rest (inr inside) = let found = rest inside in (suc found.0, (let at = found.1 in omega arith), (let low = found.2 in omega arith), found.3)
+stands_at n (x ∷ xs) z d among = elim (Contains-cons (n, x) (enumerate_from (n + 1) xs) z among) [
+  | inl e ↦ (0, (let same : n ≡ z.0 = ap (λ (v : ℕ × _). v.0) e in omega arith), omega arith, ap (λ (v : ℕ × _). v.1) e)
+  | inr inside ↦ let found = (stands_at (n + 1) xs z d) inside in (suc found.0, (let at = found.1 in omega arith), (let low = found.2 in omega arith), found.3)
+]
 
 -- the event's record is a record of the schedule, and contains the event's occasion and time
 pub record IsTimeOf (lines : List (List ℕ)) (event : Event) : Type 0 where
   pub among : Contains lines (event_line lines event)
   pub is_time : Contains (times_of (event_line lines event)) (event.occasion, event.time)
 
-same_at : (xs : List (List ℕ)) (k : ℕ) (x : List ℕ) → k < length xs → get_or xs k [] ≡ x → get_or xs k x ≡ x
-same_at = search rules
-
 -- if the record of an event contains the event's occasion and time, `IsTimeOf` holds
 time_of_line : (lines : List (List ℕ)) (event : Event) (k : ℕ) (line : List ℕ) → k < length lines → get_or lines k [] ≡ line → event.place ≡ k
     → Contains (times_of line) (event.occasion, event.time) → IsTimeOf lines event
-time_of_line = search (rules, same_at)
+time_of_line = search rules
 
 -- each time in `placed_times` comes with the index of a record, and is a time of that record
 time_of_placed : (lines : List (List ℕ)) (placed : Placed) → Contains (placed_times lines) placed
@@ -84,13 +77,7 @@ time_of_placed lines placed among = by (Contains-flat_map _ _ _ among)
 
     at : (n : ℕ) (line : List ℕ) (k : ℕ) → n ≡ 0 + k → k < length lines → get_or lines k [] ≡ line → (time : Occasion × ℕ) → Contains (times_of line) time
         → (n, time) ≡ placed → IsOfRecord
-    at n line k place low is time inside same =
-        let first : placed.0 ≡ k = sym (ap (λ (v : Placed). v.0) same) ∙ (let e : n ≡ k = omega arith in e) in (
-          line,
-          (let e = first in omega arith),
-          ap (λ i. get_or lines i []) first ∙ is,
-          subst (Contains (times_of line)) (ap (λ (v : Placed). v.1) same) inside,
-        )
+    at n line k place low is time inside same = search rules
 
     by : (piece : ℕ × List ℕ) × Contains (enumerate_from 0 lines) piece × Contains (map (λ (time : Occasion × ℕ). (piece.0, time)) (times_of piece.1)) placed
         → IsOfRecord
@@ -140,24 +127,19 @@ timed_there line pair among = by (kind_of line) refl among
     by (Some trailer) h inside = absurd (nil-Contains pair inside)
     by (Some origin_location) h inside = (inl h, inr (inr (timed_is departure (scheduled_time (columns 11 15 line)) pair inside)))
     by (Some terminating_location) h inside = (inr (inr h), inl (timed_is arrival (scheduled_time (columns 11 15 line)) pair inside))
-    by (Some intermediate_location) h inside = (inr (inl h), outer (Contains-append_cases (first ++ second) third pair inside))
-      where
-        first : List (Occasion × ℕ)
-        first = timed arrival (scheduled_time (columns 11 15 line))
-
-        second : List (Occasion × ℕ)
-        second = timed pass (scheduled_time (columns 21 25 line))
-
-        third : List (Occasion × ℕ)
-        third = timed departure (scheduled_time (columns 16 20 line))
-
-        inner : Contains first pair ⊎ Contains second pair → IsOfTrain pair.0
-        inner (inl here) = inl (timed_is arrival (scheduled_time (columns 11 15 line)) pair here)
-        inner (inr here) = inr (inl (timed_is pass (scheduled_time (columns 21 25 line)) pair here))
-
-        outer : Contains (first ++ second) pair ⊎ Contains third pair → IsOfTrain pair.0
-        outer (inl here) = inner (Contains-append_cases first second pair here)
-        outer (inr here) = inr (inr (timed_is departure (scheduled_time (columns 16 20 line)) pair here))
+    by (Some intermediate_location) h inside =
+        let first : List (Occasion × ℕ) = timed arrival (scheduled_time (columns 11 15 line)) in
+        let second : List (Occasion × ℕ) = timed pass (scheduled_time (columns 21 25 line)) in
+        let third : List (Occasion × ℕ) = timed departure (scheduled_time (columns 16 20 line)) in (
+          inr (inl h),
+          elim (Contains-append_cases (first ++ second) third pair inside) [
+            | inl here ↦ elim (Contains-append_cases first second pair here) [
+              | inl here ↦ inl (timed_is arrival (scheduled_time (columns 11 15 line)) pair here)
+              | inr here ↦ inr (inl (timed_is pass (scheduled_time (columns 21 25 line)) pair here))
+            ]
+            | inr here ↦ inr (inr (timed_is departure (scheduled_time (columns 16 20 line)) pair here))
+          ],
+        )
 
 -- an event is an arrival, a pass or a departure
 pub event_occasion : (lines : List (List ℕ)) (event : Event) → Contains (events_of lines) event → IsOfTrain event.occasion

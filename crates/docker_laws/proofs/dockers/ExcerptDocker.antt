@@ -4,7 +4,7 @@ use Rattle.std.specs.Prelude.{Option, ◌↔◌}
 use Rattle.docker_model.specs.file.Journey.{CallsAt}
 use Rattle.docker_model.specs.file.Change.{Key, tiploc_key, schedule_key, association_key, ScheduleKey, AssociationKey, Body, schedule_body, association_body}
 use Rattle.docker_model.specs.state.Table.{Table}
-use Rattle.docker_model.specs.docker.Choice.{IsRunning, TrainRuns, Group, group_of, IsAssociated, IsChosenAssociation}
+use Rattle.docker_model.specs.docker.Choice.{TrainRuns, Group, group_of, IsAssociated, IsChosenAssociation}
 use Rattle.docker_model.specs.docker.DockerLine.{DockerLine}
 use Rattle.docker_model.specs.docker.Association.{IsIdentityOn, IsPartnerIdentity, IsAssociationLine}
 use Rattle.docker_model.specs.docker.DockerList.{IsEventLine, IsDockerList}
@@ -23,13 +23,9 @@ HaveSameSchedules one other uid = (key : ScheduleKey) → key.uid ≡ uid → on
 turned : (one other : Table) (uid : List ℕ) → HaveSameSchedules one other uid → HaveSameSchedules other one uid
 turned one other uid same key is = sym (same key is)
 
-running_over : (one other : Table) (uid : List ℕ) (day : ℕ) (key : ScheduleKey) (lines : List (List ℕ)) → HaveSameSchedules one other uid
-    → IsRunning one uid day key lines → IsRunning other uid day key lines
-running_over = search rules
-
 train_over : (one other : Table) (uid : List ℕ) (day : ℕ) (key : ScheduleKey) (lines : List (List ℕ)) → HaveSameSchedules one other uid
     → TrainRuns one uid day key lines → TrainRuns other uid day key lines
-train_over = search (rules, running_over, turned)
+train_over = search (rules, turned)
 
 identity_over : (one other : Table) (uid identity : List ℕ) (day : ℕ) → HaveSameSchedules one other uid → IsIdentityOn one uid identity day
     → IsIdentityOn other uid identity day
@@ -71,18 +67,17 @@ record Covers (one other : Table) (place : List ℕ) : Type 0 where
 
 event_line_over : (one other : Table) (place : List ℕ) (day : ℕ) → Covers one other place → (line : DockerLine) → IsEventLine one place day line
     → IsEventLine other place day line
-event_line_over one other place day covers line is = record {
-  start = is.start;
-  key = is.key;
-  schedule = is.schedule;
-  train_runs = train_over one other is.key.uid is.start is.key is.schedule
-      (covers.calls is.key is.schedule is.train_runs.chosen.running.is_live (event_calls is.schedule is.event place is.among is.here)) is.train_runs;
-  event = is.event;
-  among = is.among;
-  here = is.here;
-  today = is.today;
-  is = is.is;
-}
+event_line_over one other place day covers line is = search (
+  rules,
+  train_over,
+  event_calls,
+  is.start,
+  is.key,
+  is.schedule,
+  is.key.uid,
+  covers.calls,
+  is.train_runs.chosen.running.is_live,
+)
 
 association_line_over : (one other : Table) (place : List ℕ) (day : ℕ) → Covers one other place → (line : DockerLine)
     → IsAssociationLine one place day line → IsAssociationLine other place day line
@@ -155,10 +150,8 @@ module _ (place : List ℕ) (live part : Table) (is : IsExcerpt place live part)
 
   back : Covers part live place
   back = record {
-    calls = λ key lines is_live calls. turned live part key.uid
-        (same_of_uid key.uid (calls_concern key lines (was_there (schedule_key key) (schedule_body lines) is_live) calls));
-    names = λ key line is_live here. turned live part key.associated
-        (same_of_uid key.associated (names_concern key line (was_there (association_key key) (association_body line) is_live) here));
+    calls = search (rules, turned, same_of_uid, calls_concern, was_there);
+    names = search (rules, turned, same_of_uid, names_concern, was_there);
     links = λ group here key of. sym (same_links group here key of);
   }
 

@@ -1,13 +1,12 @@
 -- An excerpt of a valid state for a place is valid. It has the same dockers for the place as the
 -- state, and the program refuses them for the same days. One excerpt of a state has exactly the
 -- entries whose keys the docker of the place needs.
-use Rattle.std.proofs.Common.{◌++◌, ◌≡◌, ℕ, List, [], ◌∷◌, subst, inl, inr, ◌⊎◌, refl, ap, sym, ◌∙◌, Bool, true, false, Some, None, arith}
+use Rattle.std.proofs.Common.{◌++◌, ◌≡◌, ℕ, List, [], ◌∷◌, subst, inl, inr, refl, ap, sym, ◌∙◌, Bool, true, false, Some, None, arith}
 use Rattle.std.proofs.Common.{rules}
 use Rattle.std.specs.Prelude.{Option, ◌&&◌, ◌||◌, filter, find, option_and_then}
 use Rattle.std.specs.List.{list_any}
 use Rattle.std.specs.Str.{bytes_eq}
-use Rattle.std.specs.declared.cmp.Ordering.{Ordering}
-use Rattle.std.specs.Ordering.{is_eq, on}
+use Rattle.std.specs.Ordering.{is_eq}
 use Rattle.std.proofs.lemmas.Slice.Eq.{bytes_eq-Decides}
 use Rattle.std.proofs.lemmas.List.Elements.{All-from_recursion, recursion_from_All, Contains-append_right}
 use Rattle.docker_model.specs.records.Date.{IsDay}
@@ -18,7 +17,7 @@ use Rattle.docker_model.specs.state.Op.{Entry, body_of, key_cmp}
 use Rattle.docker_model.specs.state.Lapse.{HasNotToLapse}
 use Rattle.docker_model.specs.state.StatePart.{IsStampHere}
 use Rattle.docker_model.specs.state.State.{IsStampIn, IsOpOf, State, IsValid, IsLedger, IsGoodEntry, AreEntries, HaveLapsed, live_table}
-use Rattle.docker_laws.specs.Excerpt.{IsSublist, HasCall, IsNamed, IsNeeded, IsExcerptState}
+use Rattle.docker_laws.specs.Excerpt.{IsSublist, IsNeeded, IsExcerptState}
 use Rattle.docker_laws.specs.ExcerptWalk.{is_here, has_uid, name_in, is_call}
 use Rattle.cif_laws.proofs.orders.Orders.{same_key}
 use Rattle.cif_laws.proofs.orders.Ascending.{later_of, ascending_of, ascending_last, below_next}
@@ -37,13 +36,7 @@ use Rattle.state_laws.proofs.indexes.CallsTest.{any_forth, calls_test}
 -- if a state with this ledger may have the entries of a list, it may also have only the entries of
 -- a sublist of this list
 pub some_entries : (ledger : List LedgerItem) (some all : List Keyed) → AreEntries ledger all → IsSublist some all → AreEntries ledger some
-some_entries ledger some all are is = (
-  sublist_all (IsGoodEntry ledger) _ all is are.0,
-  ascending_of _ some (sublist_later _ some _ is (later_of by_key _ are.1)),
-)
-  where
-    by_key : Keyed → Keyed → Ordering
-    by_key = on (λ (entry : Keyed). entry.0) key_cmp
+some_entries ledger some all are is = search (rules, sublist_all, ascending_of, sublist_later, later_of)
 
 -- an entry that may follow the entries of a state may also follow a sublist of these entries
 pub still_here : (state part : State) (key : Key) (stamp : Stamp) → IsSublist part.entries state.entries → part.ledger ≡ state.ledger
@@ -60,8 +53,7 @@ pub entries_more : (state : State) (key : Key) (entry : Entry) → AreEntries st
     → AreEntries state.ledger (state.entries ++ (key, entry) ∷ [])
 entries_more state key entry are here of = (
   All-from_recursion (IsGoodEntry state.ledger) (state.entries ++ (key, entry) ∷ [])
-      (all_append _ _ _ (recursion_from_All (IsGoodEntry state.ledger) state.entries are.0)
-      (record { key = here.0.0; stamp = here.1; op = of }, tt)),
+      (search (rules, all_append, recursion_from_All)),
   ascending_last _ _ _ are.1 (recursion_from_All (λ (e : Keyed). IsBelow key_cmp e.0 key) state.entries here.0.1),
 )
 
@@ -107,42 +99,20 @@ excerpt_again place state part smaller is further = record {
   horizon = further.horizon ∙ is.horizon;
   ledger = further.ledger ∙ is.ledger;
   entries = sublist_onward smaller.entries part.entries state.entries further.entries is.entries;
-  live = λ key. by key (further.live key);
+  live = λ key. elim (further.live key) [
+    | inl same ↦ elim (is.live key) [
+      | inl as_state ↦ inl (same ∙ as_state)
+      | inr none ↦ inr (same ∙ none.0, none.1)
+    ]
+    | inr none ↦ inr (none.0, λ needed. none.1 (needed_still key needed))
+  ];
 }
   where
     needed_still : (key : Key) → IsNeeded (live_table state) place key → IsNeeded (live_table part) place key
     needed_still (tiploc_key code) here = here
     needed_still (association_key key) here = here
-    needed_still (schedule_key key) (inl call) = inl (record {
-      key = call.key;
-      lines = call.lines;
-      uid_is = call.uid_is;
-      calling = record {
-        is_live = same_where_needed place (live_table state) (live_table part) is.live (schedule_key call.key)
-            (inl (record { key = call.key; lines = call.lines; uid_is = refl; calling = call.calling })) ∙ call.calling.is_live;
-        calls = call.calling.calls;
-      };
-    })
-    needed_still (schedule_key key) (inr named) = inr (record {
-      key = named.key;
-      line = named.line;
-      associated_is = named.associated_is;
-      linked = record {
-        is_live = same_where_needed place (live_table state) (live_table part) is.live (association_key named.key) named.linked.here ∙ named.linked.is_live;
-        here = named.linked.here;
-      };
-    })
-
-    inner : (key : Key) → live_table smaller key ≡ live_table part key
-        → (live_table part key ≡ live_table state key) ⊎ ((live_table part key ≡ None) × ¬ IsNeeded (live_table state) place key)
-        → (live_table smaller key ≡ live_table state key) ⊎ ((live_table smaller key ≡ None) × ¬ IsNeeded (live_table state) place key)
-    inner key same (inl as_state) = inl (same ∙ as_state)
-    inner key same (inr none) = inr (same ∙ none.0, none.1)
-
-    by : (key : Key) → (live_table smaller key ≡ live_table part key) ⊎ ((live_table smaller key ≡ None) × ¬ IsNeeded (live_table part) place key)
-        → (live_table smaller key ≡ live_table state key) ⊎ ((live_table smaller key ≡ None) × ¬ IsNeeded (live_table state) place key)
-    by key (inl same) = inner key same (is.live key)
-    by key (inr none) = inr (none.0, λ needed. none.1 (needed_still key needed))
+    needed_still (schedule_key key) (inl call) = inl (search (rules, same_where_needed))
+    needed_still (schedule_key key) (inr named) = search (rules, same_where_needed)
 
 -- ---- leaving out the keys that fail a test leaves the bodies at all other keys unchanged
 
@@ -218,21 +188,20 @@ or_left = search rules
 pub needed_passes : (place : List ℕ) (state : State) (key : Key) → IsNeeded (live_table state) place key → is_needed place state.entries key ≡ true
 needed_passes place state (tiploc_key code) here = (bytes_eq-Decides code place).1 here
 needed_passes place state (association_key key) here = (bytes_eq-Decides key.location place).1 here
-needed_passes place state (schedule_key key) concerned = by concerned
-  where
-    by : HasCall (live_table state) place key.uid ⊎ IsNamed (live_table state) place key.uid → is_concerned place state.entries key.uid ≡ true
-    by (inl call) =
-        let found = live_entry state _ (schedule_body call.lines) call.calling.is_live in
-        let calls : is_call place found.0.op ≡ true = ap (is_call place) found.2 ∙ (calls_test _ call.lines).1 call.calling.calls in
-        let passes = and_true _ (is_call place found.0.op) ((bytes_eq-Decides call.key.uid key.uid).1 call.uid_is) calls in
-        or_right _ (list_any (calls_as place key.uid) state.entries) (any_forth _ state.entries _ found.1 passes)
-    by (inr named) =
-        let found = live_entry state _ (association_body named.line) named.linked.is_live in
-        let names : is_name key.uid (name_in (association_key named.key) found.0.op) ≡ true =
-        ap (λ op. is_name key.uid (name_in (association_key named.key) op)) found.2 ∙ (bytes_eq-Decides named.key.associated key.uid).1 named.associated_is in
-        let passes = and_true _ (is_name key.uid (name_in (association_key named.key) found.0.op))
-        ((bytes_eq-Decides named.key.location place).1 named.linked.here) names in
-        or_left _ (list_any (calls_as place key.uid) state.entries) (any_forth _ state.entries _ found.1 passes)
+needed_passes place state (schedule_key key) concerned = elim concerned [
+  | inl call ↦
+      let found = live_entry state _ (schedule_body call.lines) call.calling.is_live in
+      let calls : is_call place found.0.op ≡ true = ap (is_call place) found.2 ∙ (calls_test _ call.lines).1 call.calling.calls in
+      let passes = and_true _ (is_call place found.0.op) ((bytes_eq-Decides call.key.uid key.uid).1 call.uid_is) calls in
+      or_right _ (list_any (calls_as place key.uid) state.entries) (any_forth _ state.entries _ found.1 passes)
+  | inr named ↦
+      let found = live_entry state _ (association_body named.line) named.linked.is_live in
+      let names : is_name key.uid (name_in (association_key named.key) found.0.op) ≡ true =
+      ap (λ op. is_name key.uid (name_in (association_key named.key) op)) found.2 ∙ (bytes_eq-Decides named.key.associated key.uid).1 named.associated_is in
+      let passes = and_true _ (is_name key.uid (name_in (association_key named.key) found.0.op))
+      ((bytes_eq-Decides named.key.location place).1 named.linked.here) names in
+      or_left _ (list_any (calls_as place key.uid) state.entries) (any_forth _ state.entries _ found.1 passes)
+]
 
 -- if a state keeps only the entries whose keys pass the test `is_needed`, the result is an excerpt
 -- of the state

@@ -73,18 +73,9 @@ module _ (place : List ℕ) where
       → IsSublist (kept_after_run place so_far) (done ++ x ∷ [])
   without_last = search (rules, sublist_onward, closed_within, sublist_front)
 
-  within_schedule : (done : List Keyed) (so_far : ExcerptSoFar) (key : ScheduleKey) (entry : Entry) → Within done so_far
-      → Within (done ++ (schedule_key key, entry) ∷ []) (with_entry_of place so_far (schedule_key key) entry)
-  within_schedule = search (rules, append_assoc, sublist_append, sublist_itself, with_last)
-
-  within_other : (done : List Keyed) (so_far : ExcerptSoFar) (x : Keyed) (b : Bool) → Within done so_far
-      → Within (done ++ x ∷ [])
-      (cond b (record { kept = kept_after_run place so_far ++ x ∷ []; run = [] }) (record { kept = kept_after_run place so_far; run = [] }))
-  within_other = search (rules, append-nil, with_last, without_last)
-
   within_more : (done : List Keyed) (so_far : ExcerptSoFar) (key : Key) (entry : Entry) → Within done so_far
       → Within (done ++ (key, entry) ∷ []) (with_entry_of place so_far key entry)
-  within_more = search (rules, within_schedule, within_other)
+  within_more = search (rules, append_assoc, sublist_append, sublist_itself, with_last, append-nil, without_last)
 
   -- the entries in `kept`, followed by the entries in `run`, are a sublist of the entries that the
   -- walk has passed
@@ -115,14 +106,16 @@ module _ (place : List ℕ) where
       by : (b : Bool) → goes_on so_far.run key.uid ≡ b → OfOneUid (done ++ (schedule_key key, entry) ∷ [])
           (cond b (record { kept = so_far.kept; run = so_far.run ++ (schedule_key key, entry) ∷ [] })
           (record { kept = kept_after_run place so_far; run = (schedule_key key, entry) ∷ [] }))
-      by true goes = (key.uid, λ r among. of r (Contains-append_cases so_far.run ((schedule_key key, entry) ∷ []) r among))
+      by true goes = (
+        key.uid,
+        λ r among. elim (Contains-append_cases so_far.run ((schedule_key key, entry) ∷ []) r among) [
+          | inl inside ↦ subst (λ uid. has_uid uid r.0 ≡ true) same (here.1 r inside)
+          | inr last ↦ subst (λ (e : Keyed). has_uid key.uid e.0 ≡ true) (Contains-single {A = Keyed} (schedule_key key, entry) r last) own
+        ],
+      )
         where
           same : here.0 ≡ key.uid
           same = let first = goes_first so_far.run key.uid goes in uid_once here.0 key.uid first.0.0 (here.1 first.0 first.1) first.2
-
-          of : (r : Keyed) → Contains so_far.run r ⊎ Contains {X = Keyed} ((schedule_key key, entry) ∷ []) r → has_uid key.uid r.0 ≡ true
-          of r (inl inside) = subst (λ uid. has_uid uid r.0 ≡ true) same (here.1 r inside)
-          of r (inr last) = subst (λ (e : Keyed). has_uid key.uid e.0 ≡ true) (Contains-single {A = Keyed} (schedule_key key, entry) r last) own
       by false stops =
           (key.uid, λ r among. subst (λ (e : Keyed). has_uid key.uid e.0 ≡ true) (Contains-single {A = Keyed} (schedule_key key, entry) r among) own)
 
@@ -202,35 +195,14 @@ module _ (place : List ℕ) where
 -- ---- each step of the walk keeps, drops or postpones an entry
 
 module _ (place : List ℕ) (so_far : ExcerptSoFar) where
-  -- a schedule that has the UID of the entries in `run` is appended to `run`
-  pub joins_run : (key : ScheduleKey) (entry : Entry) → goes_on so_far.run key.uid ≡ true
-      → next_kept place so_far (schedule_key key, entry) ≡ record { kept = so_far.kept; run = so_far.run ++ (schedule_key key, entry) ∷ [] }
-  joins_run = search rules
-
-  -- when the walk comes to a schedule whose UID isn't the UID of the entries in `run`, it keeps or
-  -- drops these entries. After this step, `run` has only the schedule
-  pub begins_run : (key : ScheduleKey) (entry : Entry) → goes_on so_far.run key.uid ≡ false
-      → next_kept place so_far (schedule_key key, entry) ≡ record { kept = kept_after_run place so_far; run = (schedule_key key, entry) ∷ [] }
-  begins_run = search rules
-
-  -- if the field `run` is empty, `kept_after_run` leaves the kept entries unchanged
-  pub ends_none : so_far.run ≡ [] → kept_after_run place so_far ≡ so_far.kept
-  ends_none none = subst (λ (run : List Keyed). kept_after_run place (record { kept = so_far.kept; run = run }) ≡ so_far.kept) (sym none) refl
-
-  here_then : (x : Keyed) (b : Bool) → b ≡ true → so_far.run ≡ []
-      → ◌≡◌ {A = ExcerptSoFar}
-      (cond b (record { kept = kept_after_run place so_far ++ x ∷ []; run = [] }) (record { kept = kept_after_run place so_far; run = [] }))
-      (record { kept = so_far.kept ++ x ∷ []; run = [] })
-  here_then = search (rules, ends_none, false_true)
-
   -- the TIPLOC of the place is kept, and so is an association at the place
   pub keeps_here : (key : Key) (entry : Entry) → is_here place key ≡ true → so_far.run ≡ []
       → next_kept place so_far (key, entry) ≡ record { kept = so_far.kept ++ (key, entry) ∷ []; run = [] }
-  keeps_here = search (rules, false_true, here_then)
+  keeps_here = search (rules, false_true)
 
   elsewhere_then : (x : Keyed) (b : Bool) → b ≡ false → so_far.run ≡ []
       → cond b (record { kept = kept_after_run place so_far ++ x ∷ []; run = [] }) (record { kept = kept_after_run place so_far; run = [] }) ≡ so_far
-  elsewhere_then = search (rules, ends_none)
+  elsewhere_then = search rules
 
   -- passing the TIPLOC of a place other than the excerpt's place, or an association at such a
   -- place, leaves `kept` and `run` unchanged
@@ -254,24 +226,17 @@ pub run_needed_iff : (place : List ℕ) (so_far : ExcerptSoFar) (key : ScheduleK
     → (is_run_needed place so_far ≡ true)
     ↔ (Contains (names_in so_far.kept) key.uid ⊎ ((r : Keyed) × Contains so_far.run r × (is_call place r.1.op ≡ true)))
 run_needed_iff place so_far key entry others is =
-    (λ h. forth (either (is_run_named (names_in so_far.kept) so_far.run) (is_run_calling place so_far.run) h), back)
+    (search (rules, either, any_back), back)
   where
     named : (is_run_named (names_in so_far.kept) so_far.run ≡ true) ↔ Contains (names_in so_far.kept) key.uid
     named =
         subst (λ (run : List Keyed). (is_run_named (names_in so_far.kept) run ≡ true) ↔ Contains (names_in so_far.kept) key.uid) (sym is)
         (named_iff (names_in so_far.kept) key entry others)
 
-    forth : (is_run_named (names_in so_far.kept) so_far.run ≡ true) ⊎ (is_run_calling place so_far.run ≡ true)
-        → Contains (names_in so_far.kept) key.uid ⊎ ((r : Keyed) × Contains so_far.run r × (is_call place r.1.op ≡ true))
-    forth (inl h) = inl (named.0 h)
-    forth (inr h) = inr (any_back (λ (e : Keyed). is_call place e.1.op) so_far.run h)
-
     back : Contains (names_in so_far.kept) key.uid ⊎ ((r : Keyed) × Contains so_far.run r × (is_call place r.1.op ≡ true))
         → is_run_needed place so_far ≡ true
     back (inl among) = or_left (is_run_named (names_in so_far.kept) so_far.run) (is_run_calling place so_far.run) (named.1 among)
-    back (inr call) =
-        or_right (is_run_named (names_in so_far.kept) so_far.run) (is_run_calling place so_far.run)
-        (any_forth (λ (e : Keyed). is_call place e.1.op) so_far.run call.0 call.1 call.2)
+    back (inr call) = search (rules, or_right, any_forth)
 
 -- for any Boolean `b`, "`b` or false" is `b`
 pub or_false : (b : Bool) → (b || false) ≡ b

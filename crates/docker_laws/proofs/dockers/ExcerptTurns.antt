@@ -12,30 +12,23 @@ use Rattle.docker_laws.specs.Excerpt.{IsSublist}
 use Rattle.docker_laws.specs.ExcerptWalk.{ExcerptSoFar, is_here, has_uid, names_in, is_call, is_run_named}
 use Rattle.docker_laws.specs.ExcerptWalk.{kept_after_run, goes_on, next_kept, kept_so_far, HasKept}
 use Rattle.state_laws.proofs.states.PlainTable.{Keyed}
-use Rattle.docker_laws.proofs.dockers.ExcerptWalk.{false_true, same_tests}
-use Rattle.docker_laws.proofs.dockers.ExcerptSteps.{so_far_more, so_far_within, so_far_good, no_run_before, names_stay, joins_run}
-use Rattle.docker_laws.proofs.dockers.ExcerptSteps.{begins_run, keeps_here, drops_elsewhere, calls_more, named_iff, or_false}
+use Rattle.docker_laws.proofs.dockers.ExcerptWalk.{same_tests}
+use Rattle.docker_laws.proofs.dockers.ExcerptSteps.{so_far_more, so_far_within, so_far_good, no_run_before, names_stay}
+use Rattle.docker_laws.proofs.dockers.ExcerptSteps.{keeps_here, drops_elsewhere, calls_more, named_iff, or_false}
 
 abbrev at : List Keyed → List Keyed → ExcerptSoFar
 at kept run = record { kept = kept; run = run }
-
-or_assoc : (a b c : Bool) → (a || (b || c)) ≡ ((a || b) || c)
-or_assoc = search rules
 
 module _ (place : List ℕ) (entries kept run : List Keyed) (needed : Bool) (has : HasKept place entries kept run needed) where
   -- `next_kept` computes the lists `kept` and `run` after the loop passes one more entry
   next_is : (x : Keyed) → kept_so_far place (entries ++ x ∷ []) ≡ next_kept place (at kept run) x
   next_is x = so_far_more place entries x ∙ ap (λ (so_far : ExcerptSoFar). next_kept place so_far x) has.so_far
 
-  same_name : (names : List (List ℕ)) (rest : List Keyed) (uid : List ℕ) (x : Keyed) → goes_on rest uid ≡ true
-      → is_run_named names (rest ++ x ∷ []) ≡ is_run_named names rest
-  same_name = search (rules, false_true)
-
   -- a schedule that has the UID of the entries in `run` is appended to `run`. The docker then needs
   -- these entries if it needed them before, or if the schedule calls at the place
   pub kept_joins : (key : ScheduleKey) (entry : Entry) → goes_on run key.uid ≡ true
       → HasKept place (entries ++ (schedule_key key, entry) ∷ []) kept (run ++ (schedule_key key, entry) ∷ []) (needed || is_call place entry.op)
-  kept_joins = search (rules, next_is, joins_run, same_name, calls_more, or_assoc)
+  kept_joins = search (rules, next_is, calls_more)
 
   -- `kept_after_run` appends the entries in `run` to the kept entries if they are needed, and drops
   -- them otherwise
@@ -44,7 +37,7 @@ module _ (place : List ℕ) (entries kept run : List Keyed) (needed : Bool) (has
 
   began : (key : ScheduleKey) (entry : Entry) → goes_on run key.uid ≡ false
       → kept_so_far place (entries ++ (schedule_key key, entry) ∷ []) ≡ at (cond needed (kept ++ run) kept) ((schedule_key key, entry) ∷ [])
-  began = search (rules, next_is, begins_run, ended)
+  began = search (rules, next_is, ended)
 
   still_names : (key : ScheduleKey) (entry : Entry) → goes_on run key.uid ≡ false → names_in (cond needed (kept ++ run) kept) ≡ names_in kept
   still_names key entry stops =
@@ -72,9 +65,7 @@ module _ (place : List ℕ) (entries kept run : List Keyed) (needed : Bool) (has
           (still_names key entry stops) (named_iff (names_in (cond needed (kept ++ run) kept)) key entry [])
 
       names : is_run_named (names_in (cond needed (kept ++ run) kept)) ((schedule_key key, entry) ∷ []) ≡ named
-      names =
-          same_tests (is_run_named (names_in (cond needed (kept ++ run) kept)) ((schedule_key key, entry) ∷ [])) named (λ h. tells.1 (told.0 h))
-          (λ h. told.1 (tells.0 h))
+      names = search (rules, same_tests, tells.1, told.0, told.1, tells.0)
 
   -- the entries in `kept`, followed by the entries in `run`, are a sublist of the entries that the
   -- loop has passed

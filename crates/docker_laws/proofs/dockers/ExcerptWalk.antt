@@ -1,8 +1,8 @@
 -- A walk over entries in key order keeps an entry if and only if the docker of the place needs the
 -- entry's key. The test `is_needed` decides this from the entries.
-use Rattle.std.proofs.Common.{◌≡◌, ℕ, List, [], ◌∷◌, ◌++◌, subst, inl, inr, ◌⊎◌, refl, ap, sym, ◌∙◌}
+use Rattle.std.proofs.Common.{◌≡◌, ℕ, List, [], ◌∷◌, ◌++◌, subst, inl, inr, ◌⊎◌, refl, ap, sym, ◌∙◌, rules}
 use Rattle.std.proofs.Common.{Bool, true, false, cond, Some, None, Contains, append-nil, append_assoc}
-use Rattle.std.specs.Prelude.{◌↔◌, Option, ◌||◌, filter}
+use Rattle.std.specs.Prelude.{◌↔◌, Option, filter}
 use Rattle.std.specs.List.{list_any}
 use Rattle.std.specs.declared.cmp.Ordering.{Ordering}
 use Rattle.std.specs.declared.cmp.Ordering.TheVariants.{Less, Equal, Greater}
@@ -19,7 +19,7 @@ use Rattle.docker_model.specs.docker.DockerLine.{DockerLine}
 use Rattle.docker_model.specs.docker.DockerList.{IsDockerList}
 use Rattle.docker_model.specs.docker.DockerText.{IsDockerText}
 use Rattle.docker_laws.specs.Excerpt.{IsExcerptState}
-use Rattle.docker_laws.specs.ExcerptWalk.{ExcerptSoFar, nothing_kept, is_here, has_uid, name_in, names_in, is_call, is_run_calling, is_run_needed}
+use Rattle.docker_laws.specs.ExcerptWalk.{ExcerptSoFar, nothing_kept, is_here, has_uid, name_in, names_in, is_call, is_run_calling}
 use Rattle.docker_laws.specs.ExcerptWalk.{kept_after_run, goes_on, with_entry_of, next_kept, kept_from, kept_so_far, excerpt_for}
 use Rattle.cif_laws.proofs.orders.Ascending.{later_of}
 use Rattle.cif_laws.proofs.orders.AtMost.{level}
@@ -71,10 +71,7 @@ uid_between a b c up further same =
     sym (exact_bytes a.uid b.uid (level nat_list_cmp_total a.uid b.uid low (subst (λ uid. IsAtMost bytes_cmp b.uid uid) (sym same) high)))
 
 between_uid : (a b c : Key) (uid : List ℕ) → key_cmp a b ≡ Less → key_cmp b c ≡ Less → has_uid uid a ≡ true → has_uid uid c ≡ true → has_uid uid b ≡ true
-between_uid (schedule_key a) (schedule_key b) (schedule_key c) uid up further h g =
-    let first = (bytes_eq-Decides a.uid uid).0 h in
-    let last = (bytes_eq-Decides c.uid uid).0 g in
-    (bytes_eq-Decides b.uid uid).1 (uid_between a b c up further (first ∙ sym last) ∙ first)
+between_uid (schedule_key a) (schedule_key b) (schedule_key c) uid up further h g = search (rules, bytes_eq-Decides, uid_between)
 between_uid (schedule_key a) (schedule_key b) (tiploc_key c) uid up further h g = false_true g
 between_uid (schedule_key a) (schedule_key b) (association_key c) uid up further h g = false_true g
 between_uid (schedule_key a) (tiploc_key b) c uid up further h g = absurd (let bad : Greater ≡ Less = up in cc)
@@ -111,10 +108,6 @@ filter_alike test true (x ∷ xs) each =
 filter_alike test false (x ∷ xs) each =
     let rest = filter_alike test false xs (λ y among. each y (cons-Contains x xs y among)) in
     λ i. cond (each x (cons-Contains-first x xs) i) (x ∷ rest i) (rest i)
-
-with_alike : (b : Bool) (xs ys : List Keyed) → cond b (xs ++ ys) xs ≡ xs ++ cond b ys []
-with_alike true xs ys = refl
-with_alike false xs ys = sym (append-nil xs)
 
 -- two Booleans are equal if each implies the other
 pub same_tests : (a b : Bool) → (a ≡ true → b ≡ true) → (b ≡ true → a ≡ true) → a ≡ b
@@ -171,15 +164,10 @@ module _ (place : List ℕ) (all : List Keyed) (order : AllLater Below all) wher
 
     -- each entry is in `done`, in `first ∷ others`, or in `rest`
     place_of : (x : Keyed) → Contains all x → Contains done x ⊎ (Contains (first ∷ others) x ⊎ Contains rest x)
-    place_of x among = outer (Contains-append_cases (done ++ first ∷ others) rest x (subst (λ xs. Contains xs x) at.whole among))
-      where
-        inner : Contains done x ⊎ Contains (first ∷ others) x → Contains done x ⊎ (Contains (first ∷ others) x ⊎ Contains rest x)
-        inner (inl here) = inl here
-        inner (inr here) = inr (inl here)
-
-        outer : Contains (done ++ first ∷ others) x ⊎ Contains rest x → Contains done x ⊎ (Contains (first ∷ others) x ⊎ Contains rest x)
-        outer (inl here) = inner (Contains-append_cases done (first ∷ others) x here)
-        outer (inr here) = inr (inr here)
+    place_of x among = elim (Contains-append_cases (done ++ first ∷ others) rest x (subst (λ xs. Contains xs x) at.whole among)) [
+      | inl here ↦ elim (Contains-append_cases done (first ∷ others) x here) [ inl here ↦ inl here | inr here ↦ inr (inl here) ]
+      | inr here ↦ inr (inr here)
+    ]
 
     done_in : (x : Keyed) → Contains done x → Contains all x
     done_in x among =
@@ -199,11 +187,25 @@ module _ (place : List ℕ) (all : List Keyed) (order : AllLater Below all) wher
         let x = by_entry.0 in
         let told = filter_back (λ (entry : Keyed). is_needed place all entry.0) done x (subst (λ xs. Contains xs x) at.kept by_entry.1) in
         let names : is_name at.uid (name_in x.0 x.1.op) ≡ true = ap (is_name at.uid) by_entry.2 ∙ (bytes_eq-Decides found.0 at.uid).1 same in
-        any_forth (names_as place at.uid) all x (done_in x told.0)
-        (and_true (is_here place x.0) (is_name at.uid (name_in x.0 x.1.op)) (here_of_name x.0 x.1.op found.0 by_entry.2 told.1) names)
+        search (rules, any_forth, names_as, done_in, and_true, is_name, here_of_name)
 
     named_back : list_any (names_as place at.uid) all ≡ true → list_any (λ name. has_uid name first.0) (names_in kept) ≡ true
-    named_back h = by (place_of x found.1)
+    named_back h = elim (place_of x found.1) [
+      | inl here ↦
+          let name = name_of at.uid (name_in x.0 x.1.op) parts.1 in
+          let keeps : Contains kept x =
+          subst (λ xs. Contains xs x) (sym at.kept)
+          (filter_forth (λ (entry : Keyed). is_needed place all entry.0) done x here (needed_here x.0 parts.0)) in
+          any_forth (λ other. has_uid other first.0) (names_in kept) name.0
+          (part_forth (λ (entry : Keyed). name_in entry.0 entry.1.op) kept x name.0 keeps name.1)
+          (subst (λ other. has_uid other first.0 ≡ true) (sym name.2) of_first)
+      | inr (inl here) ↦ absurd (here_no_uid place at.uid x.0 parts.0 (at.of_uid x here))
+      | inr (inr there) ↦
+          let up = later_across (done ++ first ∷ others) rest first x (subst (AllLater Below) at.whole order)
+          (Contains-append_right done (first ∷ others) first (cons-Contains-first first others)) there in
+          let is = above_uid first.0 x.0 at.uid up of_first in
+          absurd (here_no_uid place is.0 x.0 parts.0 is.1)
+    ]
       where
         found : (x : Keyed) × Contains all x × (names_as place at.uid x ≡ true)
         found = any_back (names_as place at.uid) all h
@@ -214,51 +216,22 @@ module _ (place : List ℕ) (all : List Keyed) (order : AllLater Below all) wher
         parts : (is_here place x.0 ≡ true) × (is_name at.uid (name_in x.0 x.1.op) ≡ true)
         parts = both (is_here place x.0) (is_name at.uid (name_in x.0 x.1.op)) found.2
 
-        by : Contains done x ⊎ (Contains (first ∷ others) x ⊎ Contains rest x) → list_any (λ name. has_uid name first.0) (names_in kept) ≡ true
-        by (inl here) =
-            let name = name_of at.uid (name_in x.0 x.1.op) parts.1 in
-            let keeps : Contains kept x =
-            subst (λ xs. Contains xs x) (sym at.kept)
-            (filter_forth (λ (entry : Keyed). is_needed place all entry.0) done x here (needed_here x.0 parts.0)) in
-            any_forth (λ other. has_uid other first.0) (names_in kept) name.0
-            (part_forth (λ (entry : Keyed). name_in entry.0 entry.1.op) kept x name.0 keeps name.1)
-            (subst (λ other. has_uid other first.0 ≡ true) (sym name.2) of_first)
-        by (inr (inl here)) = absurd (here_no_uid place at.uid x.0 parts.0 (at.of_uid x here))
-        by (inr (inr there)) =
-            let up = later_across (done ++ first ∷ others) rest first x (subst (AllLater Below) at.whole order)
-            (Contains-append_right done (first ∷ others) first (cons-Contains-first first others)) there in
-            let is = above_uid first.0 x.0 at.uid up of_first in
-            absurd (here_no_uid place is.0 x.0 parts.0 is.1)
-
     calls_forth : is_run_calling place (first ∷ others) ≡ true → list_any (calls_as place at.uid) all ≡ true
     calls_forth h =
         let found = any_back (λ (entry : Keyed). is_call place entry.1.op) (first ∷ others) h in
-        any_forth (calls_as place at.uid) all found.0 (run_in found.0 found.1)
-        (and_true (has_uid at.uid found.0.0) (is_call place found.0.1.op) (at.of_uid found.0 found.1) found.2)
+        search (rules, any_forth, calls_as, run_in, and_true, at.uid, found.0, found.1, found.0.0, found.0.1.op, at.of_uid)
 
     calls_back : list_any (calls_as place at.uid) all ≡ true → is_run_calling place (first ∷ others) ≡ true
-    calls_back h = by (place_of x found.1)
-      where
-        found : (x : Keyed) × Contains all x × (calls_as place at.uid x ≡ true)
-        found = any_back (calls_as place at.uid) all h
-
-        x : Keyed
-        x = found.0
-
-        parts : (has_uid at.uid x.0 ≡ true) × (is_call place x.1.op ≡ true)
-        parts = both (has_uid at.uid x.0) (is_call place x.1.op) found.2
-
-        by : Contains done x ⊎ (Contains (first ∷ others) x ⊎ Contains rest x) → is_run_calling place (first ∷ others) ≡ true
-        by (inl here) =
-            absurd (at.apart x first at.uid here (Contains-append_left (first ∷ others) rest first (cons-Contains-first first others)) parts.0 of_first)
-        by (inr (inl here)) = any_forth (λ (entry : Keyed). is_call place entry.1.op) (first ∷ others) x here parts.1
-        by (inr (inr there)) = absurd (ended first x at.uid (cons-Contains-first first others) there of_first parts.0)
-
-    test_same : is_run_needed place (record { kept = kept; run = first ∷ others }) ≡ is_concerned place all at.uid
-    test_same =
-        let names = same_tests (list_any (λ name. has_uid name first.0) (names_in kept)) (list_any (names_as place at.uid) all) named_forth named_back in
-        let calls = same_tests (is_run_calling place (first ∷ others)) (list_any (calls_as place at.uid) all) calls_forth calls_back in
-        λ i. names i || calls i
+    calls_back h =
+        let found : (x : Keyed) × Contains all x × (calls_as place at.uid x ≡ true) = any_back (calls_as place at.uid) all h in
+        let x : Keyed = found.0 in
+        let parts : (has_uid at.uid x.0 ≡ true) × (is_call place x.1.op ≡ true) = both (has_uid at.uid x.0) (is_call place x.1.op) found.2 in
+        elim (place_of x found.1) [
+          | inl here ↦ absurd (at.apart x first at.uid here (Contains-append_left (first ∷ others) rest first (cons-Contains-first first others)) parts.0
+              of_first)
+          | inr (inl here) ↦ any_forth (λ (entry : Keyed). is_call place entry.1.op) (first ∷ others) x here parts.1
+          | inr (inr there) ↦ absurd (ended first x at.uid (cons-Contains-first first others) there of_first parts.0)
+        ]
 
     ended_run : kept_after_run place (record { kept = kept; run = first ∷ others })
         ≡ filter (λ (entry : Keyed). is_needed place all entry.0) (done ++ first ∷ others)
@@ -267,11 +240,7 @@ module _ (place : List ℕ) (all : List Keyed) (order : AllLater Below all) wher
         let test = λ (entry : Keyed). is_needed place all entry.0 in
         let of_run : filter test (first ∷ others) ≡ cond b (first ∷ others) [] =
         filter_alike test b (first ∷ others) (λ r among. needed_of_uid at.uid r.0 (at.of_uid r among)) in
-        (λ i. cond (test_same i) (kept ++ first ∷ others) kept)
-        ∙ with_alike b kept (first ∷ others)
-        ∙ ap (λ (xs : List Keyed). xs ++ cond b (first ∷ others) []) at.kept
-        ∙ ap (λ (ys : List Keyed). filter (λ (entry : Keyed). is_needed place all entry.0) done ++ ys) (sym of_run)
-        ∙ sym (filter-append test done (first ∷ others))
+        search (rules, is_needed, filter-append, same_tests, names_as, named_forth, named_back, calls_as, calls_forth, calls_back)
 
   -- of the entries in `done` and `run`, `kept_after_run` keeps exactly the entries whose keys the
   -- docker needs
@@ -317,9 +286,13 @@ module _ (place : List ℕ) (all : List Keyed) (order : AllLater Below all) wher
     whole = at.whole ∙ regrouped done so_far.run rest (schedule_key key, entry);
     kept = at.kept;
     uid = at.uid;
-    of_uid = λ r among. of r (Contains-append_cases so_far.run ((schedule_key key, entry) ∷ []) r among);
-    apart = λ z y other in_done behind.
-        at.apart z y other in_done (subst (λ xs. Contains xs y) (append_assoc so_far.run ((schedule_key key, entry) ∷ []) rest) behind);
+    of_uid = λ r among. elim (Contains-append_cases so_far.run ((schedule_key key, entry) ∷ []) r among) [
+      | inl here ↦ at.of_uid r here
+      | inr last ↦
+          subst (λ (e : Keyed). has_uid at.uid e.0 ≡ true) (Contains-single {A = Keyed} (schedule_key key, entry) r last)
+          ((bytes_eq-Decides key.uid at.uid).1 uid_is)
+    ];
+    apart = search (rules, append_assoc);
   }
     where
       uid_is : key.uid ≡ at.uid
@@ -327,19 +300,18 @@ module _ (place : List ℕ) (all : List Keyed) (order : AllLater Below all) wher
           let first = goes_member so_far.run key.uid goes in
           uid_once key.uid at.uid first.0.0 first.2 (at.of_uid first.0 first.1)
 
-      of : (r : Keyed) → Contains so_far.run r ⊎ Contains {X = Keyed} ((schedule_key key, entry) ∷ []) r → has_uid at.uid r.0 ≡ true
-      of r (inl here) = at.of_uid r here
-      of r (inr last) =
-          subst (λ (e : Keyed). has_uid at.uid e.0 ≡ true) (Contains-single {A = Keyed} (schedule_key key, entry) r last)
-          ((bytes_eq-Decides key.uid at.uid).1 uid_is)
-
   -- suppose that the next entry is a schedule whose UID isn't the UID of the entries in `run`. Then
   -- no entry from this schedule on has the UID of the entries in `run`
   ends : (done : List Keyed) (so_far : ExcerptSoFar) (key : ScheduleKey) (entry : Entry) (rest : List Keyed)
       → IsAt place all done so_far ((schedule_key key, entry) ∷ rest) → goes_on so_far.run key.uid ≡ false
       → IsEnded so_far.run ((schedule_key key, entry) ∷ rest)
   ends done so_far key entry rest at stops r y other in_run behind of_r of_y =
-      by (Contains-cons {A = Keyed} (schedule_key key, entry) rest y behind)
+      elim (Contains-cons {A = Keyed} (schedule_key key, entry) rest y behind) [
+        | inl same ↦ hit (subst (λ (e : Keyed). has_uid other e.0 ≡ true) (sym same) of_y)
+        | inr there ↦
+            hit (between_uid r.0 (schedule_key key) y.0 other (run_below done so_far (schedule_key key, entry) rest at r in_run)
+            (next_below done so_far (schedule_key key, entry) rest at y there) of_r of_y)
+      ]
     where
       -- the UID of the next entry differs from the UID of the entries in `run`
       hit : has_uid other (schedule_key key) ≡ true → ⊥
@@ -347,36 +319,24 @@ module _ (place : List ℕ) (all : List Keyed) (order : AllLater Below all) wher
           let same : at.uid ≡ key.uid = uid_once at.uid other r.0 (at.of_uid r in_run) of_r ∙ sym ((bytes_eq-Decides key.uid other).0 h) in
           false_true (sym stops ∙ goes_on_by so_far.run key.uid r in_run (λ z among. subst (λ uid. has_uid uid z.0 ≡ true) same (at.of_uid z among)))
 
-      by : ((schedule_key key, entry) ≡ y) ⊎ Contains rest y → ⊥
-      by (inl same) = hit (subst (λ (e : Keyed). has_uid other e.0 ≡ true) (sym same) of_y)
-      by (inr there) =
-          hit (between_uid r.0 (schedule_key key) y.0 other (run_below done so_far (schedule_key key, entry) rest at r in_run)
-          (next_below done so_far (schedule_key key, entry) rest at y there) of_r of_y)
-
   -- when the walk comes to a schedule whose UID isn't the UID of the entries in `run`, it keeps or
   -- drops these entries. After this step, `run` has only the schedule. The step preserves the
   -- invariant
   begins : (done : List Keyed) (so_far : ExcerptSoFar) (key : ScheduleKey) (entry : Entry) (rest : List Keyed)
       → IsAt place all done so_far ((schedule_key key, entry) ∷ rest) → goes_on so_far.run key.uid ≡ false
       → IsAt place all (done ++ so_far.run) (record { kept = kept_after_run place so_far; run = (schedule_key key, entry) ∷ [] }) rest
-  begins done so_far key entry rest at stops = record {
-    whole = at.whole ∙ sym (append_assoc (done ++ so_far.run) ((schedule_key key, entry) ∷ []) rest);
-    kept = run_end done so_far.kept so_far.run ((schedule_key key, entry) ∷ rest) at ended;
-    uid = key.uid;
-    of_uid = λ r among.
-        subst (λ (e : Keyed). has_uid key.uid e.0 ≡ true) (Contains-single {A = Keyed} (schedule_key key, entry) r among)
-        ((bytes_eq-Decides key.uid key.uid).1 refl);
-    apart = λ z y other in_done behind of_z of_y. by z y other (Contains-append_cases done so_far.run z in_done) behind of_z of_y;
-  }
-    where
-      ended : IsEnded so_far.run ((schedule_key key, entry) ∷ rest)
-      ended = ends done so_far key entry rest at stops
-
-      by : (z y : Keyed) (other : List ℕ) → Contains done z ⊎ Contains so_far.run z → Contains {X = Keyed} ((schedule_key key, entry) ∷ rest) y
-          → has_uid other z.0 ≡ true → has_uid other y.0 ≡ true → ⊥
-      by z y other (inl here) behind of_z of_y =
-          at.apart z y other here (Contains-append_right so_far.run ((schedule_key key, entry) ∷ rest) y behind) of_z of_y
-      by z y other (inr here) behind of_z of_y = ended z y other here behind of_z of_y
+  begins done so_far key entry rest at stops =
+      let ended : IsEnded so_far.run ((schedule_key key, entry) ∷ rest) = ends done so_far key entry rest at stops in
+      record {
+        whole = at.whole ∙ sym (append_assoc (done ++ so_far.run) ((schedule_key key, entry) ∷ []) rest);
+        kept = run_end done so_far.kept so_far.run ((schedule_key key, entry) ∷ rest) at ended;
+        uid = key.uid;
+        of_uid = search (rules, bytes_eq-Decides);
+        apart = λ z y other in_done behind of_z of_y. elim (Contains-append_cases done so_far.run z in_done) [
+          | inl here ↦ at.apart z y other here (Contains-append_right so_far.run ((schedule_key key, entry) ∷ rest) y behind) of_z of_y
+          | inr here ↦ ended z y other here behind of_z of_y
+        ];
+      }
 
   -- the invariant holds for some list `done` of entries that the walk has passed
   abbrev Goes : ExcerptSoFar → List Keyed → Type 0
@@ -421,29 +381,23 @@ module _ (place : List ℕ) (all : List Keyed) (order : AllLater Below all) wher
           ∙ (λ i. filter (λ (e : Keyed). is_needed place all e.0) (done ++ so_far.run) ++ cond ((same ∙ h) i) ((key, entry) ∷ []) [])
           ∙ ap (λ (xs : List Keyed). xs ++ cond b ((key, entry) ∷ []) []) (sym before)
 
-      apart_now : (z y : Keyed) (other : List ℕ) → Contains (done ++ so_far.run) z ⊎ Contains {X = Keyed} ((key, entry) ∷ []) z → Contains rest y
-          → has_uid other z.0 ≡ true → has_uid other y.0 ≡ true → ⊥
-      apart_now z y other (inr last) behind of_z of_y =
-          never other (subst (λ (e : Keyed). has_uid other e.0 ≡ true) (sym (Contains-single {A = Keyed} (key, entry) z last)) of_z)
-      apart_now z y other (inl before_it) behind of_z of_y = inner (Contains-append_cases done so_far.run z before_it)
-        where
-          inner : Contains done z ⊎ Contains so_far.run z → ⊥
-          inner (inl here) =
-              at.apart z y other here
-              (Contains-append_right so_far.run ((key, entry) ∷ rest) y (cons-Contains {A = Keyed} (key, entry) rest y behind)) of_z of_y
-          inner (inr here) = none z here
-
       there : (kept : List Keyed) → kept ≡ filter (λ (e : Keyed). is_needed place all e.0) ((done ++ so_far.run) ++ (key, entry) ∷ [])
           → IsAt place all ((done ++ so_far.run) ++ (key, entry) ∷ []) (record { kept = kept; run = [] }) rest
       there kept is = record {
-        whole = at.whole
-            ∙ sym (append_assoc (done ++ so_far.run) ((key, entry) ∷ []) rest)
-            ∙ ap (λ (xs : List Keyed). xs ++ rest) (sym (append-nil ((done ++ so_far.run) ++ (key, entry) ∷ [])));
+        whole = search (rules, append_assoc, append-nil);
         kept = is;
         uid = [];
         of_uid = λ r among. absurd (nil-Contains r among);
         apart = λ z y other in_now behind of_z of_y.
-            apart_now z y other (Contains-append_cases (done ++ so_far.run) ((key, entry) ∷ []) z in_now) behind of_z of_y;
+            elim (Contains-append_cases (done ++ so_far.run) ((key, entry) ∷ []) z in_now) [
+              | inr last ↦ never other (subst (λ (e : Keyed). has_uid other e.0 ≡ true) (sym (Contains-single {A = Keyed} (key, entry) z last)) of_z)
+              | inl before_it ↦ elim (Contains-append_cases done so_far.run z before_it) [
+                | inl here ↦
+                    at.apart z y other here
+                    (Contains-append_right so_far.run ((key, entry) ∷ rest) y (cons-Contains {A = Keyed} (key, entry) rest y behind)) of_z of_y
+                | inr here ↦ none z here
+              ]
+            ];
       }
 
       by : (b : Bool) → is_here place key ≡ b
@@ -476,13 +430,7 @@ module _ (place : List ℕ) (all : List Keyed) (order : AllLater Below all) wher
       from_here rest next.0 (next_kept place so_far x) next.1
 
   at_first : IsAt place all [] nothing_kept all
-  at_first = record {
-    whole = refl;
-    kept = refl;
-    uid = [];
-    of_uid = λ r among. absurd (nil-Contains r among);
-    apart = λ z y other in_done behind of_z of_y. nil-Contains z in_done;
-  }
+  at_first = search (rules, nil-Contains)
 
   -- a walk over all entries keeps the entries whose keys the docker of the place needs
   pub walk_keeps : kept_after_run place (kept_so_far place all) ≡ filter (λ (entry : Keyed). is_needed place all entry.0) all
@@ -490,10 +438,7 @@ module _ (place : List ℕ) (all : List Keyed) (order : AllLater Below all) wher
 
 -- the result of a walk over a state's entries in key order is an excerpt of the state
 pub walk_is_excerpt : (place : List ℕ) (state : State) → AreAscending state.entries → IsExcerptState place state (excerpt_for place state)
-walk_is_excerpt place state up =
-    subst (λ (entries : List Keyed). IsExcerptState place state (record { horizon = state.horizon; ledger = state.ledger; entries = entries }))
-    (sym (walk_keeps place state.entries (later_of (on (λ (entry : Keyed). entry.0) key_cmp) state.entries up)))
-    (passing_is_excerpt place state)
+walk_is_excerpt place state up = search (rules, walk_keeps, later_of, passing_is_excerpt)
 
 -- the excerpt of a valid state is valid
 pub walk_valid : (place : List ℕ) (state : State) → IsValid state → IsValid (excerpt_for place state)

@@ -14,9 +14,9 @@ use Rattle.std.proofs.lemmas.Bool.{eqb-true, eq-eqb}
 use Rattle.docker_model.specs.file.File.{IsFile, most_records}
 use Rattle.docker_model.specs.file.Change.{Key, changes}
 use Rattle.docker_model.specs.state.Order.{IsAtMost}
-use Rattle.docker_model.specs.state.Stamp.{FileStamp, LedgerItem, ledger_item_of, file_stamp_of, file_stamp_cmp, IsFloor, IsKept}
+use Rattle.docker_model.specs.state.Stamp.{FileStamp, LedgerItem, ledger_item_of, file_stamp_of, IsFloor, IsKept}
 use Rattle.docker_model.specs.state.Op.{Entry, key_cmp, entry_cmp}
-use Rattle.docker_model.specs.state.Lapse.{lapse_entry, HasNotToLapse}
+use Rattle.docker_model.specs.state.Lapse.{lapse_entry}
 use Rattle.docker_model.specs.state.State.{State, AreAscending, IsGreatestAmong, IsGoodEntry, IsValid, IsJoin}
 use Rattle.docker_model.specs.state.Summary.{IsSummary}
 use Rattle.docker_laws.specs.FileSummary.{placed, with_earlier, latest_entries, summary_of}
@@ -52,40 +52,37 @@ member_forth : (entry : Keyed) (entries : List Keyed) → AreAscending entries �
 member_forth entry [] up z among = inr (Contains-single entry _ among, λ other inside. nil-Contains (entry.0, other) inside)
 member_forth entry (first ∷ entries) up z among = by (key_cmp entry.0 first.0) refl (member_forth _ entries up.1 _) among
   where
-    key_below : key_cmp entry.0 first.0 ≡ Less → (other : Entry) → (first ≡ (entry.0, other)) ⊎ Contains entries (entry.0, other) → ⊥
-    key_below less other (inl same) = not_itself entry.0 (subst (λ (k : Key). key_cmp entry.0 k ≡ Less) (ap (λ (pair : Keyed). pair.0) same) less)
-    key_below less other (inr inside) = not_both _ first.0 less (below_by_recursion _ entries _ up.0 inside)
-
-    key_above : key_cmp entry.0 first.0 ≡ Greater → NoEntry entries entry.0 → (other : Entry)
-        → (first ≡ (entry.0, other)) ⊎ Contains entries (entry.0, other) → ⊥
-    key_above greater none other (inl same) =
-        let self : key_cmp entry.0 entry.0 ≡ Greater = subst (λ (k : Key). key_cmp entry.0 k ≡ Greater) (ap (λ (pair : Keyed). pair.0) same) greater in
-        let tied = tied_itself key_total entry.0 in
-        cc
-    key_above greater none other (inr inside) = none other inside
-
-    before : key_cmp entry.0 first.0 ≡ Less → (entry ≡ z) ⊎ Contains (first ∷ entries) z
-        → Contains (first ∷ entries) z ⊎ ((entry ≡ z) × NoEntry (first ∷ entries) entry.0)
-    before less (inl same) = inr (same, λ other inside. key_below less other (Contains-cons first _ (entry.0, other) inside))
-    before less (inr later) = inl later
-
-    onward : key_cmp entry.0 first.0 ≡ Greater → Contains entries z ⊎ ((entry ≡ z) × NoEntry entries entry.0)
-        → Contains (first ∷ entries) z ⊎ ((entry ≡ z) × NoEntry (first ∷ entries) entry.0)
-    onward greater (inl inside) = inl (cons-Contains _ entries _ inside)
-    onward greater (inr new) = inr (new.0, λ other inside. key_above greater new.1 other (Contains-cons first _ (entry.0, other) inside))
-
-    after : key_cmp entry.0 first.0 ≡ Greater → (Contains (with_earlier entry entries) z → Contains entries z ⊎ ((entry ≡ z) × NoEntry entries entry.0))
-        → (first ≡ z) ⊎ Contains (with_earlier entry entries) z → Contains (first ∷ entries) z ⊎ ((entry ≡ z) × NoEntry (first ∷ entries) entry.0)
-    after greater rest (inl same) = inl (subst (Contains (first ∷ entries)) same (cons-Contains-first _ entries))
-    after greater rest (inr later) = onward greater (rest later)
-
     by : (o : Ordering) → key_cmp entry.0 first.0 ≡ o
         → (Contains (with_earlier entry entries) z → Contains entries z ⊎ ((entry ≡ z) × NoEntry entries entry.0))
         → Contains (placed o entry first entries (with_earlier entry entries)) z
         → Contains (first ∷ entries) z ⊎ ((entry ≡ z) × NoEntry (first ∷ entries) entry.0)
-    by Less h rest inside = before h (Contains-cons _ (first ∷ entries) _ inside)
+    by Less h rest inside = elim (Contains-cons _ (first ∷ entries) _ inside) [
+      | inl same ↦ inr (
+        same,
+        λ other inside. elim (Contains-cons first _ (entry.0, other) inside) [
+          | inl same ↦ not_itself entry.0 (subst (λ (k : Key). key_cmp entry.0 k ≡ Less) (ap (λ (pair : Keyed). pair.0) same) h)
+          | inr inside ↦ not_both _ first.0 h (below_by_recursion _ entries _ up.0 inside)
+        ],
+      )
+      | inr later ↦ inl later
+    ]
     by Equal h rest inside = inl inside
-    by Greater h rest inside = after h rest (Contains-cons first _ z inside)
+    by Greater h rest inside = elim (Contains-cons first _ z inside) [
+      | inl same ↦ inl (subst (Contains (first ∷ entries)) same (cons-Contains-first _ entries))
+      | inr later ↦ elim (rest later) [
+        | inl inside ↦ inl (cons-Contains _ entries _ inside)
+        | inr new ↦ inr (
+          new.0,
+          λ other inside. elim (Contains-cons first _ (entry.0, other) inside) [
+            | inl same ↦
+                let self : key_cmp entry.0 entry.0 ≡ Greater = subst (λ (k : Key). key_cmp entry.0 k ≡ Greater) (ap (λ (pair : Keyed). pair.0) same) h in
+                let tied = tied_itself key_total entry.0 in
+                cc
+            | inr inside ↦ new.1 other inside
+          ],
+        )
+      ]
+    ]
 
 -- `with_earlier` preserves each entry of the list
 member_still : (entry : Keyed) (entries : List Keyed) (z : Keyed) → Contains entries z → Contains (with_earlier entry entries) z
@@ -103,42 +100,35 @@ member_still entry (first ∷ entries) z among = by (key_cmp entry.0 first.0) (�
 member_new : (entry : Keyed) (entries : List Keyed) → NoEntry entries entry.0 → Contains (with_earlier entry entries) entry
 member_new entry [] none = cons-Contains-first entry []
 member_new entry (first ∷ entries) none =
-    by (key_cmp entry.0 first.0) refl (member_new entry entries (λ other inside. none other (cons-Contains first entries (entry.0, other) inside)))
-  where
-    by : (o : Ordering) → key_cmp entry.0 first.0 ≡ o → Contains (with_earlier entry entries) entry
-        → Contains (placed o entry first entries (with_earlier entry entries)) entry
-    by Less h rest = cons-Contains-first entry (first ∷ entries)
-    by Equal h rest =
-        let same : entry.0 ≡ first.0 = exact_key entry.0 first.0 h in
-        absurd (none first.1 (subst (Contains (first ∷ entries)) (λ i. (sym same i, first.1)) (cons-Contains-first first entries)))
-    by Greater h rest = cons-Contains first (with_earlier entry entries) entry rest
+    (elim (key_cmp entry.0 first.0) as (λ o. key_cmp entry.0 first.0 ≡ o → Contains (with_earlier entry entries) entry → Contains
+    (placed o entry first entries (with_earlier entry entries)) entry) [
+      | Less ↦ λ h rest. cons-Contains-first entry (first ∷ entries)
+      | Equal ↦ λ h rest. let same : entry.0 ≡ first.0 = exact_key entry.0 first.0 h in
+          absurd (none first.1 (subst (Contains (first ∷ entries)) (λ i. (sym same i, first.1)) (cons-Contains-first first entries)))
+      | Greater ↦ λ h rest. cons-Contains first (with_earlier entry entries) entry rest
+    ]) refl (member_new entry entries (λ other inside. none other (cons-Contains first entries (entry.0, other) inside)))
 
 -- `with_earlier` preserves the key order of the list
 still_ascends : (entry : Keyed) (entries : List Keyed) → AreAscending entries → AreAscending (with_earlier entry entries)
 still_ascends entry [] up = (tt, tt)
 still_ascends entry (first ∷ entries) up = by (key_cmp entry.0 first.0) refl (still_ascends _ entries up.1)
   where
-    -- an inserted entry whose key is below the first key is below all entries of the list
-    below_all : key_cmp entry.0 first.0 ≡ Less → (z : Keyed) → (first ≡ z) ⊎ Contains entries z → key_cmp entry.0 z.0 ≡ Less
-    below_all less z (inl same) = subst (λ (later : Keyed). key_cmp entry.0 later.0 ≡ Less) same less
-    below_all less z (inr inside) = key_total.trans entry.0 first.0 z.0 less (below_by_recursion _ entries _ up.0 inside)
-
-    -- if the inserted entry is above the first entry, the first entry is below all entries after it
-    above_first : key_cmp entry.0 first.0 ≡ Greater → (z : Keyed) → Contains entries z ⊎ ((entry ≡ z) × NoEntry entries entry.0) → key_cmp first.0 z.0 ≡ Less
-    above_first greater z (inl inside) = below_by_recursion (λ (later : Keyed). key_cmp first.0 later.0 ≡ Less) _ z up.0 inside
-    above_first greater z (inr new) =
-        subst (λ (later : Keyed). key_cmp first.0 later.0 ≡ Less) new.0 (key_total.antisymm first.0 entry.0 ∙ ap ordering_reverse greater)
-
     by : (o : Ordering) → key_cmp entry.0 first.0 ≡ o → AreAscending (with_earlier entry entries)
         → AreAscending (placed o entry first entries (with_earlier entry entries))
     by Less h rest = (
-      each_member _ (first ∷ entries) (λ z inside. below_all h z (Contains-cons _ entries _ inside)),
+      each_member _ (first ∷ entries) (λ z inside. elim (Contains-cons _ entries _ inside) [
+        | inl same ↦ subst (λ (later : Keyed). key_cmp entry.0 later.0 ≡ Less) same h
+        | inr inside ↦ key_total.trans entry.0 first.0 z.0 h (below_by_recursion _ entries _ up.0 inside)
+      ]),
       up,
     )
     by Equal h rest = up
     by Greater h rest = (
       each_member (λ (later : Keyed). key_cmp first.0 later.0 ≡ Less) _
-          (λ z inside. above_first h z (member_forth entry _ up.1 z inside)),
+          (λ z inside. elim (member_forth entry _ up.1 z inside) [
+            | inl inside ↦ below_by_recursion (λ (later : Keyed). key_cmp first.0 later.0 ≡ Less) _ z up.0 inside
+            | inr new ↦ subst (λ (later : Keyed). key_cmp first.0 later.0 ≡ Less) new.0 (key_total.antisymm first.0 entry.0 ∙ ap ordering_reverse h)
+          ]),
       rest,
     )
 
@@ -163,51 +153,48 @@ latest_is (first ∷ entries) up key entry = (forth (latest_is entries up.1 key)
     Latest : Type 0
     Latest = (other : Entry) → Contains (latest_entries entries) (key, other) ↔ IsGreatestAmong entries key other
 
-    -- if `latest_entries` has no entry with a key, the whole list has no entry with this key
-    none_of : Latest → NoEntry (latest_entries entries) key → NoEntry entries key ⊎ GreatestEntry entries key → NoEntry entries key
-    none_of later none (inl never) = never
-    none_of later none (inr best) = absurd (none best.0 ((later best.0).1 (record { among = best.1; greatest = best.2 })))
-
     as_later : IsGreatestAmong entries key entry → IsGreatestAmong (first ∷ entries) key entry
     as_later is = record {
       among = cons-Contains first entries (key, entry) is.among;
-      greatest = λ other among. by other (Contains-cons first entries (key, other) among);
+      greatest = λ other among. elim (Contains-cons first entries (key, other) among) [
+        | inl same ↦ at_most_below entry_cmp other entry (not_above first entries key entry up.0 is.among other same)
+        | inr inside ↦ is.greatest other inside
+      ];
     }
-      where
-        by : (other : Entry) → (first ≡ (key, other)) ⊎ Contains entries (key, other) → IsAtMost entry_cmp other entry
-        by other (inl same) = at_most_below entry_cmp other entry (not_above first entries key entry up.0 is.among other same)
-        by other (inr inside) = is.greatest other inside
 
     as_first : first ≡ (key, entry) → NoEntry entries key → IsGreatestAmong (first ∷ entries) key entry
     as_first same none = record {
       among = subst (Contains (first ∷ entries)) same (cons-Contains-first first entries);
-      greatest = λ other among. by other (Contains-cons first entries (key, other) among);
+      greatest = λ other among. elim (Contains-cons first entries (key, other) among) [
+        | inl too ↦ subst (λ (e : Entry). IsAtMost entry_cmp e entry) (ap (λ (pair : Keyed). pair.1) (sym same ∙ too)) (at_most_itself entry_total entry)
+        | inr inside ↦ absurd (none other inside)
+      ];
     }
-      where
-        by : (other : Entry) → (first ≡ (key, other)) ⊎ Contains entries (key, other) → IsAtMost entry_cmp other entry
-        by other (inl too) =
-            subst (λ (e : Entry). IsAtMost entry_cmp e entry) (ap (λ (pair : Keyed). pair.1) (sym same ∙ too)) (at_most_itself entry_total entry)
-        by other (inr inside) = absurd (none other inside)
 
     of_key : first ≡ (key, entry) → NoEntry (latest_entries entries) first.0 → NoEntry (latest_entries entries) key
     of_key same none = subst (NoEntry (latest_entries entries)) (ap (λ (pair : Keyed). pair.0) same) none
 
     forth : Latest → Contains (with_earlier first (latest_entries entries)) (key, entry) → IsGreatestAmong (first ∷ entries) key entry
-    forth later among = by (member_forth first (latest_entries entries) (latest_ascend entries) (key, entry) among)
-      where
-        by : Contains (latest_entries entries) (key, entry) ⊎ ((first ≡ (key, entry)) × NoEntry (latest_entries entries) first.0)
-            → IsGreatestAmong (first ∷ entries) key entry
-        by (inl inside) = as_later ((later entry).0 inside)
-        by (inr new) = as_first new.0 (none_of later (of_key new.0 new.1) (greatest_in entries key))
+    forth later among = elim (member_forth first (latest_entries entries) (latest_ascend entries) (key, entry) among) [
+      | inl inside ↦ as_later ((later entry).0 inside)
+      | inr new ↦ as_first new.0 (elim (greatest_in entries key) [
+        | inl never ↦ never
+        | inr best ↦ absurd ((of_key new.0 new.1) best.0 ((later best.0).1 (record { among = best.1; greatest = best.2 })))
+      ])
+    ]
 
     back : Latest → IsGreatestAmong (first ∷ entries) key entry → Contains (with_earlier first (latest_entries entries)) (key, entry)
-    back later is = by (Contains-cons first entries (key, entry) is.among)
+    back later is = elim (Contains-cons first entries (key, entry) is.among) [
+      | inl same ↦ alone same (greatest_in entries key)
+      | inr inside ↦
+          member_still first (latest_entries entries) (key, entry)
+          ((later entry).1 (record { among = inside; greatest = λ other among. is.greatest other (cons-Contains first entries (key, other) among) }))
+    ]
       where
         alone : first ≡ (key, entry) → NoEntry entries key ⊎ GreatestEntry entries key → Contains (with_earlier first (latest_entries entries)) (key, entry)
         alone same (inl none) =
             subst (Contains (with_earlier first (latest_entries entries))) same
-            (member_new first (latest_entries entries) (λ other inside. none_here other (subst (λ (k : Key). Contains (latest_entries entries) (k, other))
-            (ap (λ (pair : Keyed). pair.0) same) inside)))
+            (member_new first (latest_entries entries) (λ other inside. none_here other (search rules)))
           where
             none_here : (other : Entry) → ¬ Contains (latest_entries entries) (key, other)
             none_here other inside = none other ((later other).0 inside).among
@@ -215,12 +202,6 @@ latest_is (first ∷ entries) up key entry = (forth (latest_is entries up.1 key)
             let less = not_above first entries key best.0 up.0 best.1 entry same in
             let greater : entry_cmp best.0 entry ≡ Greater = entry_total.antisymm best.0 entry ∙ ap ordering_reverse less in
             absurd (is.greatest best.0 (cons-Contains first entries (key, best.0) best.1) greater)
-
-        by : (first ≡ (key, entry)) ⊎ Contains entries (key, entry) → Contains (with_earlier first (latest_entries entries)) (key, entry)
-        by (inl same) = alone same (greatest_in entries key)
-        by (inr inside) =
-            member_still first (latest_entries entries) (key, entry)
-            ((later entry).1 (record { among = inside; greatest = λ other among. is.greatest other (cons-Contains first entries (key, other) among) }))
 
 -- ---- `summary_of` computes the summary of the file
 
@@ -235,9 +216,7 @@ module _ (file : List (List ℕ)) where
       among = single-Contains (ledger_item_of file) (ledger_item_of file) refl;
       is_full = eqb-true (ledger_item_of file).indicator 70 h;
       stamped = refl;
-      greatest = λ other among full.
-          subst (λ (item : LedgerItem). IsAtMost file_stamp_cmp item.stamp (file_stamp_of file)) (Contains-single (ledger_item_of file) other among)
-          (at_most_itself file_stamp_total (file_stamp_of file));
+      greatest = search (rules, at_most_itself, file_stamp_total);
     },
     at_most_itself file_stamp_total (file_stamp_of file),
   )
@@ -262,10 +241,7 @@ module _ (file : List (List ℕ)) where
     floor = at.0;
     is_floor = at.1;
     ledger_ascends = (tt, tt);
-    ledger = λ item. (
-      λ among. (among, subst (λ (i : LedgerItem). IsKept at.0 i.stamp) (Contains-single (ledger_item_of file) _ among) at.2),
-      λ told. told.0,
-    );
+    ledger = search rules;
     entries_ascend = latest_ascend (entries_of file);
     of_keys = λ key entry. (
       λ among.
@@ -295,10 +271,7 @@ join_of_nothing state valid = record {
   floor = valid.ledger.floor;
   is_floor = valid.ledger.is_floor;
   ledger_ascends = valid.ledger.ascending;
-  ledger = λ item. (
-    λ among. (among, member_of (λ (i : LedgerItem). IsKept valid.ledger.floor i.stamp) state.ledger item valid.ledger.kept among),
-    λ told. told.0,
-  );
+  ledger = search (rules, member_of, kept);
   entries_ascend = valid.entries.1;
   entries = λ key entry. (
     λ among. (
@@ -317,13 +290,10 @@ join_of_nothing state valid = record {
 }
   where
     stays_there : (key : Key) (entry : Entry) → Contains state.entries (key, entry) → lapse_entry state.horizon entry ≡ entry
-    stays_there key entry among =
-        entry_stays state.horizon entry
-        (member_of (λ (pair : Keyed). HasNotToLapse state.horizon pair.1.op) state.entries (key, entry) valid.have_lapsed among)
+    stays_there key entry among = search (rules, entry_stays, member_of)
 
     kept_there : (key : Key) (entry : Entry) → Contains state.entries (key, entry) → IsKept valid.ledger.floor entry.stamp.file
     kept_there key entry among =
         let good = member_of (IsGoodEntry state.ledger) state.entries (key, entry) valid.entries.0 among in
         let item = Contains-map (λ (i : LedgerItem). i.stamp) state.ledger entry.stamp.file good.stamp.in_ledger in
-        subst (IsKept valid.ledger.floor) item.2
-        (member_of (λ (i : LedgerItem). IsKept valid.ledger.floor i.stamp) state.ledger item.0 valid.ledger.kept item.1)
+        search (rules, member_of, kept)

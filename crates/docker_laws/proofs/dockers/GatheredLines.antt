@@ -1,6 +1,6 @@
 -- The lines that a walk over rows gathers are the lines of the docker, and no two of these lines
 -- tie. After sorting, the lines are the docker list.
-use Rattle.std.proofs.Common.{◌≡◌, ℕ, ◌<◌, lit<, List, [], ◌∷◌, refl, ap, sym, ◌∙◌, subst, inl, rules}
+use Rattle.std.proofs.Common.{◌≡◌, ℕ, List, [], ◌∷◌, refl, sym, subst, inl, rules}
 use Rattle.std.proofs.Common.{inr, ◌⊎◌, Some, Bool, true, false, cond, Contains}
 use Rattle.std.specs.Prelude.{Option}
 use Rattle.std.specs.List.{flat_map}
@@ -51,26 +51,16 @@ same_source : (live : Table) (place : List ℕ) (day : ℕ) (first second : Key)
     → IsLineFrom live place day second other b
     → docker_line_cmp a b ≡ Equal → (first ≡ second) × (start ≡ other)
 same_source live place day first second start other a b (inl (x, x_is, one)) (inl (y, y_is, two)) e =
-    let same = same_event_line live place day a b one.made two.made e in (
-      sym x_is ∙ ap schedule_key (sym one.of_key ∙ same.keys ∙ two.of_key) ∙ y_is,
-      sym one.of_start ∙ same.starts ∙ two.of_start,
-    )
+    let same = same_event_line live place day a b one.made two.made e in search rules
 same_source live place day first second start other a b (inr (x, x_is, one)) (inr (y, y_is, two)) e =
-    let same = same_association_line live place day a b one.made two.made e in (
-      sym x_is ∙ ap association_key (sym one.of_key ∙ same.keys ∙ two.of_key) ∙ y_is,
-      sym one.of_start ∙ same.starts ∙ two.of_start,
-    )
+    let same = same_association_line live place day a b one.made two.made e in search rules
 same_source live place day first second start other a b (inl (x, x_is, one)) (inr (y, y_is, two)) e =
     absurd (event_apart live place day a b one.made two.made (tied_lines_agree a b e).occasions)
 same_source live place day first second start other a b (inr (x, x_is, one)) (inl (y, y_is, two)) e =
     absurd (event_apart live place day b a two.made one.made (sym (tied_lines_agree a b e).occasions))
 
--- the list 0, 1, 2 is strictly increasing
-counted_up : AllLater (λ (a b : ℕ). a < b) (0 ∷ 1 ∷ 2 ∷ [])
-counted_up = ((lit< tt, (lit< tt, tt)), ((lit< tt, tt), (tt, tt)))
-
 days_differ : (day : ℕ) → AllLater (λ a b. ¬ (a ≡ b)) (start_days day)
-days_differ = search (rules, later_map, later_weaker, leb-true, filter_back, later_filter, counted_up)
+days_differ = search (rules, later_map, later_weaker, leb-true, filter_back, later_filter)
 
 module _ (live : Table) (trains : List ℕ → ℕ → Option Train) (links : Group → ℕ → Option Link) (tell : TellsTrains live trains)
     (tell_links : TellsLinks live links) (place : List ℕ) (day : ℕ) where

@@ -73,10 +73,6 @@ linked_has live place rows group are here = record {
         line,
         refl,
         refl,
-        record {
-          is_live = is;
-          here = ap (λ (g : Group). g.location) same
-              ∙ here;
-        },
+        search rules,
       );
 }

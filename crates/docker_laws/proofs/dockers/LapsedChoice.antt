@@ -4,10 +4,8 @@
 use Rattle.std.proofs.Common.{ℕ, ◌≤◌, List, rules}
 use Rattle.std.specs.Prelude.{◌↔◌, IsTrue}
 use Rattle.std.proofs.lemmas.Bool.{leb-true}
-use Rattle.docker_model.specs.records.Record.{columns}
 use Rattle.docker_model.specs.records.Date.{end_number, no_end_number}
-use Rattle.docker_model.specs.file.File.{first_record}
-use Rattle.docker_model.specs.file.Change.{association_key, schedule_key, AssociationKey, ScheduleKey, association_body, schedule_body}
+use Rattle.docker_model.specs.file.Change.{AssociationKey, ScheduleKey}
 use Rattle.docker_model.specs.state.Op.{readable_end}
 use Rattle.docker_model.specs.state.Table.{Table}
 use Rattle.docker_model.specs.state.Lapse.{lapse_table}
@@ -29,13 +27,7 @@ module _ (horizon : ℕ) (bound : horizon ≤ no_end_number) (live : Table) wher
     -- ---- lapsing leaves the chosen schedules unchanged
     running_forth : (uid : List ℕ) (key : ScheduleKey) (lines : List (List ℕ)) → IsRunning live uid day key lines
         → IsRunning (lapse_table horizon live) uid day key lines
-    running_forth uid key lines is = record {
-      uid_is = is.uid_is;
-      is_live = live_stays horizon live (schedule_key key) (schedule_body lines) is.is_live
-          (end_reached horizon day (columns 16 21 (first_record lines)) bound from
-          (within_end (columns 10 15 (first_record lines)) (columns 16 21 (first_record lines)) (columns 22 28 (first_record lines)) day is.runs_then));
-      runs_then = is.runs_then;
-    }
+    running_forth uid key lines is = search (rules, live_stays, end_reached, within_end)
 
     running_back : (uid : List ℕ) (key : ScheduleKey) (lines : List (List ℕ)) → IsRunning (lapse_table horizon live) uid day key lines
         → IsRunning live uid day key lines
@@ -68,13 +60,7 @@ module _ (horizon : ℕ) (bound : horizon ≤ no_end_number) (live : Table) wher
     -- ---- lapsing leaves the chosen associations unchanged
     associated_forth : (group : Group) (key : AssociationKey) (line : List ℕ) → IsAssociated live group day key line
         → IsAssociated (lapse_table horizon live) group day key line
-    associated_forth group key line is = record {
-      group_is = is.group_is;
-      is_live = live_stays horizon live (association_key key) (association_body line) is.is_live
-          (end_reached horizon day (columns 22 27 line) bound from (within_end (columns 16 21 line) (columns 22 27 line)
-          (columns 28 34 line) day is.runs_then));
-      runs_then = is.runs_then;
-    }
+    associated_forth group key line is = search (rules, live_stays, end_reached, within_end)
 
     associated_back : (group : Group) (key : AssociationKey) (line : List ℕ) → IsAssociated (lapse_table horizon live) group day key line
         → IsAssociated live group day key line

@@ -48,17 +48,7 @@ pub record CarriesOver (one other : Table) (day : ℕ) : Type 0 where
 -- each event line in the docker of `one` is also in the docker of `other`
 unfoldable pub event_line_over : (one other : Table) (place : List ℕ) (day : ℕ) → CarriesOver one other day → (line : DockerLine)
     → IsEventLine one place day line → IsEventLine other place day line
-event_line_over one other place day carries line is = record {
-  start = is.start;
-  key = is.key;
-  schedule = is.schedule;
-  train_runs = carries.trains is.key.uid is.start is.key is.schedule is.train_runs is.event is.today;
-  event = is.event;
-  among = is.among;
-  here = is.here;
-  today = is.today;
-  is = is.is;
-}
+event_line_over one other place day carries line is = search (rules, is.start, is.key, is.schedule, carries.trains, is.key.uid, is.train_runs)
 
 -- each association line in the docker of `one` is also in the docker of `other`
 unfoldable pub association_line_over : (one other : Table) (place : List ℕ) (day : ℕ) → CarriesOver one other day → (line : DockerLine)

@@ -1,6 +1,6 @@
 -- The rows of a live table determine its chosen associations.
-use Rattle.std.proofs.Common.{◌≡◌, ℕ, List, refl, ap, sym, ◌∙◌, Some, None, true, Contains, eqb-true, rules}
-use Rattle.std.specs.Prelude.{Option, ◌&&◌, ◌==◌}
+use Rattle.std.proofs.Common.{◌≡◌, ℕ, List, refl, ap, sym, ◌∙◌, Some, None, true, Contains, rules}
+use Rattle.std.specs.Prelude.{Option, ◌&&◌}
 use Rattle.std.specs.Ordering.{on}
 use Rattle.std.specs.Cmp.{IsTotalOrder, on_total}
 use Rattle.std.proofs.lemmas.Slice.Eq.{bytes_eq-Decides}
@@ -21,15 +21,8 @@ by_key = on_total (λ (link : Link). link.key) association_choice_total
 row_is : (key : Key) (body : Body) (link : Link) → association_of key body ≡ Some link → (key ≡ association_key link.key) × (body ≡ association_body link.line)
 row_is = search (rules, none_some)
 
--- a key that passes the test `is_of_group` belongs to the group
-group_forth : (group : Group) (key : AssociationKey) → is_of_group group key ≡ true → group_of key ≡ group
-group_forth = search (rules, both, bytes_eq-Decides, eqb-true)
-
-same_number : (n : ℕ) → (n == n) ≡ true
-same_number n = search rules
-
 group_back : (group : Group) (key : AssociationKey) → group_of key ≡ group → is_of_group group key ≡ true
-group_back = search (rules, bytes_eq-Decides, same_number)
+group_back = search (rules, bytes_eq-Decides)
 
 module _ (live : Table) (rows : List Row) (group : Group) (has : HasAssociationsOf live group rows) where
   association_live : (link : Link) → Contains (associations_in rows) link → live (association_key link.key) ≡ Some (association_body link.line)
@@ -44,7 +37,7 @@ module _ (live : Table) (rows : List Row) (group : Group) (has : HasAssociations
     Runs link = IsAssociated live group day link.key link.line
 
     associated : (link : Link) → Contains (associations_in rows) link → is_linked group day link ≡ true → Runs link
-    associated = search (rules, both, group_forth, association_live)
+    associated = search (rules, both, association_live)
 
     among_linked : (link : Link) → Runs link → Contains (associations_in rows) link
     among_linked link is = part_forth _ _ _ _ (has.all link.key link.line is.group_is is.is_live) refl

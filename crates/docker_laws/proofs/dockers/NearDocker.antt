@@ -6,7 +6,7 @@ use Rattle.std.specs.Prelude.{Option, ◌↔◌, IsTrue}
 use Rattle.std.proofs.lemmas.List.Elements.{Contains-append_right}
 use Rattle.docker_model.specs.file.Journey.{midnights}
 use Rattle.docker_model.specs.file.File.{first_record}
-use Rattle.docker_model.specs.file.Change.{Key, tiploc_key, schedule_key, association_key, ScheduleKey, AssociationKey, Body, schedule_body, association_body}
+use Rattle.docker_model.specs.file.Change.{Key, tiploc_key, schedule_key, ScheduleKey, AssociationKey, Body, schedule_body, association_body}
 use Rattle.docker_model.specs.state.Table.{Table}
 use Rattle.docker_model.specs.docker.Event.{Event, event_day}
 use Rattle.docker_model.specs.docker.Choice.{schedule_runs, IsRunning, TrainRuns, Group, group_of, IsAssociated, IsChosenAssociation}
@@ -50,10 +50,6 @@ near_start day start near = by ((day + 1) - start) refl near.0 near.1
 pub runs_near_by : (day start : ℕ) (line : List ℕ) → IsStartNear day start → IsTrue (schedule_runs line start) → runs_near day line ≡ true
 runs_near_by day start line near runs = any_forth (λ (s : ℕ). schedule_runs line s) (near_starts day) start (near_start day start near) runs
 
--- the associated train starts at most one day after the base train
-partner_before : (indicator start day : ℕ) → partner_start indicator start ≡ Some day → day ≤ start + 1
-partner_before = search rules
-
 -- a train with an event on the day starts on that day or on one of the two days before it
 pub started : (day start : ℕ) (lines : List (List ℕ)) (event : Event) → midnights lines ≤ 2 → event_day start lines event ≡ day
     → (start ≤ day) × (day ≤ start + 2)
@@ -63,7 +59,7 @@ started day start lines event few today =
 -- if a train has an event on the day, its associated train starts near the day
 pub partner_near : (day start : ℕ) → (start ≤ day) × (day ≤ start + 2) → (indicator partner : ℕ) → partner_start indicator start ≡ Some partner
     → IsStartNear day partner
-partner_near = search (rules, partner_before, partner_after)
+partner_near = search (rules, partner_after)
 
 -- ---- two tables with the same associations, and with the same schedules near a day, have the same
 -- dockers
@@ -179,15 +175,9 @@ module _ (day : ℕ) (live part : Table) (is : IsNearPart day live part) where
       is_live = schedule_stays (schedule_key key) lines runs.is_live (runs_near_by day start (first_record lines) near runs.runs_then);
       runs_then = runs.runs_then;
     };
-    runs_back = λ start near uid key lines runs.
-        record { uid_is = runs.uid_is; is_live = was_there (schedule_key key) (schedule_body lines) runs.is_live; runs_then = runs.runs_then };
-    links = λ group start key line linked. record {
-      group_is = linked.group_is;
-      is_live = association_stays (association_key key) line linked.is_live;
-      runs_then = linked.runs_then;
-    };
-    links_back = λ group start key line linked.
-        record { group_is = linked.group_is; is_live = was_there (association_key key) (association_body line) linked.is_live; runs_then = linked.runs_then };
+    runs_back = search (rules, was_there);
+    links = search (rules, association_stays);
+    links_back = search (rules, was_there);
   }
 
   module _ (few : HasFewMidnights live) where

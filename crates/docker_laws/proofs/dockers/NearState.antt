@@ -1,6 +1,6 @@
 -- If a valid state keeps only the entries that may count on a day, it is still valid, and its
 -- dockers of that day are unchanged.
-use Rattle.std.proofs.Common.{◌≡◌, ℕ, List, inl, inr, ◌⊎◌, refl, ap, sym, ◌∙◌, Bool, true, false, None, Contains}
+use Rattle.std.proofs.Common.{◌≡◌, ℕ, List, inl, inr, ◌⊎◌, refl, ap, sym, ◌∙◌, true, false, None}
 use Rattle.std.proofs.Common.{rules}
 use Rattle.std.specs.Prelude.{◌↔◌}
 use Rattle.docker_model.specs.file.File.{first_record}
@@ -35,12 +35,6 @@ near_part day state up key = by (find_in (near_entries day state.entries) key) (
         → IsLeftOut day (live_table state) key
     left_out pair has may = (may.0, has ∙ ap body_of may.1, may.2)
 
-    missing : (pair : Keyed) → Contains state.entries (key, pair.1) → live_table state key ≡ body_of pair.1.op
-        → ((entry : Entry) → ¬ Contains (near_entries day state.entries) (key, entry)) → (b : Bool) → may_count day pair.1.op ≡ b
-        → IsLeftOut day (live_table state) key
-    missing pair among has never true h = absurd (never pair.1 (filter_forth (λ (entry : Keyed). may_count day entry.1.op) state.entries (key, pair.1) among h))
-    missing pair among has never false h = left_out pair has (may_not day pair.1.op h)
-
     by : Found (near_entries day state.entries) key ⊎ NotFound (near_entries day state.entries) key → Found state.entries key ⊎ NotFound state.entries key
         → (live_table (near_state day state) key ≡ live_table state key)
         ⊎ ((live_table (near_state day state) key ≡ None) × IsLeftOut day (live_table state) key)
@@ -54,7 +48,10 @@ near_part day state up key = by (find_in (near_entries day state.entries) key) (
     by (inr never) (inl all) =
         inr (
           live_none (near_state day state) key never.0,
-          missing all.0 all.2 (live_at state key all.0 all.1) never.1 (may_count day all.0.1.op) refl,
+          (elim (may_count day all.0.1.op) as (λ b. may_count day all.0.1.op ≡ b → IsLeftOut day (live_table state) key) [
+            | true ↦ λ h. absurd (never.1 all.0.1 (filter_forth (λ (entry : Keyed). may_count day entry.1.op) state.entries (key, all.0.1) all.2 h))
+            | false ↦ λ h. left_out all.0 (live_at state key all.0 all.1) (may_not day all.0.1.op h)
+          ]) refl,
         )
 
 -- if a valid state keeps only the entries that may count on a day, it is still valid
@@ -65,14 +62,12 @@ near_valid = search (rules, some_valid, sublist_filter)
 -- unchanged
 pub near_state_list : (place : List ℕ) (day : ℕ) (state : State) (lines : List DockerLine) → IsValid state
     → IsDockerList (live_table state) place day lines ↔ IsDockerList (live_table (near_state day state)) place day lines
-near_state_list place day state lines valid = near_list_iff day _ (live_table (near_state day state)) (near_part _ state valid.entries.1)
-    (bodies_few _ (good_bodies state valid)) place lines
+near_state_list place day state lines valid = search (rules, near_list_iff, near_part, bodies_few, good_bodies)
 
 -- if a valid state loses the entries that can't count on a day, its docker texts for that day are
 -- unchanged
 pub near_state_text : (place : List ℕ) (day : ℕ) (state : State) (text : List ℕ) → IsValid state
     → IsDockerText (live_table state) place day text ↔ IsDockerText (live_table (near_state day state)) place day text
-near_state_text place day state text valid = near_text_iff day _ (live_table (near_state day state)) (near_part _ state valid.entries.1)
-    (bodies_few _ (good_bodies state valid)) _ text
+near_state_text place day state text valid = search (rules, near_text_iff, near_part, bodies_few, good_bodies)
 
 -- ---- `near_entries` keeps or drops each entry regardless of the other entries

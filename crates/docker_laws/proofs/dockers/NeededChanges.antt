@@ -35,7 +35,10 @@ put_by = search rules
 put_or_before : (all : List Change) (table : Table) (key : Key) (body : Body) → fold after_change table all key ≡ Some body
     → ((change : Change) × Contains all change × (change.key ≡ key) × (change.act ≡ put body)) ⊎ (table key ≡ Some body)
 put_or_before [] table key body there = inr there
-put_or_before (change ∷ all) table key body there = by (put_or_before all (after_change table change) key body there)
+put_or_before (change ∷ all) table key body there = elim (put_or_before all (after_change table change) key body there) [
+  | inl found ↦ inl (found.0, cons-Contains change all found.0 found.1, found.2, found.3)
+  | inr before ↦ first (is_of key change) refl before
+]
   where
     Put : List Change → Type 0
     Put list = (one : Change) × Contains list one × (one.key ≡ key) × (one.act ≡ put body)
@@ -49,10 +52,6 @@ put_or_before (change ∷ all) table key body there = by (put_or_before all (aft
           put_by change.act body (sym (λ i. cond (h i) (left_by change.act) (table key)) ∙ left),
         )
     first false h left = inr (sym (after_there table change key h) ∙ left)
-
-    by : Put all ⊎ (after_change table change key ≡ Some body) → Put (change ∷ all) ⊎ (table key ≡ Some body)
-    by (inl found) = inl (found.0, cons-Contains change all found.0 found.1, found.2, found.3)
-    by (inr before) = first (is_of key change) refl before
 
 -- if the table after some changes has a body at a key, one of these changes put it
 pub was_put : (all : List Change) (key : Key) (body : Body) → table_of all key ≡ Some body
@@ -76,9 +75,7 @@ module _ (uids : List (List ℕ)) where
           → ((first second : Table) → first key ≡ second key → fold after_change first (wanted_changes uids all) key ≡ fold after_change second all key)
           → fold after_change one (cond (is_wanted uids change.key) (change ∷ wanted_changes uids all) (wanted_changes uids all)) key
           ≡ fold after_change (after_change two change) all key
-      by true h rest =
-          (λ i. fold after_change one (cond (h i) (change ∷ wanted_changes uids all) (wanted_changes uids all)) key)
-          ∙ rest (after_change one change) (after_change two change) (λ i. cond (is_of key change) (left_by change.act) (same i))
+      by true h rest = search (rules, is_of, left_by)
       by false h rest =
           (λ i. fold after_change one (cond (h i) (change ∷ wanted_changes uids all) (wanted_changes uids all)) key)
           ∙ rest one (after_change two change) (same ∙ sym (after_there two change key (apart h (is_of key change) refl)))

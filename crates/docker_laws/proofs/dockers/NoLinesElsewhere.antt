@@ -1,9 +1,8 @@
 -- A schedule that doesn't call at a place has no docker line at the place.
-use Rattle.std.proofs.Common.{◌≡◌, ℕ, List, [], sym, ◌∙◌, Bool, true, false, cond, Contains}
+use Rattle.std.proofs.Common.{◌≡◌, ℕ, List, [], sym, ◌∙◌, true, false, cond, Contains}
 use Rattle.std.specs.Prelude.{Option}
 use Rattle.docker_model.specs.file.Journey.{calls_at}
 use Rattle.docker_model.specs.file.Change.{ScheduleKey}
-use Rattle.docker_model.specs.docker.DockerLine.{DockerLine}
 use Rattle.docker_model.specs.docker.Choice.{Train}
 use Rattle.docker_laws.specs.Gathering.{start_days, runs_by, event_lines, schedule_lines}
 use Rattle.cif_laws.proofs.lists.Membership.{nil-Contains, Contains-flat_map}
@@ -16,13 +15,11 @@ pub no_lines_elsewhere : (trains : List ℕ → ℕ → Option Train) (place : L
     → calls_at place lines ≡ false → schedule_lines trains place day key lines ≡ []
 no_lines_elsewhere trains place day key lines elsewhere = no_member (schedule_lines trains place day key lines) (λ line among.
     let found = Contains-flat_map (λ start. cond (runs_by (trains key.uid start) key) (event_lines place day start key lines) []) (start_days day) line among in
-    at found.0 line (runs_by (trains key.uid found.0) key) found.2)
+    (elim (runs_by (trains key.uid found.0) key) as (λ b. Contains (cond b (event_lines place day found.0 key lines) []) line → ⊥) [
+      | false ↦ λ inside. nil-Contains line inside
+      | true ↦ λ inside. let made = event_lines_back place day found.0 key lines line inside in
+          true_false (sym ((calls_test place lines).1 (event_calls lines made.event place made.among made.here)) ∙ elsewhere)
+    ]) found.2)
   where
     true_false : true ≡ false → ⊥
     true_false h = cc
-
-    at : (start : ℕ) (line : DockerLine) (b : Bool) → Contains (cond b (event_lines place day start key lines) []) line → ⊥
-    at start line false inside = nil-Contains line inside
-    at start line true inside =
-        let made = event_lines_back place day start key lines line inside in
-        true_false (sym ((calls_test place lines).1 (event_calls lines made.event place made.among made.here)) ∙ elsewhere)

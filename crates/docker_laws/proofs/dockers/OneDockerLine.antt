@@ -13,7 +13,7 @@ use Rattle.docker_model.specs.file.Change.{ScheduleKey}
 use Rattle.docker_model.specs.state.Table.{Table}
 use Rattle.docker_model.specs.docker.Event.{Event, events_of, event_line, first_event_at}
 use Rattle.docker_model.specs.docker.Choice.{TrainRuns, IsChosenAssociation, group_of}
-use Rattle.docker_model.specs.docker.DockerLine.{DockerLine, docker_line_cmp, occasion_rank, associated_uid, line_of_event, line_of_association}
+use Rattle.docker_model.specs.docker.DockerLine.{DockerLine, docker_line_cmp, occasion_rank, associated_uid}
 use Rattle.docker_model.specs.docker.Association.{category_occasion, partner_start, IsIdentityOn, IsPartnerIdentity, IsAssociationLine}
 use Rattle.docker_model.specs.docker.DockerList.{IsEventLine}
 use Rattle.docker_laws.specs.Gathering.{IsDockerLine}
@@ -53,14 +53,12 @@ same_event_line live place day a b one two e =
     let common = tied_lines_agree a b e in
     let uids : one.key.uid ≡ two.key.uid = sym (ap (λ (l : DockerLine). l.uid) one.is) ∙ common.uids ∙ ap (λ (l : DockerLine). l.uid) two.is in
     let starts : one.start ≡ two.start = sym (ap (λ (l : DockerLine). l.start) one.is) ∙ common.starts ∙ ap (λ (l : DockerLine). l.start) two.is in
-    let numbers : one.event.number ≡ two.event.number = sym (ap (λ (l : DockerLine). l.number) one.is) ∙ common.numbers
-    ∙ ap (λ (l : DockerLine). l.number) two.is in
+    let numbers : one.event.number ≡ two.event.number = search rules in
     by uids starts numbers (moved uids starts two.key two.schedule two.train_runs)
   where
     moved : one.key.uid ≡ two.key.uid → one.start ≡ two.start → (key : ScheduleKey) (lines : List (List ℕ)) → TrainRuns live two.key.uid two.start key lines
         → TrainRuns live one.key.uid one.start key lines
-    moved uids starts key lines runs =
-        subst (λ d. TrainRuns live one.key.uid d key lines) (sym starts) (subst (λ u. TrainRuns live u two.start key lines) (sym uids) runs)
+    moved uids starts key lines runs = search rules
 
     by : one.key.uid ≡ two.key.uid → one.start ≡ two.start → one.event.number ≡ two.event.number → TrainRuns live one.key.uid one.start two.key two.schedule
         → AreOneEvent live place day a b one two
@@ -68,13 +66,7 @@ same_event_line live place day a b one two e =
         let same = one_train live one.key.uid one.start one.key two.key one.schedule two.schedule one.train_runs runs in
         let in_one : Contains (events_of one.schedule) two.event = subst (λ ls. Contains (events_of ls) two.event) (sym same.1) two.among in
         let events = one_event one.schedule one.event two.event one.among in_one numbers in
-        record {
-          keys = same.0;
-          starts = starts;
-          schedules = same.1;
-          events = events;
-          lines = one.is ∙ (λ i. line_of_event (same.0 i) (starts i) (same.1 i) (events i)) ∙ sym two.is;
-        }
+        search rules
 
 -- ---- a line of an event and a line of an association never tie
 
@@ -138,8 +130,7 @@ same_association_line live place day a b one two e =
     let uids : one.base_key.uid ≡ two.base_key.uid = sym (ap (λ (l : DockerLine). l.uid) one.is) ∙ common.uids ∙ ap (λ (l : DockerLine). l.uid) two.is in
     let bases : one.key.base ≡ two.key.base = sym one.base_runs.chosen.running.uid_is ∙ uids ∙ two.base_runs.chosen.running.uid_is in
     let starts : one.start ≡ two.start = sym (ap (λ (l : DockerLine). l.start) one.is) ∙ common.starts ∙ ap (λ (l : DockerLine). l.start) two.is in
-    let numbers : one.event.number ≡ two.event.number = sym (ap (λ (l : DockerLine). l.number) one.is) ∙ common.numbers
-    ∙ ap (λ (l : DockerLine). l.number) two.is in
+    let numbers : one.event.number ≡ two.event.number = search rules in
     let associated : one.key.associated ≡ two.key.associated =
     sym (ap (λ (l : DockerLine). associated_uid l.detail) one.is) ∙ common.associated ∙ ap (λ (l : DockerLine). associated_uid l.detail) two.is in
     by bases starts numbers associated
@@ -147,9 +138,7 @@ same_association_line live place day a b one two e =
     by : one.key.base ≡ two.key.base → one.start ≡ two.start → one.event.number ≡ two.event.number → one.key.associated ≡ two.key.associated
         → AreOneAssociation live place day a b one two
     by bases starts numbers associated =
-        let runs : TrainRuns live one.key.base one.start two.base_key two.base =
-        subst (λ d. TrainRuns live one.key.base d two.base_key two.base) (sym starts) (subst (λ u. TrainRuns live u two.start two.base_key two.base)
-        (sym bases) two.base_runs) in
+        let runs : TrainRuns live one.key.base one.start two.base_key two.base = search rules in
         let trains = one_train live one.key.base one.start one.base_key two.base_key one.base two.base one.base_runs runs in
         let first = first_event_is one.base one.key.location one.key.suffix one.event one.first_there in
         let second = first_event_is two.base two.key.location two.key.suffix two.event two.first_there in
@@ -159,28 +148,14 @@ same_association_line live place day a b one two e =
         let locations : one.key.location ≡ two.key.location = one.here ∙ sym two.here in
         let groups : group_of one.key ≡ group_of two.key =
         (λ i. record { base = bases i; associated = associated i; location = locations i; suffix = suffixes i }) in
-        let chosen : IsChosenAssociation live (group_of one.key) one.start two.key two.association =
-        subst (λ d. IsChosenAssociation live (group_of one.key) d two.key two.association) (sym starts)
-        (subst (λ g. IsChosenAssociation live g two.start two.key two.association) (sym groups) two.chosen) in
+        let chosen : IsChosenAssociation live (group_of one.key) one.start two.key two.association = search rules in
         let links = one_link live (group_of one.key) one.start one.key two.key one.association two.association one.chosen chosen in
         let occasion : Some one.occasion ≡ Some two.occasion = sym one.category ∙ ap (λ l. category_occasion (columns 35 36 l)) links.1 ∙ two.category in
         let occasions : one.occasion ≡ two.occasion = cc in
-        let partner : IsPartnerIdentity live one.key.associated (partner_start (column 37 one.association) one.start) two.identity =
-        subst (λ (v : List ℕ × Option ℕ). IsPartnerIdentity live v.0 v.1 two.identity)
-        (λ i. (sym associated i, partner_start (column 37 (sym links.1 i)) (sym starts i))) two.partner in
+        let partner : IsPartnerIdentity live one.key.associated (partner_start (column 37 one.association) one.start) two.identity = search rules in
         let identities = one_identity live one.key.associated
         (partner_start (column 37 one.association) one.start) one.identity two.identity one.partner partner in
-        record {
-          keys = links.0;
-          starts = starts;
-          bases = trains.1;
-          events = events;
-          associations = links.1;
-          lines = one.is
-              ∙ (λ i. line_of_association (occasions i) (links.0 i).indicator (trains.0 i) (starts i) (trains.1 i) (events i) (links.0 i).associated
-              (identities i))
-              ∙ sym two.is;
-        }
+        search rules
 
 -- ---- any two lines that tie are equal
 

@@ -75,9 +75,7 @@ lapsed_iff horizon live place day text is_day good printed =
     by : (b c : Bool) → nat_lt 0 horizon ≡ b → nat_lt day (horizon + 3) ≡ c
         → IsDockerText (permanent_table live) place day text ↔ IsDockerText (lapse_table horizon (permanent_table live)) place day text
     by true true above before = absurd (printed (ltb-true 0 horizon above, ltb-true day (horizon + 3) before))
-    by true false above after =
-        docker_text_iff horizon (day_bound horizon is_day) (permanent_table live)
-        (bodies_few (permanent_table live) (counted_bodies is_permanent live good)) place day (ltb-false day (horizon + 3) after) text
+    by true false above after = search (rules, docker_text_iff, day_bound, bodies_few, counted_bodies, ltb-false)
     by false c none either =
         let low = ltb-false 0 horizon none in
         let zero_is : horizon ≡ 0 = omega arith in

@@ -1,7 +1,7 @@
 -- If the files of a set have distinct moments, every docker printed from their summary is the
 -- docker of their plain table. The summary may have any horizon with which the program doesn't
 -- refuse the docker.
-use Rattle.std.proofs.Common.{◌≡◌, ℕ, ◌+◌, ◌≤◌, List, length, map, All, subst, inl, inr, ◌⊎◌, refl, ap, sym, ◌∙◌, Bool, true, false, Some, None, arith}
+use Rattle.std.proofs.Common.{◌≡◌, ℕ, ◌+◌, ◌≤◌, List, length, map, All, subst, inl, inr, refl, ap, sym, ◌∙◌, Bool, true, false, Some, None, arith}
 use Rattle.std.proofs.Common.{rules}
 use Rattle.std.specs.Prelude.{Option, ◌↔◌, nat_lt, fold}
 use Rattle.std.proofs.lemmas.Bool.{ltb-true, ltb-false}
@@ -18,7 +18,7 @@ use Rattle.docker_model.specs.docker.DockerLine.{DockerLine}
 use Rattle.docker_model.specs.docker.DockerList.{IsDockerList}
 use Rattle.docker_model.specs.docker.DockerText.{IsDockerText}
 use Rattle.cif_laws.proofs.files.FileChanges.{body_of_file}
-use Rattle.state_laws.proofs.states.PlainTable.{entries_along, step, NoneThere, LastThere, last_there}
+use Rattle.state_laws.proofs.states.PlainTable.{entries_along, step, last_there}
 use Rattle.state_laws.proofs.states.PlainTable.{after_files_is, entries_ascend, suffix_ascends, out_entries}
 use Rattle.state_laws.proofs.states.TableLapsed.{live_lapsed}
 use Rattle.docker_laws.proofs.dockers.FewMidnights.{bodies_few}
@@ -64,17 +64,15 @@ module _ (files : List (List (List ℕ))) (each : All IsFile files) (few : All (
   -- well formed
   pub plain_bodies : HasGoodBodies table
   plain_bodies key body is =
-      by (last_there (entries_along (from_last_full plain.ordered)) empty_table key
-      (entries_ascend (from_last_full plain.ordered) (suffix_ascends plain.ordered plain.order.ascending)))
+      elim (last_there (entries_along (from_last_full plain.ordered)) empty_table key
+      (entries_ascend (from_last_full plain.ordered) (suffix_ascends plain.ordered plain.order.ascending))) [
+        | inl none ↦ let bad : None ≡ Some body = sym none.1 ∙ sym table_is ∙ is in cc
+        | inr last ↦ body_made_good key last.0 body (out_entries files plain.ordered plain.order floor is_floor key last.0 last.1)
+            (sym last.2 ∙ sym table_is ∙ is)
+      ]
     where
       table_is : table key ≡ fold step empty_table (entries_along (from_last_full plain.ordered)) key
       table_is = plain.is key ∙ (λ i. after_files_is empty_table (from_last_full plain.ordered) i key)
-
-      by : NoneThere (entries_along (from_last_full plain.ordered)) empty_table key ⊎ LastThere (entries_along (from_last_full plain.ordered)) empty_table key
-          → IsBodyOf key body
-      by (inl none) = let bad : None ≡ Some body = sym none.1 ∙ sym table_is ∙ is in cc
-      by (inr last) =
-          body_made_good key last.0 body (out_entries files plain.ordered plain.order floor is_floor key last.0 last.1) (sym last.2 ∙ sym table_is ∙ is)
 
 -- ---- a docker printed from a summary is the docker of the plain table
 

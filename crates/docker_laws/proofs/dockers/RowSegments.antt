@@ -13,12 +13,8 @@ use Rattle.docker_laws.specs.LiveRows.{HasSchedulesOf, HasAssociationsOf, HasNoS
 between : (front rows back : List Row) (row : Row) → ¬ Contains front row → ¬ Contains back row → Contains ((front ++ rows) ++ back) row → Contains rows row
 between front rows back row not_front not_back among = outer (Contains-append_cases (front ++ rows) back row among)
   where
-    inner : Contains front row ⊎ Contains rows row → Contains rows row
-    inner (inl here) = absurd (not_front here)
-    inner (inr here) = here
-
     outer : Contains (front ++ rows) row ⊎ Contains back row → Contains rows row
-    outer (inl here) = inner (Contains-append_cases front rows row here)
+    outer (inl here) = elim (Contains-append_cases front rows row here) [ inl here ↦ absurd (not_front here) | inr here ↦ here ]
     outer (inr here) = absurd (not_back here)
 
 -- a segment has each schedule of a UID, if no row outside the segment is a schedule of the UID

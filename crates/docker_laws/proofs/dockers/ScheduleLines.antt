@@ -1,11 +1,10 @@
 -- Lemmas on the docker lines of a schedule for one start day. The event lines of a docker are
 -- exactly these lines, for all schedules and start days.
-use Rattle.std.proofs.Common.{◌≡◌, ℕ, true, rules, List, Contains, ap, sym, ◌∙◌, subst, Bool, eqb-true, arith, [], cond, refl, Some, None, false}
+use Rattle.std.proofs.Common.{◌≡◌, ℕ, true, rules, List, Contains, sym, subst, Bool, eqb-true, arith, [], cond, refl, Some, None, false}
 use Rattle.std.proofs.lemmas.Grind.{common_steps}
 use Rattle.std.specs.Prelude.{◌==◌, filter, ◌&&◌, Option}
 use Rattle.std.specs.Str.{bytes_eq}
 use Rattle.std.specs.Ordering.{is_eq}
-use Rattle.std.specs.Cmp.{tied_itself}
 use Rattle.std.proofs.lemmas.Slice.Eq.{bytes_eq-Decides}
 use Rattle.docker_model.specs.records.Record.{columns}
 use Rattle.docker_model.specs.file.Change.{ScheduleKey, schedule_key, schedule_body}
@@ -54,20 +53,13 @@ module _ (place : List ℕ) (day start : ℕ) (key : ScheduleKey) (lines : List 
       let found = Contains-map (line_of_event key start lines) (filter test (events_of lines)) line among in
       let passed = filter_back test (events_of lines) found.0 found.1 in
       let parts = both (bytes_eq (columns 3 9 (event_line lines found.0)) place) (event_day start lines found.0 == day) passed.1 in
-      record {
-        event = found.0;
-        among = passed.0;
-        here = (bytes_eq-Decides (columns 3 9 (event_line lines found.0)) place).0 parts.0;
-        today = eqb-true _ _ parts.1;
-        is = sym found.2;
-      }
+      search (rules, bytes_eq-Decides, eqb-true)
 
   -- `event_lines` computes the docker line of each event at the place on the day
   pub event_lines_forth : (line : DockerLine) → IsLineOfEvent place day start key lines line → Contains (event_lines place day start key lines) line
   unfolding test
   event_lines_forth line is =
-      let day_is : (event_day start lines is.event == day) ≡ true = ap (λ n. event_day start lines is.event == n) (sym is.today)
-      ∙ number_itself _ in
+      let day_is : (event_day start lines is.event == day) ≡ true = search (rules, number_itself) in
       let passes : test is.event ≡ true = (λ i. (bytes_eq-Decides (columns 3 9 (event_line lines is.event)) place).1 is.here i && day_is i) in
       subst (Contains (event_lines place day start key lines)) (sym is.is) (map-Contains _ _ _ (filter_forth _ _ _ is.among passes))
 
@@ -96,25 +88,13 @@ module _ (live : Table) (trains : List ℕ → ℕ → Option Train) (tell : Tel
       made runs inside =
           let told = event_lines_back _ day start key lines line inside in
           record {
-            made = record {
-              start = start;
-              key = key;
-              schedule = lines;
-              train_runs = runs;
-              event = told.event;
-              among = told.among;
-              here = told.here;
-              today = told.today;
-              is = told.is;
-            };
+            made = search rules;
             of_key = refl;
             of_start = refl;
           }
 
       runs_as : (train : Train) → train.key ≡ key → TrainRuns live key.uid start train.key train.lines → TrainRuns live key.uid start key lines
-      runs_as train same runs =
-          let lines_are = one_schedule live _ key _ lines same runs.chosen.running.is_live is_live in
-          subst (λ (v : Train). TrainRuns live key.uid start v.key v.lines) (λ i. record { key = same i; lines = lines_are i }) runs
+      runs_as train same runs = search (rules, one_schedule)
 
       by : (found : Option Train) → IsTrainOn live key.uid start found → Contains (cond (runs_by found key) (event_lines place day start key lines) []) line
           → IsOfSchedule live place day key start line
@@ -130,20 +110,16 @@ module _ (live : Table) (trains : List ℕ → ℕ → Option Train) (tell : Tel
   -- schedule and start day
   pub schedule_piece_forth : (line : DockerLine) (made : IsEventLine live place day line)
       → Contains (schedule_piece trains place day made.key made.schedule made.start) line
-  schedule_piece_forth line made = by (trains made.key.uid made.start) (tell made.key.uid made.start)
+  schedule_piece_forth line made = (elim (trains made.key.uid made.start) as (λ found. IsTrainOn live made.key.uid made.start found → Contains
+      (cond (runs_by found made.key) (event_lines place day made.start made.key made.schedule) []) line) [
+        | None ↦ λ none. absurd (none made.key made.schedule made.train_runs)
+        | Some train ↦ λ runs. let same = one_train _ _ _ _ _ _ _ runs made.train_runs in
+            let runs_is : is_eq (schedule_key_cmp train.key made.key) ≡ true = search (rules, schedule_key_total) in
+            subst (λ b. Contains (cond b (event_lines place day made.start made.key made.schedule) []) line) (sym runs_is) inside
+      ]) (tell made.key.uid made.start)
     where
       inside : Contains (event_lines place day made.start made.key made.schedule) line
-      inside = event_lines_forth _ day made.start made.key made.schedule line
-          (record { event = made.event; among = made.among; here = made.here; today = made.today; is = made.is })
-
-      by : (found : Option Train) → IsTrainOn live made.key.uid made.start found
-          → Contains (cond (runs_by found made.key) (event_lines place day made.start made.key made.schedule) []) line
-      by None none = absurd (none made.key made.schedule made.train_runs)
-      by (Some train) runs =
-          let same = one_train _ _ _ _ _ _ _ runs made.train_runs in
-          let runs_is : is_eq (schedule_key_cmp train.key made.key) ≡ true = (λ i. is_eq (schedule_key_cmp (same.0 i) made.key))
-          ∙ (λ i. is_eq (tied_itself schedule_key_total made.key i)) in
-          subst (λ b. Contains (cond b (event_lines place day made.start made.key made.schedule) []) line) (sym runs_is) inside
+      inside = search (rules, event_lines_forth)
 
   -- of the docker lines that a schedule has for one start day, no two tie in the order of docker
   -- lines

@@ -10,7 +10,7 @@ use Rattle.docker_model.specs.file.File.{first_record}
 use Rattle.docker_model.specs.file.Change.{Key, tiploc_key, schedule_key, association_key, ScheduleKey, AssociationKey}
 use Rattle.docker_model.specs.file.Change.{Body, tiploc_body, schedule_body, association_body}
 use Rattle.docker_model.specs.state.Lapse.{HasNotToLapse}
-use Rattle.docker_model.specs.state.Op.{Op, body_of, body_end, key_cmp}
+use Rattle.docker_model.specs.state.Op.{Op, body_end, key_cmp}
 use Rattle.docker_model.specs.state.State.{State, IsValid, IsGoodEntry, IsOpOf, IsBodyOf, IsScheduleOf, HasGoodBodies, AreAscending, live_table}
 use Rattle.docker_model.specs.docker.DockerLine.{DockerLine}
 use Rattle.docker_model.specs.docker.DockerList.{IsDockerList}
@@ -70,9 +70,6 @@ module _ (place : List ℕ) (day : ℕ) where
   end_stays : (body : Body) → body_end (excerpt_body place day body) ≡ body_end body
   end_stays = search (rules, first_stays)
 
-  stays_unlapsed : (horizon : ℕ) (op : Op) → HasNotToLapse horizon op → HasNotToLapse horizon (excerpt_op place day op)
-  stays_unlapsed = search (rules, end_stays)
-
   -- ---- the shortened state is valid
 
   abbrev short : Keyed → Keyed
@@ -81,26 +78,24 @@ module _ (place : List ℕ) (day : ℕ) where
   -- if the schedules of a valid state that call at the place keep only what the docker needs, the
   -- state is still valid
   pub shortened_valid : (state : State) → IsValid state → IsValid (shortened place day state)
-  shortened_valid state valid = record {
-    horizon = near.horizon;
-    ledger = near.ledger;
-    entries = (
-      all_members _ (map short entries) (λ entry among.
-          let found = Contains-map _ entries _ among in
-          subst (IsGoodEntry state.ledger) found.2 (good found.0 (member_of (IsGoodEntry state.ledger) _ found.0 near.entries.0 found.1))),
-      ascending near.entries.1,
-    );
-    have_lapsed = all_members _ (map short entries) (λ entry among.
-        let found = Contains-map _ entries _ among in
-        subst (λ (e : Keyed). HasNotToLapse state.horizon e.1.op) found.2 (stays_unlapsed state.horizon _
-        (member_of (λ (e : Keyed). HasNotToLapse state.horizon e.1.op) _ found.0 near.have_lapsed found.1)));
-  }
+  shortened_valid state valid =
+      let near : IsValid (near_state day state) = near_valid _ state valid in
+      record {
+        horizon = near.horizon;
+        ledger = near.ledger;
+        entries = (
+          all_members _ (map short entries) (λ entry among.
+              let found = Contains-map _ entries _ among in
+              subst (IsGoodEntry state.ledger) found.2 (good found.0 (member_of (IsGoodEntry state.ledger) _ found.0 near.entries.0 found.1))),
+          ascending near.entries.1,
+        );
+        have_lapsed = all_members _ (map short entries) (λ entry among.
+            let found = Contains-map _ entries _ among in
+            subst (λ (e : Keyed). HasNotToLapse state.horizon e.1.op) found.2 (search (rules, member_of, end_stays)));
+      }
     where
       entries : List Keyed
       entries = near_entries day state.entries
-
-      near : IsValid (near_state day state)
-      near = near_valid _ state valid
 
       good : (entry : Keyed) → IsGoodEntry state.ledger entry → IsGoodEntry state.ledger (short entry)
       good entry is = record { key = is.key; stamp = is.stamp; op = excerpt_is_op _ entry.1.op is.op }
@@ -115,14 +110,11 @@ module _ (place : List ℕ) (day : ℕ) where
   find_short key [] = refl
   find_short key (entry ∷ entries) = grind (arith, (find_short key entries))
 
-  body_short : (op : Op) → body_of (excerpt_op place day op) ≡ option_map (excerpt_body place day) (body_of op)
-  body_short = search rules
-
   -- the bodies in the shortened state's live table are the bodies that the excerpt has instead of
   -- those in the state's live table
   live_short : (state : State) (key : Key)
       → live_table (shortened place day state) key ≡ option_map (excerpt_body place day) (live_table (near_state day state) key)
-  live_short = search (rules, find_short, body_short)
+  live_short = search (rules, find_short)
 
   -- ---- the shortened state has the same docker as the state
 

@@ -1,6 +1,6 @@
 -- The events of a live schedule are on the start day of its train or on one of the two days after
 -- it. So the trains of one day's docker start on at most three different days.
-use Rattle.std.proofs.Common.{◌≡◌, ℕ, zero, suc, ◌+◌, ◌-◌, ◌≤◌, List, [], ◌∷◌, subst, inl, inr, ◌⊎◌, Some, Contains, arith}
+use Rattle.std.proofs.Common.{◌≡◌, ℕ, zero, suc, ◌+◌, ◌-◌, ◌≤◌, List, [], ◌∷◌, subst, Some, Contains, arith, rules}
 use Rattle.std.specs.Prelude.{filter, nat_le}
 use Rattle.std.proofs.lemmas.Bool.{leb-true, le-leb}
 use Rattle.docker_model.specs.file.Journey.{midnights}
@@ -9,7 +9,7 @@ use Rattle.docker_model.specs.state.Table.{Table}
 use Rattle.docker_model.specs.state.State.{HasGoodBodies}
 use Rattle.docker_model.specs.docker.Event.{Event, event_day, falls_to}
 use Rattle.docker_laws.specs.Gathering.{start_days}
-use Rattle.cif_laws.proofs.lists.Membership.{Contains-cons, cons-Contains, cons-Contains-first, nil-Contains, Contains-map, map-Contains}
+use Rattle.cif_laws.proofs.lists.Membership.{cons-Contains, cons-Contains-first, map-Contains}
 use Rattle.docker_laws.proofs.dockers.FewMidnights.{bodies_few, falls_below}
 use Rattle.cif_laws.proofs.lists.FilteredMembers.{filter_back, filter_forth}
 
@@ -30,29 +30,8 @@ pub start_days_iff : (day start : ℕ) → (Contains (start_days day) start → 
     → Contains (start_days day) start)
 start_days_iff day start = (forth, back)
   where
-    among_three : (n : ℕ) → Contains (0 ∷ 1 ∷ 2 ∷ []) n → n ≤ 2
-    among_three n among = by (Contains-cons 0 (1 ∷ 2 ∷ []) n among)
-      where
-        last : (2 ≡ n) ⊎ Contains [] n → n ≤ 2
-        last (inl e) = omega arith
-        last (inr none) = absurd (nil-Contains n none)
-
-        next : (1 ≡ n) ⊎ Contains (2 ∷ []) n → n ≤ 2
-        next (inl e) = omega arith
-        next (inr rest) = last (Contains-cons 2 [] n rest)
-
-        by : (◌≡◌ {A = ℕ} 0 n) ⊎ Contains (1 ∷ 2 ∷ []) n → n ≤ 2
-        by (inl e) = omega arith
-        by (inr rest) = next (Contains-cons 1 (2 ∷ []) n rest)
-
     forth : Contains (start_days day) start → (start ≤ day) × (day ≤ start + 2)
-    forth among =
-        let found = Contains-map (λ n. day - n) (filter (λ n. nat_le n day) (0 ∷ 1 ∷ 2 ∷ [])) start among in
-        let passed = filter_back (λ n. nat_le n day) (0 ∷ 1 ∷ 2 ∷ []) found.0 found.1 in
-        let few = among_three found.0 passed.0 in
-        let is = found.2 in
-        let low : found.0 ≤ day = leb-true found.0 day passed.1 in
-        (omega arith, omega arith)
+    forth among = search (rules, filter_back, leb-true)
 
     three : (n : ℕ) → n ≤ 2 → Contains (0 ∷ 1 ∷ 2 ∷ []) n
     three zero low = cons-Contains-first 0 (1 ∷ 2 ∷ [])

@@ -77,12 +77,7 @@ sublist_append [] [] vs ys first second = second
 sublist_append [] (x ∷ xs) vs ys first second = sublist_behind vs (xs ++ ys) x (sublist_append [] xs vs ys tt second)
 sublist_append (u ∷ us) [] vs ys first second = absurd first
 sublist_append {A} (u ∷ us) (x ∷ xs) vs ys first second =
-    by (λ inside. sublist_append us xs vs ys inside second) (λ inside. sublist_append (u ∷ us) xs vs ys inside second) first
-  where
-    by : (IsSublist us xs → IsSublist (us ++ vs) (xs ++ ys)) → (IsSublist (u ∷ us) xs → IsSublist (u ∷ us ++ vs) (xs ++ ys))
-        → ((u ≡ x) × IsSublist us xs) ⊎ IsSublist (u ∷ us) xs → IsSublist (u ∷ us ++ vs) (x ∷ xs ++ ys)
-    by both_step skip (inl here) = inl (here.0, both_step here.1)
-    by both_step skip (inr later) = inr (skip later)
+    elim first [ inl here ↦ inl (here.0, (sublist_append us xs vs ys here.1 second)) | inr later ↦ inr ((sublist_append (u ∷ us) xs vs ys later second)) ]
 
 -- each prefix of a list is a sublist of the list
 pub sublist_front : {A : Type 0} (xs ys : List A) → IsSublist xs (xs ++ ys)

@@ -1,18 +1,17 @@
 -- A body and its thinned form belong to the same key. The thin records of a schedule don't call at
 -- the place.
-use Rattle.std.proofs.Common.{◌≡◌, ℕ, ◌≤◌, List, [], ◌∷◌, ◌++◌, subst, inl, inr, refl, ap, sym, rules}
+use Rattle.std.proofs.Common.{◌≡◌, ℕ, ◌≤◌, List, [], ◌∷◌, ◌++◌, subst, inl, refl, ap, sym, rules}
 use Rattle.std.proofs.Common.{Bool, true, false, cond, Contains, map}
 use Rattle.std.specs.Prelude.{Option, codes, slice_index_or, ◌||◌, ◌&&◌}
 use Rattle.std.specs.Str.{bytes_eq}
 use Rattle.std.specs.List.{AllPass, list_all}
 use Rattle.std.proofs.lemmas.List.Elements.{All-from_recursion}
 use Rattle.std.proofs.lemmas.List.Sums.{AllPass-from_list_all}
-use Rattle.std.proofs.lemmas.Slice.Eq.{bytes_eq-Decides}
 use Rattle.docker_model.specs.records.Record.{basic_schedule, origin_location, terminating_location, HasKind, kind_of, IsRecord, columns}
 use Rattle.docker_model.specs.records.Record.{is_location, is_printable}
 use Rattle.docker_model.specs.records.Field.{HasGoodFields}
 use Rattle.docker_model.specs.file.Journey.{Occasion, arrival, departure, timed, times_by_kind, fall_count, midnights, calls_at}
-use Rattle.docker_model.specs.file.File.{IsSchedule, IsWithinJourney, first_record}
+use Rattle.docker_model.specs.file.File.{IsSchedule, first_record}
 use Rattle.docker_model.specs.file.Change.{Key, tiploc_key, association_key, schedule_key, ScheduleKey, Body}
 use Rattle.docker_model.specs.file.Change.{tiploc_body, association_body, schedule_body}
 use Rattle.docker_model.specs.state.State.{IsScheduleOf, IsBodyOf}
@@ -39,17 +38,9 @@ another = codes "ANOTHER"
 abbrev stops_at : List ℕ → List ℕ → Bool
 stops_at place line = is_location (kind_of line) && bytes_eq (columns 3 9 line) place
 
--- the place isn't ANOTHER if it is NOWHERE
-not_another : (place : List ℕ) → bytes_eq place nowhere ≡ true → bytes_eq another place ≡ false
-not_another place here = ap (bytes_eq another) ((bytes_eq-Decides place nowhere).0 here)
-
--- the place isn't NOWHERE if it isn't equal to it, compared the other way round
-not_nowhere : (place : List ℕ) → bytes_eq place nowhere ≡ false → bytes_eq nowhere place ≡ false
-not_nowhere = search (rules, bytes_eq-Decides)
-
 -- the made-up origin and terminus don't call at the place
 pub ends_apart : (place : List ℕ) → calls_at place (ends_elsewhere place) ≡ false
-ends_apart = search (rules, not_another, not_nowhere)
+ends_apart = search rules
 
 -- if a schedule doesn't call at a place, neither does its first record
 first_apart : (place : List ℕ) (lines : List (List ℕ)) → calls_at place lines ≡ false → stops_at place (first_record lines) ≡ false
@@ -96,19 +87,8 @@ with_any_ends lines is first last first_is last_is origin terminus first_good la
       kind = is.kind;
       fields = is.fields;
       details = inl refl;
-      journey_or_none = inl (record {
-        first = first;
-        between = [];
-        last = last;
-        whole = refl;
-        origin = origin;
-        calls = All-from_recursion IsWithinJourney [] tt;
-        terminus = terminus;
-      });
-      sound = inr (record {
-        fields = All-from_recursion HasGoodFields (first ∷ last ∷ []) (first_good, (last_good, tt));
-        falls = few_ends first last origin terminus;
-      });
+      journey_or_none = search rules;
+      sound = search (rules, few_ends);
     })
 
 -- the basic schedule, with any origin and any terminus that have good fields, forms a schedule with

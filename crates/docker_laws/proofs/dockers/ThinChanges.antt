@@ -80,13 +80,8 @@ module _ (place : List ℕ) (day : ℕ) where
       by : (b : Bool) → is_of key change ≡ b → after_change left (thin_change place day change) key ≡ thinned place day (after_change table change) key
       by true h =
           let here : may_matter place key ≡ true = subst (λ (k : Key). may_matter place k ≡ true) (same_key change.key key h) matters in
-          after_here left (thin_change place day change) key h
-          ∙ thin_left place day change.act
-          ∙ sym (λ i. cond (here i) (option_and_then (thin_body place day) (after_here table change key h i)) None)
-      by false h =
-          after_there left (thin_change place day change) key h
-          ∙ same
-          ∙ sym (left_at place day (after_change table change) table key (after_there table change key h))
+          search (rules, after_here, thin_left)
+      by false h = search (rules, after_there, left_at)
 
   -- ---- thinning commutes with all changes of a list
 
@@ -118,13 +113,11 @@ table_more = grind (common_steps, arith)
 pub untouched : (changes : List Change) (table : Table) (key : Key) → HasNoChangeOf key changes → fold after_change table changes key ≡ table key
 untouched [] table key none = refl
 untouched (change ∷ changes) table key none =
-    by (is_of key change) refl
-    (untouched changes (after_change table change) key (λ other among. none other (cons-Contains change changes other among)))
-  where
-    by : (b : Bool) → is_of key change ≡ b → fold after_change (after_change table change) changes key ≡ after_change table change key
-        → fold after_change (after_change table change) changes key ≡ table key
-    by true h rest = absurd (none change (cons-Contains-first change changes) (same_key change.key key h))
-    by false h rest = rest ∙ after_there table change key h
+    (elim (is_of key change) as (λ b. is_of key change ≡ b → fold after_change (after_change table change) changes key ≡ after_change table change key → fold
+    after_change (after_change table change) changes key ≡ table key) [
+      | true ↦ λ h rest. absurd (none change (cons-Contains-first change changes) (same_key change.key key h))
+      | false ↦ λ h rest. rest ∙ after_there table change key h
+    ]) refl (untouched changes (after_change table change) key (λ other among. none other (cons-Contains change changes other among)))
 
 -- if all changes to a key are left out, the body at this key is unchanged
 without_here : (key : Key) (changes : List Change) (table : Table) → fold after_change table (without key changes) key ≡ table key
@@ -143,11 +136,8 @@ without_there key other apart (change ∷ changes) one two same = by (is_of key 
         ≡ fold after_change (after_change two change) changes other
     by true h rest =
         let elsewhere : is_of other change ≡ false = subst (λ (k : Key). is_eq (key_cmp k other) ≡ false) (sym (same_key change.key key h)) apart in
-        (λ i. fold after_change one (cond (not (h i)) (change ∷ without key changes) (without key changes)) other)
-        ∙ rest one (after_change two change) (same ∙ sym (after_there two change other elsewhere))
-    by false h rest =
-        (λ i. fold after_change one (cond (not (h i)) (change ∷ without key changes) (without key changes)) other)
-        ∙ rest (after_change one change) (after_change two change) (λ i. cond (is_of other change) (left_by change.act) (same i))
+        search (rules, after_there)
+    by false h rest = search (rules, is_of, left_by)
 
 module _ (place : List ℕ) (day : ℕ) where
   enough_at_first : AreEnough place day [] []
@@ -160,11 +150,6 @@ module _ (place : List ℕ) (day : ℕ) where
     -- a change to a key that can't matter to the docker of the place may be dropped
     enough_elsewhere : may_matter place change.key ≡ false → AreEnough place day (changes ++ change ∷ []) kept
     enough_elsewhere = search (rules, step_elsewhere, all_more)
-
-    -- if the key of a change may matter to the docker of the place, the thin form of the change may
-    -- be kept
-    enough_kept : may_matter place change.key ≡ true → AreEnough place day (changes ++ change ∷ []) (kept ++ thin_change place day change ∷ [])
-    enough_kept = search (rules, table_more, step_kept, all_more)
 
     -- after a change whose thin form is a deletion, the thinned table has no body at the key of the
     -- change
@@ -202,23 +187,20 @@ module _ (place : List ℕ) (day : ℕ) where
         → AreEnough place day (changes ++ change ∷ []) (without change.key kept ++ thin_change place day change ∷ [])
     enough_replaced matters key =
         (λ i. table_more empty_table (without change.key kept) (thin_change place day change) i key)
-        ∙ by (is_of key change) refl
+        ∙ ((elim (is_of key change) as (λ b. is_of key change ≡ b → goal) [
+          | true ↦ λ h. after_here (table_of (without change.key kept)) (thin_change place day change) key h
+              ∙ sym (after_here (table_of kept) (thin_change place day change) key h)
+              ∙ step_kept place day (table_of changes) (table_of kept) change key matters (so_far key)
+              ∙ sym (all_more key)
+          | false ↦ λ h. after_there (table_of (without change.key kept)) (thin_change place day change) key h
+              ∙ without_there change.key key h kept empty_table empty_table refl
+              ∙ so_far key
+              ∙ sym (same_elsewhere key h)
+              ∙ sym (all_more key)
+        ]) refl)
       where
         goal : Type 0
         goal = after_change (table_of (without change.key kept)) (thin_change place day change) key ≡ thinned place day (table_of (changes ++ change ∷ [])) key
-
-        by : (b : Bool) → is_of key change ≡ b → goal
-        by true h =
-            after_here (table_of (without change.key kept)) (thin_change place day change) key h
-            ∙ sym (after_here (table_of kept) (thin_change place day change) key h)
-            ∙ step_kept place day (table_of changes) (table_of kept) change key matters (so_far key)
-            ∙ sym (all_more key)
-        by false h =
-            after_there (table_of (without change.key kept)) (thin_change place day change) key h
-            ∙ without_there change.key key h kept empty_table empty_table refl
-            ∙ so_far key
-            ∙ sym (same_elsewhere key h)
-            ∙ sym (all_more key)
 
 -- ---- which thin changes may be kept
 
@@ -260,7 +242,7 @@ module _ (place : List ℕ) (day : ℕ) where
     -- if the key of a change may matter to the docker of the place, the thin form of the change may
     -- be kept
     pub thinning_kept : may_matter place change.key ≡ true → IsThinning place day (changes ++ change ∷ []) (kept ++ thin_change place day change ∷ [])
-    thinning_kept = search (rules, some_more, sublist_itself, enough_kept)
+    thinning_kept = search (rules, some_more, sublist_itself, table_more, step_kept, all_more)
 
     -- a change whose thin form is a deletion may be dropped if no change to the same key is kept
     pub thinning_dropped : thin_act place day change.act ≡ delete → HasNoChangeOf change.key kept → IsThinning place day (changes ++ change ∷ []) kept
@@ -282,7 +264,14 @@ pub thinning_more : (place : List ℕ) (day : ℕ) (all kept more : List Change)
 thinning_more place day all kept [] is = search (rules, append-nil)
 thinning_more place day all kept (change ∷ more) is =
     subst (λ (changes : List Change). IsThinning place day changes (kept ++ thin_changes place day (change ∷ more))) (append_assoc all (change ∷ []) more)
-    (by (may_matter place change.key) refl (λ others so_far. thinning_more place day (all ++ change ∷ []) others more so_far))
+    ((elim (may_matter place change.key) as (λ b. may_matter place change.key ≡ b →
+    ((others : List Change) → IsThinning place day (all ++ change ∷ []) others → IsThinning place day (all ++ change ∷ [] ++ more)
+    (others ++ thin_changes place day more)) → Goal (may_matter place change.key)) [
+      | true ↦ λ h onward. subst Goal (sym h)
+          (subst (IsThinning place day (all ++ change ∷ [] ++ more)) (append_assoc kept (thin_change place day change ∷ []) (thin_changes place day more))
+          (onward (kept ++ thin_change place day change ∷ []) (thinning_kept place day all kept change is h)))
+      | false ↦ λ h onward. subst Goal (sym h) (onward kept (thinning_elsewhere place day all kept change is h))
+    ]) refl (λ others so_far. thinning_more place day (all ++ change ∷ []) others more so_far))
   where
     rest : List Change
     rest = filter (λ (c : Change). may_matter place c.key) more
@@ -291,16 +280,6 @@ thinning_more place day all kept (change ∷ more) is =
     -- otherwise
     Goal : Bool → Type 0
     Goal test = IsThinning place day (all ++ change ∷ [] ++ more) (kept ++ map (thin_change place day) (cond test (change ∷ rest) rest))
-
-    by : (b : Bool) → may_matter place change.key ≡ b
-        → ((others : List Change) → IsThinning place day (all ++ change ∷ []) others
-        → IsThinning place day (all ++ change ∷ [] ++ more) (others ++ thin_changes place day more))
-        → Goal (may_matter place change.key)
-    by true h onward =
-        subst Goal (sym h)
-        (subst (IsThinning place day (all ++ change ∷ [] ++ more)) (append_assoc kept (thin_change place day change ∷ []) (thin_changes place day more))
-        (onward (kept ++ thin_change place day change ∷ []) (thinning_kept place day all kept change is h)))
-    by false h onward = subst Goal (sym h) (onward kept (thinning_elsewhere place day all kept change is h))
 
 -- ---- the thin form of an act in each case
 

@@ -45,12 +45,8 @@ turned : (place : List ℕ) (day : ℕ) (one other : List (List ℕ)) → IsStan
 turned place day one other is = record {
   runs = λ start near. sym (is.runs start near);
   identity = sym is.identity;
-  calls = λ start low high runs either. sym (is.calls start low high (is.runs start (near_start _ _ (near_of _ _ low high)) ∙ runs) (swap start either));
+  calls = λ start low high runs either. sym (is.calls start low high (is.runs start (near_start _ _ (near_of _ _ low high)) ∙ runs) (search rules));
 }
-  where
-    swap : (start : ℕ) → HasEventOn place day start other ⊎ HasEventOn place day start one → HasEventOn place day start one ⊎ HasEventOn place day start other
-    swap start (inl has) = inr has
-    swap start (inr has) = inl has
 
 -- a schedule may replace itself
 pub own_stand_in : (place : List ℕ) (day : ℕ) (lines : List (List ℕ)) → IsStandIn place day lines lines
@@ -82,7 +78,12 @@ falls_positive lines number some = let low = falls_below lines number in lt-ltb 
 -- The start day is the day or one of the two days before it
 reaches : (day start : ℕ) (lines : List (List ℕ)) (number : ℕ) → start ≤ day → day ≤ start + 2 → IsTrue (schedule_runs (first_record lines) start)
     → start + falls_to lines number ≡ day → may_reach day lines ≡ true
-reaches day start lines number low high runs today = by (day - start) refl
+reaches day start lines number low high runs today = (elim (day - start) as (λ back. day - start ≡ back → may_reach day lines ≡ true) [
+  | zero ↦ λ h. or_left (schedule_runs basic day) _ (subst (λ (d : ℕ). schedule_runs basic d ≡ true) (let same : start ≡ day = omega arith in same) runs)
+  | suc zero ↦ λ h. later (omega arith) (or_left (schedule_runs basic (day - 1)) _ (runs_at 1 (omega arith)))
+  | suc (suc zero) ↦ λ h. later (omega arith) (or_right (schedule_runs basic (day - 1)) _ (runs_at 2 (omega arith)))
+  | suc (suc (suc n)) ↦ λ h. absurd (omega arith)
+]) refl
   where
     basic : List ℕ
     basic = first_record lines
@@ -93,20 +94,11 @@ reaches day start lines number low high runs today = by (day - start) refl
     later : 0 < falls_to lines number → (schedule_runs basic (day - 1) || schedule_runs basic (day - 2)) ≡ true → may_reach day lines ≡ true
     later some before = or_right (schedule_runs basic day) _ (and_true (nat_lt 0 (midnights lines)) _ (falls_positive lines _ some) before)
 
-    by : (back : ℕ) → day - start ≡ back → may_reach day lines ≡ true
-    by zero h = or_left (schedule_runs basic day) _
-        (subst (λ (d : ℕ). schedule_runs basic d ≡ true) (let same : start ≡ day = omega arith in same) runs)
-    by (suc zero) h = later (omega arith) (or_left (schedule_runs basic (day - 1)) _ (runs_at 1 (omega arith)))
-    by (suc (suc zero)) h = later (omega arith) (or_right (schedule_runs basic (day - 1)) _ (runs_at 2 (omega arith)))
-    by (suc (suc (suc n))) h = absurd (omega arith)
-
 -- records with the same first record may replace a schedule, if no event of the schedule may be on
 -- the day, and these records don't call at the place
 pub stand_in_other_day : (place : List ℕ) (day : ℕ) (whole lines : List (List ℕ)) → first_record lines ≡ first_record whole → may_reach day whole ≡ false
     → calls_at place lines ≡ false → IsStandIn place day whole lines
-stand_in_other_day place day whole lines same never no_other = stand_in_without place _ whole _ same (λ start low high runs has.
-    let bad = sym never ∙ reaches day _ whole _ low high runs has.today in
-    absurd (let worse : false ≡ true = bad in cc)) no_other
+stand_in_other_day place day whole lines same never no_other = stand_in_without place _ whole _ same (search (rules, reaches)) no_other
 
 -- the records of a schedule that the docker of the place and the day needs (`lines_for`) may
 -- replace the schedule
@@ -176,18 +168,7 @@ module _ (one other : Table) (place : List ℕ) (day : ℕ) (forth : Covers one 
   event_line_over line is =
       let calls = event_calls is.schedule is.event place is.among is.here in
       let within = started_near is.start is.key.uid is.key is.schedule is.event calls is.train_runs is.today in
-      record {
-        start = is.start;
-        key = is.key;
-        schedule = is.schedule;
-        train_runs = calling_over is.start within is.key.uid is.key is.schedule
-            (record { event = is.event; among = is.among; here = is.here; today = is.today }) is.train_runs;
-        event = is.event;
-        among = is.among;
-        here = is.here;
-        today = is.today;
-        is = is.is;
-      }
+      search (rules, calling_over)
 
 -- on a start day near the day, the train of a UID has the same identity in both tables
 module _ (one other : Table) (place : List ℕ) (day : ℕ) (forth : Covers one other place day) (back : Covers other one place day) where
@@ -260,11 +241,7 @@ module _ (place : List ℕ) (day : ℕ) (live part : Table) (stands : StandsFor 
           record { uid_is = is.uid_is; is_live = found.1; runs_then = sym (found.2.runs start (near_start _ start near)) ∙ is.runs_then },
           found.2,
         );
-    links = λ group here start key line linked. record {
-      group_is = linked.group_is;
-      is_live = stands.associations key (ap (λ (g : Group). g.location) linked.group_is ∙ here) ∙ linked.is_live;
-      runs_then = linked.runs_then;
-    };
+    links = search rules;
     few = λ key lines is_live calls. few key lines is_live;
   }
 
@@ -276,11 +253,7 @@ module _ (place : List ℕ) (day : ℕ) (live part : Table) (stands : StandsFor 
           record { uid_is = is.uid_is; is_live = found.1; runs_then = found.2.runs start (near_start _ start near) ∙ is.runs_then },
           turned _ day _ lines found.2,
         );
-    links = λ group here start key line linked. record {
-      group_is = linked.group_is;
-      is_live = sym (stands.associations key (ap (λ (g : Group). g.location) linked.group_is ∙ here)) ∙ linked.is_live;
-      runs_then = linked.runs_then;
-    };
+    links = search rules;
     few = λ key lines is_live calls. few key lines is_live;
   }
 

@@ -1,12 +1,12 @@
 -- A state that is made from the kept changes of a file is valid. For the place and the day, it has
 -- the same docker as the summary of the file.
 use Rattle.std.proofs.Common.{◌≡◌, ℕ, ◌-◌, ◌^◌, ◌<◌, ◌≤◌, List, [], ◌∷◌, length, map, subst, inl, inr, ◌⊎◌, rules}
-use Rattle.std.proofs.Common.{refl, ap, sym, ◌∙◌, cond, Some, None, Contains, All, arith}
-use Rattle.std.specs.Prelude.{Option, option_and_then, ◌↔◌, fold}
+use Rattle.std.proofs.Common.{refl, ap, sym, ◌∙◌, Some, None, Contains, All, arith}
+use Rattle.std.specs.Prelude.{◌↔◌, fold}
 use Rattle.std.specs.Cmp.{tied_itself}
 use Rattle.docker_model.specs.records.Date.{IsDay}
 use Rattle.docker_model.specs.file.File.{IsFile, most_records}
-use Rattle.docker_model.specs.file.Change.{Key, Act, Body, Change, changes}
+use Rattle.docker_model.specs.file.Change.{Key, Act, Change, changes}
 use Rattle.docker_model.specs.state.Order.{IsBelow, IsAtMost}
 use Rattle.docker_model.specs.state.Stamp.{LedgerItem, file_stamp_of, stamp_cmp, file_stamp_cmp, IsKept}
 use Rattle.docker_model.specs.state.Op.{Op, Entry, entry_cmp, body_of, op_of}
@@ -17,7 +17,7 @@ use Rattle.docker_model.specs.state.Summary.{IsSummary}
 use Rattle.docker_model.specs.docker.DockerLine.{DockerLine}
 use Rattle.docker_model.specs.docker.DockerList.{IsDockerList}
 use Rattle.docker_model.specs.docker.DockerText.{IsDockerText}
-use Rattle.docker_laws.specs.Thinning.{may_matter, thin_body, thinned, thin_act, thin_change, table_of, IsThinning, IsStateOfChanges}
+use Rattle.docker_laws.specs.Thinning.{thinned, thin_act, thin_change, table_of, IsThinning, IsStateOfChanges}
 use Rattle.cif_laws.proofs.orders.Orders.{entry_total, file_stamp_total}
 use Rattle.cif_laws.proofs.lists.Membership.{Contains-single, single-Contains, Contains-map, all_members}
 use Rattle.cif_laws.proofs.lists.Later.{AllLater, later_map, later_map_weaker}
@@ -58,10 +58,7 @@ module _ (file : List (List ℕ)) (kept : List Change) (state : State) (of : IsS
           let same = one_per_key state.entries of.ascending key found.0.1 last.0 found.2 there in
           live_at state key found.0 found.1 ∙ ap (λ (entry : Entry). body_of entry.op) same ∙ sym last.2
       by (inr last) (inr gone) =
-          absurd (gone.1 last.0 ((of.entries key last.0).1 (record {
-            among = last.1;
-            greatest = λ other among. at_least last.0 other (last.3 other among);
-          })))
+          absurd (gone.1 last.0 ((of.entries key last.0).1 (search (rules, at_least))))
 
 -- the live table of the summary of a file equals the table after the file's changes
 pub live_of_summary : (file : List (List ℕ)) (whole : State) → IsSummary (file ∷ []) 0 whole → (key : Key)
@@ -99,37 +96,34 @@ thin_op = grind (arith, needed_is_body)
 
 -- a ledger that has only one item is well formed if this item is well formed
 ledger_of_one : (item : LedgerItem) → IsGoodItem item → IsLedger (item ∷ [])
-ledger_of_one item good = by good.indicator
+ledger_of_one item good = elim good.indicator [
+  | inl full ↦ record {
+    each = all_members _ (item ∷ []) (is_item IsGoodItem good);
+    ascending = (tt, tt);
+    floor = Some item.stamp;
+    is_floor = record {
+      full = item;
+      among = single-Contains _ item refl;
+      is_full = full;
+      stamped = refl;
+      greatest = λ other among is_full. is_item (λ (i : LedgerItem). IsAtMost file_stamp_cmp i.stamp item.stamp) itself other among;
+    };
+    kept = all_members _ (item ∷ []) (is_item (λ (i : LedgerItem). IsKept (Some item.stamp) i.stamp) itself);
+  }
+  | inr update ↦ record {
+    each = all_members _ (item ∷ []) (is_item IsGoodItem good);
+    ascending = (tt, tt);
+    floor = None;
+    is_floor = search rules;
+    kept = all_members _ (item ∷ []) (is_item (λ (i : LedgerItem). IsKept None i.stamp) tt);
+  }
+]
   where
     itself : IsAtMost file_stamp_cmp item.stamp item.stamp
     itself greater = let tied = tied_itself file_stamp_total item.stamp in cc
 
     is_item : (P : LedgerItem → Type 0) → P item → (other : LedgerItem) → Contains (item ∷ []) other → P other
     is_item P here other among = subst P (Contains-single _ other among) here
-
-    by : (item.indicator ≡ 70) ⊎ (item.indicator ≡ 85) → IsLedger (item ∷ [])
-    by (inl full) = record {
-      each = all_members _ (item ∷ []) (is_item IsGoodItem good);
-      ascending = (tt, tt);
-      floor = Some item.stamp;
-      is_floor = record {
-        full = item;
-        among = single-Contains _ item refl;
-        is_full = full;
-        stamped = refl;
-        greatest = λ other among is_full. is_item (λ (i : LedgerItem). IsAtMost file_stamp_cmp i.stamp item.stamp) itself other among;
-      };
-      kept = all_members _ (item ∷ []) (is_item (λ (i : LedgerItem). IsKept (Some item.stamp) i.stamp) itself);
-    }
-    by (inr update) = record {
-      each = all_members _ (item ∷ []) (is_item IsGoodItem good);
-      ascending = (tt, tt);
-      floor = None;
-      is_floor = λ other among full.
-          let same : item.indicator ≡ 70 = ap (λ (i : LedgerItem). i.indicator) (Contains-single _ other among) ∙ full in
-          omega (arith, same, update);
-      kept = all_members _ (item ∷ []) (is_item (λ (i : LedgerItem). IsKept None i.stamp) tt);
-    }
 
 -- if the horizon is 0, no entry has to lapse, whatever its op is
 pub no_lapse : (op : Op) → HasNotToLapse 0 op
@@ -198,9 +192,7 @@ module _ (place : List ℕ) (day : ℕ) (file : List (List ℕ)) (is_file : IsFi
     same_live = λ i key. same key i
       where
         same : (key : Key) → thinned place day (live_table whole) key ≡ live_table state key
-        same key = ap (λ (found : Option Body). cond (may_matter place key) (option_and_then (thin_body place day) found) None)
-            (live_of_summary _ _ summary _)
-            ∙ sym (thin_live _ day _ kept is state of key)
+        same key = search (rules, live_of_summary, thin_live)
 
     -- the state made from the kept changes has the same docker list as the summary of the file
     pub thin_state_list : (lines : List DockerLine) → IsDockerList (live_table whole) place day lines ↔ IsDockerList (live_table state) place day lines

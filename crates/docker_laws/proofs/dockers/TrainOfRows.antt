@@ -4,7 +4,7 @@ use Rattle.std.specs.Prelude.{Option, ◌&&◌, ◌==◌}
 use Rattle.std.specs.Ordering.{on}
 use Rattle.std.specs.Cmp.{IsTotalOrder, on_total}
 use Rattle.std.proofs.lemmas.Slice.Eq.{bytes_eq-Decides}
-use Rattle.docker_model.specs.file.Change.{Key, schedule_key, ScheduleKey, Body, schedule_body}
+use Rattle.docker_model.specs.file.Change.{Key, schedule_key, Body, schedule_body}
 use Rattle.docker_model.specs.state.Table.{Table}
 use Rattle.docker_model.specs.state.Row.{Row, AreRowsOf}
 use Rattle.docker_model.specs.docker.Choice.{schedule_choice_cmp, IsRunning, IsChosen, Train, IsChosenOn}
@@ -66,16 +66,8 @@ module _ (live : Table) (rows : List Row) (uid : List ℕ) (has : HasSchedulesOf
       where
         at_letter : (train : Train) → IsChosen live uid day train.key train.lines → (b : Bool) → (train.key.indicator == 67) ≡ b
             → IsTrainOn live uid day (cond b None (Some train))
-        at_letter train chosen true h = λ key lines runs.
-            let same = one_chosen live uid day key train.key lines train.lines runs.chosen chosen in
-            runs.no_cancellation (ap (λ (k : ScheduleKey). k.indicator) same.0 ∙ eqb-true _ _ h)
-        at_letter train chosen false h = record {
-          chosen = chosen;
-          no_cancellation = λ cancelled. false_is_not (sym h ∙ (λ i. cancelled i == 67));
-        }
-          where
-            false_is_not : false ≡ true → ⊥
-            false_is_not bad = cc
+        at_letter train chosen true h = search (rules, one_chosen, eqb-true)
+        at_letter train chosen false h = search rules
 
         by : (found : Option Train) → IsChosenOn live uid day found → IsTrainOn live uid day (unless_cancelled found)
         by None none = λ key lines runs. none key lines runs.chosen.running

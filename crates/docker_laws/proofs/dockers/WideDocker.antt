@@ -1,26 +1,25 @@
 -- Each line of a detailed docker has the width of its docker line in front, and no line feed. So the
 -- first 56 columns of the lines are the docker.
-use Rattle.std.proofs.Common.{◌≡◌, ℕ, ◌≤◌, List, [], ◌∷◌, ◌++◌, Contains, refl, ap, sym, ◌∙◌, subst, inl, inr, ◌⊎◌, true, false, true≢false, Some}
+use Rattle.std.proofs.Common.{◌≡◌, ℕ, ◌≤◌, List, [], ◌∷◌, ◌++◌, Contains, refl, ap, sym, ◌∙◌, subst, inl, inr, true, false, true≢false, Some}
 use Rattle.std.proofs.Common.{None, append-nil, arith, rules}
 use Rattle.std.specs.Prelude.{Option, codes, find, filter, take, unwrap_or}
 use Rattle.std.specs.List.{last_or}
 use Rattle.std.proofs.lemmas.List.Elements.{All-contains, All-from_recursion, All-take, Contains-append_right}
-use Rattle.docker_model.specs.records.Record.{Kind, columns, column, kind_of, is_printable, IsRecord, HasKind}
-use Rattle.docker_model.specs.records.Record.{basic_schedule, extra_details, origin_location, intermediate_location, terminating_location}
-use Rattle.docker_model.specs.file.File.{IsJourney, AreExtraDetails, MayLackJourney, first_record}
+use Rattle.docker_model.specs.records.Record.{columns, column, kind_of, is_printable, IsRecord}
+use Rattle.docker_model.specs.records.Record.{origin_location, terminating_location}
+use Rattle.docker_model.specs.file.File.{IsJourney, first_record}
 use Rattle.docker_model.specs.file.Change.{Key, tiploc_key, association_key, schedule_key, ScheduleKey, association_body, schedule_body}
 use Rattle.docker_model.specs.state.State.{HasGoodBodies, IsScheduleOf, IsAssociationOf}
 use Rattle.docker_model.specs.state.Table.{Table}
 use Rattle.docker_model.specs.docker.Event.{Event, events_of, event_line, event_identity, changed_identity, has_identity}
 use Rattle.docker_model.specs.docker.DockerLine.{DockerLine, line_of_event, tiploc_of_first}
 use Rattle.docker_model.specs.docker.Association.{IsIdentityOn, IsPartnerIdentity, partner_start}
-use Rattle.cif_laws.proofs.lists.Membership.{Contains-cons, Contains-single, cons-Contains, cons-Contains-first, nil-Contains}
+use Rattle.cif_laws.proofs.lists.Membership.{cons-Contains, cons-Contains-first}
 use Rattle.cif_laws.proofs.lists.FilteredMembers.{filter_back, find_some, find_none}
 use Rattle.cif_laws.proofs.lists.BoolsAndOptions.{none_some}
-use Rattle.cif_laws.proofs.records.Locations.{IsLocation}
 use Rattle.cif_laws.proofs.records.RecordIdentity.{has_identity_is}
 use Rattle.docker_laws.specs.Gathering.{IsDockerLine}
-use Rattle.docker_laws.proofs.dockers.Events.{at_a_line, timed_there}
+use Rattle.docker_laws.proofs.dockers.Events.{at_a_line}
 use Rattle.docker_laws.proofs.dockers.OneDockerLine.{first_event_is}
 use Rattle.docker_laws.proofs.dockers.WideParts.{IsWide, HasWideFields, wide_append, wide_text, wide_spaces, wide_columns, low_column, wide_platform}
 use Rattle.docker_laws.proofs.dockers.WideParts.{wide_track, wide_path, wide_public}
@@ -101,47 +100,14 @@ module _ (key : ScheduleKey) (lines : List (List ℕ)) (of : IsScheduleOf key li
 
     -- a schedule with an event has a journey
     has_journey : IsJourney of.schedule.journey
-    has_journey = by of.schedule.journey_or_none
-      where
-        is : IsLocation (event_line lines event)
-        is = (timed_there (event_line lines event) (event.occasion, event.time) (at_a_line lines event among).is_time).0
-
-        apart : (one other : Kind) → HasKind one (event_line lines event) → HasKind other (event_line lines event) → Some one ≡ Some other
-        apart one other first second = sym first ∙ second
-
-        not_before : (kind : Kind) → HasKind kind (event_line lines event) → (kind ≡ basic_schedule) ⊎ (kind ≡ extra_details) → ⊥
-        not_before kind has which = outer is which
-          where
-            outer : IsLocation (event_line lines event) → (kind ≡ basic_schedule) ⊎ (kind ≡ extra_details) → ⊥
-            outer (inl origin) (inl same) = let e : Some origin_location ≡ Some basic_schedule = sym origin ∙ has ∙ ap Some same in cc
-            outer (inl origin) (inr same) = let e : Some origin_location ≡ Some extra_details = sym origin ∙ has ∙ ap Some same in cc
-            outer (inr (inl call)) (inl same) = let e : Some intermediate_location ≡ Some basic_schedule = sym call ∙ has ∙ ap Some same in cc
-            outer (inr (inl call)) (inr same) = let e : Some intermediate_location ≡ Some extra_details = sym call ∙ has ∙ ap Some same in cc
-            outer (inr (inr end)) (inl same) = let e : Some terminating_location ≡ Some basic_schedule = sym end ∙ has ∙ ap Some same in cc
-            outer (inr (inr end)) (inr same) = let e : Some terminating_location ≡ Some extra_details = sym end ∙ has ∙ ap Some same in cc
-
-        in_details : (extra : List (List ℕ)) → AreExtraDetails extra → Contains extra (event_line lines event) → ⊥
-        in_details extra (inl none) inside = nil-Contains (event_line lines event) (subst (λ ls. Contains ls (event_line lines event)) none inside)
-        in_details extra (inr (line, one, kind)) inside =
-            let same = Contains-single line (event_line lines event) (subst (λ ls. Contains ls (event_line lines event)) one inside) in
-            not_before extra_details (subst (HasKind extra_details) same kind) (inr refl)
-
-        in_front : (basic : List ℕ) (extra : List (List ℕ)) → HasKind basic_schedule basic → AreExtraDetails extra
-            → Contains (basic ∷ extra) (event_line lines event) → ⊥
-        in_front basic extra kind details inside = cases (Contains-cons basic extra (event_line lines event) inside)
-          where
-            cases : (basic ≡ event_line lines event) ⊎ Contains extra (event_line lines event) → ⊥
-            cases (inl same) = not_before basic_schedule (subst (HasKind basic_schedule) same kind) (inl refl)
-            cases (inr rest) = in_details extra details rest
-
-        by : IsJourney of.schedule.journey ⊎ ((of.schedule.journey ≡ []) × MayLackJourney of.schedule.basic) → IsJourney of.schedule.journey
-        by (inl journey) = journey
-        by (inr none) =
-            let whole : lines ≡ of.schedule.basic ∷ (of.schedule.extra ++ []) =
-            of.schedule.whole ∙ ap (λ ls. of.schedule.basic ∷ (of.schedule.extra ++ ls)) none.0 in
-            let all : lines ≡ of.schedule.basic ∷ of.schedule.extra = whole ∙ ap (λ ls. of.schedule.basic ∷ ls) (append-nil of.schedule.extra) in
-            absurd (in_front of.schedule.basic of.schedule.extra of.schedule.kind of.schedule.details
-            (subst (λ ls. Contains ls (event_line lines event)) all (at_a_line lines event among).among))
+    has_journey = elim of.schedule.journey_or_none [
+      | inl journey ↦ journey
+      | inr none ↦
+          let whole : lines ≡ of.schedule.basic ∷ (of.schedule.extra ++ []) =
+          of.schedule.whole ∙ ap (λ ls. of.schedule.basic ∷ (of.schedule.extra ++ ls)) none.0 in
+          let all : lines ≡ of.schedule.basic ∷ of.schedule.extra = whole ∙ ap (λ ls. of.schedule.basic ∷ ls) (append-nil of.schedule.extra) in
+          absurd (search (rules, at_a_line))
+    ]
 
     in_journey : (line : List ℕ) → Contains of.schedule.journey line → Contains lines line
     in_journey line inside = subst (λ ls. Contains ls line) (sym of.schedule.whole) (cons-Contains _ _ _

@@ -81,22 +81,11 @@ one_of other others h = by (in_state linked _ others h)
     by found = first (Contains-cons _ (put_in (schedule_key base_key) (schedule_body base_lines) ∷ put_in
         (schedule_key next_key) (schedule_body next_lines) ∷ []) _ found.1)
       where
-        third : (put_in (schedule_key next_key) (schedule_body next_lines) ≡ (other, found.0)) ⊎ Contains {X = Keyed} [] (other, found.0)
-            → Same (schedule_key next_key) (schedule_body next_lines) other others
-        third (inl e) = same_entry (schedule_key next_key) _ (schedule_body next_lines) _ found.0 e found.2
-        third (inr none) = absurd (nil-Contains _ none)
-
-        second : (put_in (schedule_key base_key) (schedule_body base_lines) ≡ (other, found.0)) ⊎ Contains
-            (put_in (schedule_key next_key) (schedule_body next_lines) ∷ []) (other, found.0)
-            → Same (schedule_key base_key) (schedule_body base_lines) other others ⊎ Same (schedule_key next_key) (schedule_body next_lines) other others
-        second (inl e) = inl (same_entry (schedule_key base_key) _ (schedule_body base_lines) _ found.0 e found.2)
-        second (inr rest) = inr (third (Contains-cons _ [] _ rest))
-
         first : (put_in (association_key link_key) (association_body link) ≡ (other, found.0))
             ⊎ Contains (put_in (schedule_key base_key) (schedule_body base_lines) ∷ put_in (schedule_key next_key) (schedule_body next_lines) ∷ [])
             (other, found.0) → OneOf other others
         first (inl e) = inl (same_entry (association_key link_key) _ (association_body link) _ found.0 e found.2)
-        first (inr rest) = inr (second (Contains-cons _ (put_in (schedule_key next_key) (schedule_body next_lines) ∷ []) _ rest))
+        first (inr rest) = search (rules, put_in, next_key, next_lines, same_entry, base_key, base_lines, nil-Contains)
 
 schedule_in : Key → ScheduleKey
 schedule_in (schedule_key key) = key
@@ -114,25 +103,23 @@ base_chosen : IsChosen (live_table linked) (codes "C40001") 23537 base_key base_
 unfolding days_from_civil day_count days_of_years days_of_months schedule_in
 base_chosen = record {
   running = record { uid_is = refl; is_live = refl; runs_then = refl };
-  first = λ other others running. by other running.uid_is (one_of (schedule_key other) (schedule_body others) running.is_live);
+  first = λ other others running. elim (one_of (schedule_key other) (schedule_body others) running.is_live) [
+    | inl e ↦ absurd (let bad : association_key link_key ≡ schedule_key other = e.0 in cc)
+    | inr (inl e) ↦ subst (λ k. IsAtMost schedule_choice_cmp base_key k) (ap schedule_in e.0) (λ greater. cc)
+    | inr (inr e) ↦ absurd (uids_differ (sym running.uid_is ∙ sym (ap (λ key. (schedule_in key).uid) e.0)))
+  ];
 }
-  where
-    by : (other : ScheduleKey) {others : Body} → other.uid ≡ codes "C40001" → OneOf (schedule_key other) others → IsAtMost schedule_choice_cmp base_key other
-    by other uid (inl e) = absurd (let bad : association_key link_key ≡ schedule_key other = e.0 in cc)
-    by other uid (inr (inl e)) = subst (λ k. IsAtMost schedule_choice_cmp base_key k) (ap schedule_in e.0) (λ greater. cc)
-    by other uid (inr (inr e)) = absurd (uids_differ (sym uid ∙ sym (ap (λ key. (schedule_in key).uid) e.0)))
 
 next_chosen : IsChosen (live_table linked) (codes "C40002") 23538 next_key next_lines
 unfolding days_from_civil day_count days_of_years days_of_months schedule_in
 next_chosen = record {
   running = record { uid_is = refl; is_live = refl; runs_then = refl };
-  first = λ other others running. by other running.uid_is (one_of (schedule_key other) (schedule_body others) running.is_live);
+  first = λ other others running. elim (one_of (schedule_key other) (schedule_body others) running.is_live) [
+    | inl e ↦ absurd (let bad : association_key link_key ≡ schedule_key other = e.0 in cc)
+    | inr (inl e) ↦ absurd (uids_differ (ap (λ key. (schedule_in key).uid) e.0 ∙ running.uid_is))
+    | inr (inr e) ↦ subst (λ k. IsAtMost schedule_choice_cmp next_key k) (ap schedule_in e.0) (λ greater. cc)
+  ];
 }
-  where
-    by : (other : ScheduleKey) {others : Body} → other.uid ≡ codes "C40002" → OneOf (schedule_key other) others → IsAtMost schedule_choice_cmp next_key other
-    by other uid (inl e) = absurd (let bad : association_key link_key ≡ schedule_key other = e.0 in cc)
-    by other uid (inr (inl e)) = absurd (uids_differ (ap (λ key. (schedule_in key).uid) e.0 ∙ uid))
-    by other uid (inr (inr e)) = subst (λ k. IsAtMost schedule_choice_cmp next_key k) (ap schedule_in e.0) (λ greater. cc)
 
 link_chosen : IsChosenAssociation (live_table linked) (group_of link_key) 23537 link_key link
 unfolding days_from_civil day_count days_of_years days_of_months association_in

@@ -1,5 +1,5 @@
 -- Worked examples of the choice among schedules, and of an association line.
-use Rattle.std.proofs.Common.{◌≡◌, ℕ, List, [], ◌∷◌, refl, inl, inr, Some, sym, ◌∙◌, subst, Contains, ◌⊎◌, true, false, rules}
+use Rattle.std.proofs.Common.{◌≡◌, ℕ, List, [], ◌∷◌, refl, inl, inr, Some, subst, Contains, ◌⊎◌, false, rules}
 use Rattle.std.specs.Prelude.{codes, Option}
 use Rattle.jiff_core.specs.Calendar.{days_from_civil, day_count, days_of_years, days_of_months}
 use Rattle.docker_model.specs.file.File.{first_record}
@@ -10,7 +10,7 @@ use Rattle.docker_model.specs.state.Op.{Entry, put_with, body_of}
 use Rattle.docker_model.specs.state.State.{State, live_table}
 use Rattle.docker_model.specs.docker.Choice.{schedule_runs, schedule_choice_cmp, IsRunning, IsChosen}
 use Rattle.cif_laws.proofs.records.Builders.{no_text, bs, lo, f2_origin, f2_terminus}
-use Rattle.cif_laws.proofs.lists.Membership.{Contains-cons, nil-Contains}
+use Rattle.cif_laws.proofs.lists.Membership.{nil-Contains}
 use Rattle.state_laws.proofs.states.PlainTable.{Keyed, find_in, live_at, live_none}
 
 -- each body in the live table is the body of one of the state's entries
@@ -76,24 +76,7 @@ one_of_three other others h = by (in_state three _ (schedule_body others) h)
     by : (entry : Entry) × Contains three.entries (schedule_key other, entry) × (body_of entry.op ≡ Some (schedule_body others))
         → IsOneOf (key_of 23537 80) permanent other others ⊎ (IsOneOf (key_of 23538 79) overlay other others ⊎ IsOneOf
         (key_of 23541 67) cancellation other others)
-    by found = first (Contains-cons _ (placed (key_of 23538 79) overlay ∷ placed (key_of 23541 67) cancellation ∷ []) _ found.1)
-      where
-        third : (placed (key_of 23541 67) cancellation ≡ (schedule_key other, found.0)) ⊎ Contains {X = Keyed} [] (schedule_key other, found.0)
-            → IsOneOf (key_of 23541 67) cancellation other others
-        third (inl e) = one_of (key_of 23541 67) _ cancellation _ found.0 e found.2
-        third (inr none) = absurd (nil-Contains _ none)
-
-        second : (placed (key_of 23538 79) overlay ≡ (schedule_key other, found.0)) ⊎ Contains (placed (key_of 23541 67) cancellation ∷ [])
-            (schedule_key other, found.0) → IsOneOf (key_of 23538 79) overlay other others ⊎ IsOneOf (key_of 23541 67) cancellation other others
-        second (inl e) = inl (one_of (key_of 23538 79) _ overlay _ found.0 e found.2)
-        second (inr rest) = inr (third (Contains-cons _ [] _ rest))
-
-        first : (placed (key_of 23537 80) permanent ≡ (schedule_key other, found.0))
-            ⊎ Contains (placed (key_of 23538 79) overlay ∷ placed (key_of 23541 67) cancellation ∷ []) (schedule_key other, found.0)
-            → IsOneOf (key_of 23537 80) permanent other others ⊎ (IsOneOf (key_of 23538 79) overlay other others ⊎ IsOneOf
-            (key_of 23541 67) cancellation other others)
-        first (inl e) = inl (one_of (key_of 23537 80) _ permanent _ found.0 e found.2)
-        first (inr rest) = inr (second (Contains-cons _ (placed (key_of 23541 67) cancellation ∷ []) _ rest))
+    by found = search (rules, placed, key_of, overlay, cancellation, one_of, permanent, nil-Contains)
 
 -- the cancellation doesn't apply on 11 June, since it is for 14 June
 cancelled_not : schedule_runs (first_record cancellation) 23538 ≡ false
@@ -113,13 +96,7 @@ overlay_chosen = record { running = overlay_runs; first = λ other others runnin
         (key_of 23541 67) cancellation other others) → IsAtMost schedule_choice_cmp (key_of 23538 79) other
     by other others running (inl e) = subst (λ k. IsAtMost schedule_choice_cmp (key_of 23538 79) k) e.0 (λ greater. cc)
     by other others running (inr (inl e)) = subst (λ k. IsAtMost schedule_choice_cmp (key_of 23538 79) k) e.0 (λ greater. cc)
-    by other others running (inr (inr e)) =
-        let runs : schedule_runs (first_record cancellation) 23538 ≡ true = subst (λ lines. schedule_runs (first_record lines) 23538 ≡ true)
-        (sym e.1) running.runs_then in
-        absurd (not_both (sym cancelled_not ∙ runs))
-      where
-        not_both : false ≡ true → ⊥
-        not_both h = cc
+    by other others running (inr (inr e)) = search (rules, cancellation, cancelled_not)
 
 -- the cancellation applies on 14 June
 cancellation_runs : IsRunning (live_table three) (codes "C10001") 23541 (key_of 23541 67) cancellation

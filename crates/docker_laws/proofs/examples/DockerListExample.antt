@@ -97,8 +97,7 @@ only_event_line : (line : DockerLine) → IsEventLine live (codes "ASHFELD") 235
 only_event_line line made =
     let same = only_running made.key.uid made.start made.key made.schedule made.train_runs.chosen.running in
     let among : Contains (events_of f2_schedule) made.event = subst (λ s. Contains (events_of s) made.event) (sym same.1) made.among in
-    let here : columns 3 9 (event_line f2_schedule made.event) ≡ codes "ASHFELD" = subst (λ s. columns 3 9 (event_line s made.event) ≡ codes "ASHFELD")
-    (sym same.1) made.here in
+    let here : columns 3 9 (event_line f2_schedule made.event) ≡ codes "ASHFELD" = search rules in
     let today : event_day made.start f2_schedule made.event ≡ 23537 = subst (λ s. event_day made.start s made.event ≡ 23537) (sym same.1) made.today in
     let told = starts_then made.start made.event among here today in
     (λ i. line_of_event (same.0 i) (sym told.1 i) (same.1 i) (told.0 i)) ∙ sym made.is

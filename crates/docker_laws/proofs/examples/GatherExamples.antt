@@ -57,16 +57,14 @@ day_before = refl
 -- rows in which the associated train is cancelled. The docker then shows `????` as the identity of
 -- this train
 abbrev cancelled : List Row
-cancelled = (
-  association_key (record { base = codes "C40001"; associated = codes "C40002"; start = 23537; location = codes "COLWELL"; suffix = 32; indicator = 80 }),
-  association_body link,
-)
+cancelled =
+    let cancelling : List ℕ = bs (codes "N") (codes "C40002") (codes "240611") (codes "240611") (codes "0100000") (codes "4D42") (codes "C") in (
+      association_key (record { base = codes "C40001"; associated = codes "C40002"; start = 23537; location = codes "COLWELL"; suffix = 32; indicator = 80 }),
+      association_body link,
+    )
     ∷ (schedule_key (record { uid = codes "C40001"; runs_from = 23537; indicator = 80 }), schedule_body base_lines)
     ∷ (schedule_key (record { uid = codes "C40002"; runs_from = 23538; indicator = 67 }), schedule_body (cancelling ∷ []))
     ∷ (schedule_key (record { uid = codes "C40002"; runs_from = 23538; indicator = 80 }), schedule_body next_lines) ∷ []
-  where
-    cancelling : List ℕ
-    cancelling = bs (codes "N") (codes "C40002") (codes "240611") (codes "240611") (codes "0100000") (codes "4D42") (codes "C")
 
 partner_cancelled : map line_text (gathered (train_in cancelled) (link_in cancelled) (codes "COLWELL") 23537 cancelled)
     ≡ codes "2350  N 4D40 C40001 P   1                C40002  ????   " ∷ codes "2350  A 4D40 C40001 P   1                ASHFELD COLWELL" ∷ []

@@ -1,6 +1,6 @@
 -- Worked examples of the changes that are kept for COLWELL and a day, and of four wrong thinnings.
 -- Each of the wrong thinnings keeps too few changes or records.
-use Rattle.std.proofs.Common.{length-append, ◌≡◌, ℕ, ◌≤◌, List, [], ◌∷◌, refl, inl, inr, ◌⊎◌, rules}
+use Rattle.std.proofs.Common.{length-append, ◌≡◌, ℕ, ◌≤◌, List, [], ◌∷◌, refl, inl, inr, rules}
 use Rattle.std.proofs.Common.{Some, None, arith, lit<, ap, sym, ◌∙◌, subst, Bool, true, false, cond}
 use Rattle.std.specs.Prelude.{codes, ◌↔◌, ◌&&◌, nat_le}
 use Rattle.std.specs.declared.cmp.Ordering.TheVariants.{Greater}
@@ -120,12 +120,17 @@ differ : (whole wrong : Table) (day : ℕ) (line : DockerLine) → IsEventLine w
     → ¬ ((lines : List DockerLine) → IsDockerList whole place day lines ↔ IsDockerList wrong place day lines)
 differ whole wrong day line has no_event no_association same = nil-Contains line (((((same []).0 nothing).members line).1 (inl has)))
   where
-    none : (other : DockerLine) → IsEventLine whole place day other ⊎ IsAssociationLine whole place day other → ⊥
-    none other (inl event) = no_event other event
-    none other (inr association) = no_association other association
-
     nothing : IsDockerList whole place day []
-    nothing = record { ascending = tt; members = λ other. (λ among. absurd (nil-Contains other among), λ told. absurd (none other told)) }
+    nothing = record {
+      ascending = tt;
+      members = λ other. (
+        λ among. absurd (nil-Contains other among),
+        λ told. absurd (elim told [
+          | inl event ↦ no_event other event
+          | inr association ↦ no_association other association
+        ]),
+      );
+    }
 
 -- a change that puts a schedule
 abbrev put_schedule : ℕ → ScheduleKey → List (List ℕ) → Change
@@ -160,14 +165,7 @@ stops_line start runs today = record {
   start = start;
   key = stops_key;
   schedule = stops;
-  train_runs = record {
-    chosen = record {
-      running = record { uid_is = refl; is_live = refl; runs_then = runs };
-      first = λ other others running.
-          subst (λ (k : ScheduleKey). IsAtMost schedule_choice_cmp stops_key k) (only_stops other others running.is_live) (λ greater. cc);
-    };
-    no_cancellation = λ cancelled. omega arith;
-  };
+  train_runs = search (rules, stops_key, only_stops);
   event = arrives;
   among = (1, lit< tt, refl);
   here = refl;
@@ -253,8 +251,7 @@ not_by_stops : (uid : List ℕ) (start : ℕ) (key : ScheduleKey) (lines : List 
     → ¬ TrainRuns (table_of overlaid) uid start key lines
 not_by_stops uid start key lines same day runs =
     let uid_is : codes "C40001" ≡ uid = ap (λ (k : ScheduleKey). k.uid) same ∙ runs.chosen.running.uid_is in
-    let running : IsRunning (table_of overlaid) uid start short_key way_round = subst (λ u. IsRunning (table_of overlaid) u start short_key way_round) uid_is
-    (subst (λ d. IsRunning (table_of overlaid) (codes "C40001") d short_key way_round) (sym day) overlay_runs) in
+    let running : IsRunning (table_of overlaid) uid start short_key way_round = search (rules, overlaid, short_key, way_round, overlay_runs) in
     runs.chosen.first short_key way_round running (subst (λ (k : ScheduleKey). schedule_choice_cmp k short_key ≡ Greater) same refl)
 
 no_falls_of_stops : midnights stops ≡ 0
@@ -265,11 +262,7 @@ no_arrival_then : (line : DockerLine) → ¬ IsEventLine (table_of overlaid) pla
 no_arrival_then line is = by (is_eq (schedule_key_cmp short_key is.key)) (is_eq (schedule_key_cmp stops_key is.key)) refl is.train_runs.chosen.running.is_live
   where
     started : stops ≡ is.schedule → is.start ≡ 23538
-    started same =
-        let front = falls_below is.schedule is.event.number in
-        let few : midnights is.schedule ≡ 0 = ap midnights (sym same) ∙ no_falls_of_stops in
-        let today = is.today in
-        omega arith
+    started same = search (rules, falls_below, no_falls_of_stops)
 
     by : (b c : Bool) → is_eq (schedule_key_cmp stops_key is.key) ≡ c
         → cond b (Some (schedule_body way_round)) (cond c (Some (schedule_body stops)) None) ≡ Some (schedule_body is.schedule) → ⊥

@@ -11,7 +11,7 @@ use Rattle.docker_model.specs.file.File.{IsFile, most_records}
 use Rattle.docker_model.specs.file.Text.{lines_of}
 use Rattle.docker_model.specs.file.FileFault.{IsFileText}
 use Rattle.docker_model.specs.state.StateText.{Format, IsHorizonOf}
-use Rattle.docker_model.specs.run.Run.{RunEvent, take_file, send_state, deliver, reload, horizon_event, Reply, done, refused, no_office, Known, KnownSets}
+use Rattle.docker_model.specs.run.Run.{RunEvent, take_file, send_state, deliver, reload, horizon_event, Reply, done, refused, Known, KnownSets}
 use Rattle.docker_model.specs.run.Run.{nothing, united, office_known, message_known, after_done, after_reply, none_known, known_sets, IsReply, AreReplies}
 use Rattle.docker_model.specs.run.Knowledge.{AreFiles, IsGoodKnown, IsGoodEvent}
 use Rattle.state_laws.proofs.states.Lapse.{max_most}
@@ -85,14 +85,8 @@ module _ (format : Format) where
   good_done known (take_file office text limit) good low reply = by (nat_lt office (length known.offices)) refl
     where
       by : (b : Bool) → nat_lt office (length known.offices) ≡ b → AllGood format (after_done known (take_file office text limit))
-      by true h = (
-        with_good known office (united (record { files = lines_of text ∷ []; horizon = 0 }) (office_known known office)) good
-            (united_good format (record { files = lines_of text ∷ []; horizon = 0 }) (office_known known office)
-            (file_good format text limit low (reply.there (ltb-true _ _ h))) (office_good known office good)),
-        good.1,
-      )
-      by false h =
-          let high = ltb-false office (length known.offices) h in let bad : done ≡ refused no_office = reply.absent (λ there. omega arith) in absurd (cc)
+      by true h = search (rules, with_good, united_good, file_good, ltb-true, office_good, reply.there, good.1)
+      by false h = search (rules, ltb-false, known.offices, reply.absent)
   good_done known (send_state office) good event reply =
       (good.0, All-push (IsGoodKnown format) known.messages (office_known known office) good.1 (office_good known office good))
   good_done known (deliver office message) good event reply = search (rules, with_good, united_good, message_good, office_good)

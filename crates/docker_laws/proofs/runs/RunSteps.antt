@@ -59,15 +59,7 @@ module _ (format : Format) (known : KnownSets) (states : List State) (messages :
       (message_text messages message) state
   message_reads message there short =
       let made = message_is _ there in
-      let counts = counts_fit _ _ (subst (λ text. length text < 2 ^ 64) made.2 short) in (
-        made.0,
-        made.1,
-        record {
-          valid = (summary_told _ _ _ (message_good _ there) made.1, counts.0, counts.1);
-          is = made.2;
-          within = omega arith;
-        },
-      )
+      let counts = counts_fit _ _ (subst (λ text. length text < 2 ^ 64) made.2 short) in search (rules, summary_told, message_good)
 
   -- the state that is read from a message is the summary of the files that the message's sender
   -- knew

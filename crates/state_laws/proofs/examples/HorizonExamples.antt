@@ -1,5 +1,5 @@
 -- Worked examples of horizons, and of the texts of states in the format with a horizon.
-use Rattle.std.proofs.Common.{◌≡◌, ℕ, ◌≤◌, List, [], ◌∷◌, ◌++◌, length, take, drop, refl, inl, inr, lit≤, lit<, arith, ap}
+use Rattle.std.proofs.Common.{◌≡◌, ℕ, ◌≤◌, List, [], ◌∷◌, ◌++◌, length, take, drop, refl, inl, inr, lit≤, lit<, arith, ap, rules}
 use Rattle.std.specs.Prelude.{codes, slice_index}
 use Rattle.std.proofs.lemmas.List.Elements.{All-from_recursion}
 use Rattle.jiff_core.specs.Calendar.{days_from_civil, day_count, days_of_years, days_of_months}
@@ -7,9 +7,9 @@ use Rattle.docker_model.specs.records.Date.{IsDay}
 use Rattle.docker_model.specs.file.Change.{Key, schedule_key, ScheduleKey, schedule_body, tiploc_body}
 use Rattle.docker_model.specs.state.Order.{IsBelow}
 use Rattle.docker_model.specs.state.Op.{key_cmp, body_end, lapsed, put_with, Entry}
-use Rattle.docker_model.specs.state.Lapse.{lapse, HasNotToLapse, IsDayRefused}
-use Rattle.docker_model.specs.state.State.{State, IsGoodEntry, raise_horizon}
-use Rattle.docker_model.specs.state.StateText.{dks_1, dks_2, state_text, IsToldState, IsOpByte, TellsOp}
+use Rattle.docker_model.specs.state.Lapse.{lapse, IsDayRefused}
+use Rattle.docker_model.specs.state.State.{State, raise_horizon}
+use Rattle.docker_model.specs.state.StateText.{dks_1, dks_2, state_text, IsToldState, IsOpByte}
 use Rattle.docker_model.specs.state.StatePart.{before_op, before_line, IsStampHere, before_mark, before_horizon, in_entry}
 use Rattle.docker_model.specs.state.StateFault.{IsStateFault, IsStateText, bad_mark, bad_horizon, bad_body, too_short, has_tail}
 use Rattle.cif_laws.proofs.records.Builders.{f2_basic, f2_schedule}
@@ -111,12 +111,9 @@ high_horizon = inl (record {
   whole = refl;
   size = refl;
   below_limit = lit≤ tt;
-  bad = (refl, too_high);
+  bad = (refl, λ low. omega arith);
   item_at = refl;
 })
-  where
-    too_high : ¬ IsDay 36525
-    too_high low = omega arith
 
 -- a text that ends after five bytes, within the horizon, has the fault `too_short`
 cut_in_horizon : IsStateFault dks_2 1000 (take 5 text) (record { at = 4; cause = too_short })
@@ -126,16 +123,7 @@ cut_in_horizon =
 -- the example state without its entry can be written in the format DKS2, whichever day is the
 -- horizon
 told_without : (horizon : ℕ) → IsDay horizon → IsToldState dks_2 (state_with horizon [])
-told_without horizon day = record {
-  valid = record {
-    horizon = day;
-    ledger = plain.good_ledger;
-    entries = (All-from_recursion (IsGoodEntry (f2_item ∷ [])) [] tt, tt);
-    have_lapsed = All-from_recursion (λ (entry : Key × Entry). HasNotToLapse horizon entry.1.op) [] tt;
-  };
-  horizon = day;
-  ops = All-from_recursion (λ (entry : Key × Entry). TellsOp dks_2 entry.1.op) [] tt;
-}
+told_without horizon day = search (rules, plain.good_ledger)
 
 stamp_here : (horizon : ℕ) → IsStampHere (state_with horizon []) (schedule_key f2_key) (record { file = f2_item.stamp; number = 2 })
 stamp_here horizon = ((plain.good_entry.key, All-from_recursion (λ entry. IsBelow key_cmp entry.0 (schedule_key f2_key)) [] tt), plain.good_entry.stamp)
@@ -174,22 +162,7 @@ op_two = inr (inr (inr (record {
 })))
   where
     told : IsToldState dks_2 (state_with 0 (lapsed_entry ∷ []))
-    told = record {
-      valid = record {
-        horizon = lit≤ tt;
-        ledger = plain.good_ledger;
-        entries = (
-          All-from_recursion (IsGoodEntry (f2_item ∷ [])) (lapsed_entry ∷ []) (
-            record { key = plain.good_entry.key; stamp = plain.good_entry.stamp; op = tt },
-            tt,
-          ),
-          (tt, tt),
-        );
-        have_lapsed = All-from_recursion (λ (entry : Key × Entry). HasNotToLapse 0 entry.1.op) (lapsed_entry ∷ []) (tt, tt);
-      };
-      horizon = lit≤ tt;
-      ops = All-from_recursion (λ (entry : Key × Entry). TellsOp dks_2 entry.1.op) (lapsed_entry ∷ []) (tt, tt);
-    }
+    told = search (rules, plain.good_ledger)
 
 -- the end of a schedule's body depends only on the schedule's first record
 end_of_line : body_end (schedule_body (f2_basic ∷ [])) ≡ 23541
@@ -220,17 +193,4 @@ last_day_is_read : IsStateText dks_2 311 (take 4 text ++ 0x5b ∷ 0xf5 ∷ drop 
 last_day_is_read = record { valid = (told, lit< tt, lit< tt); is = refl; within = lit≤ tt }
   where
     told : IsToldState dks_2 last_day_state
-    told = record {
-      valid = record {
-        horizon = lit≤ tt;
-        ledger = plain.good_ledger;
-        entries = (
-          All-from_recursion (IsGoodEntry (f2_item ∷ [])) f2_state.entries
-              (record { key = plain.good_entry.key; stamp = plain.good_entry.stamp; op = plain.good_entry.op }, tt),
-          (tt, tt),
-        );
-        have_lapsed = All-from_recursion (λ (entry : Key × Entry). HasNotToLapse 23541 entry.1.op) f2_state.entries (lives_on_last_day, tt);
-      };
-      horizon = lit≤ tt;
-      ops = All-from_recursion (λ (entry : Key × Entry). TellsOp dks_2 entry.1.op) f2_state.entries (tt, tt);
-    }
+    told = search (rules, lives_on_last_day, plain.good_ledger, plain.good_entry.op)

@@ -144,13 +144,7 @@ op_two = inl (record {
 too_long_by_one : IsStateFault dks_1 308 text (record { at = 308; cause = too_long })
 too_long_by_one = inr (inl (record {
   before = in_entry 1 without_entry (before_line f2_key (record { file = f2_item.stamp; number = 2 }) 3 (f2_basic ∷ f2_origin ∷ []));
-  good = (
-    told_without,
-    lit< tt,
-    lit< tt,
-    lit< tt,
-    (stamp_here, (lit< tt, lit< tt), lit< tt, inr ((record { begin = (f2_terminus ∷ [], f2_is_schedule); new = refl; key_is = key_of_f2 }, omega arith))),
-  );
+  good = search (rules, told_without, f2_is_schedule, key_of_f2);
   rest = f2_terminus;
   whole = refl;
   reaches = lit≤ tt;

@@ -74,10 +74,7 @@ only_entry : (key : Key) (entry : Entry) (made : IsEntryOf (f2 ∷ []) None key 
 only_entry key entry made =
     let file_is : f2 ≡ made.file = Contains-single _ _ made.kept.among in
     let among : Contains (changes f2) made.change = subst (λ file. Contains (changes file) made.change) (sym file_is) made.among in
-    let change_is : f2_change ≡ made.change = Contains-single _ _ among in (
-      sym key_of_f2 ∙ ap (λ (change : Change). change.key) change_is ∙ made.key_is,
-      sym entry_is ∙ (λ i. entry_of (file_is i) (change_is i)) ∙ made.entry_is,
-    )
+    let change_is : f2_change ≡ made.change = Contains-single _ _ among in search (rules, key_of_f2, entry_is)
 
 not_above : (other : Entry) → IsEntryOf (f2 ∷ []) None (schedule_key f2_key) other → ¬ (entry_cmp other f2_entry ≡ Greater)
 not_above other made greater =

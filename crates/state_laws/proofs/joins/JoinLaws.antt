@@ -1,6 +1,6 @@
 -- The join is commutative, associative and, for valid states, idempotent. Two states have at most
 -- one join.
-use Rattle.std.proofs.Common.{◌++◌, ◌≡◌, ◌∙◌, sym, ◌≤◌, subst, ℕ, arith, ap, List, Contains, inl, inr, ◌⊎◌, Some, None, rules}
+use Rattle.std.proofs.Common.{◌++◌, ◌≡◌, ◌∙◌, sym, ◌≤◌, subst, arith, List, Contains, inl, inr, Some, None, rules}
 use Rattle.std.specs.Prelude.{max, Option}
 use Rattle.std.proofs.Math.Nat.{max_comm, le-max_left, le-max_right, max-eq_left}
 use Rattle.std.proofs.lemmas.List.Elements.{Contains-append_cases, Contains-append_left}
@@ -8,12 +8,11 @@ use Rattle.docker_model.specs.file.Change.{Key}
 use Rattle.docker_model.specs.state.Order.{IsAtMost}
 use Rattle.docker_model.specs.state.Stamp.{FileStamp, LedgerItem, IsFloor, IsKept}
 use Rattle.docker_model.specs.state.Op.{Entry, entry_cmp}
-use Rattle.docker_model.specs.state.Lapse.{lapse_entry, HasNotToLapse}
+use Rattle.docker_model.specs.state.Lapse.{lapse_entry}
 use Rattle.docker_model.specs.state.State.{State, IsJoin, IsValid, IsGoodEntry}
 use Rattle.cif_laws.proofs.lists.Membership.{same_members_turned, same_members_rotated, Contains-map, member_of}
 use Rattle.cif_laws.proofs.orders.AtMost.{at_most_itself}
 use Rattle.cif_laws.proofs.orders.Orders.{entry_total}
-use Rattle.state_laws.proofs.states.Lapse.{entry_stays}
 use Rattle.state_laws.proofs.states.PlainTable.{one_per_key}
 use Rattle.state_laws.proofs.states.ReducedEntries.{IsReduced, reduced_twice}
 use Rattle.state_laws.proofs.states.ReducedMembers.{reduced_along, reduced_unique}
@@ -31,9 +30,7 @@ reduced_join = search rules
 
 -- the join is commutative
 pub join_commutes : (a b c : State) → IsJoin a b c → IsJoin b a c
-join_commutes a b c is = reduced_join _ a _ (is.horizon ∙ max_comm a.horizon b.horizon)
-    (reduced_along (a.ledger ++ b.ledger) _ (a.entries ++ b.entries) _ (same_members_turned a.ledger _)
-    (same_members_turned a.entries _) c (join_reduced _ b _ is))
+join_commutes a b c is = search (rules, reduced_join, max_comm, reduced_along, same_members_turned, join_reduced)
 
 -- two states have at most one join
 pub join_unique : (a b c d : State) → IsJoin a b c → IsJoin a b d → c ≡ d
@@ -49,9 +46,6 @@ horizon_left a b c is = subst (λ h. a.horizon ≤ h) (sym is.horizon) (le-max_l
 pub horizon_right : (a b c : State) → IsJoin a b c → b.horizon ≤ c.horizon
 horizon_right a b c is = subst (λ h. b.horizon ≤ h) (sym is.horizon) (le-max_right a.horizon b.horizon)
 
-max_rotates : (a b c : ℕ) → max (max a b) c ≡ max (max b c) a
-max_rotates = omega arith
-
 -- the join is associative
 pub join_associates : (a b c ab bc x y : State) → IsJoin a b ab → IsJoin ab c x → IsJoin b c bc → IsJoin a bc y → x ≡ y
 join_associates a b c ab bc x y is_ab is_x is_bc is_y =
@@ -59,20 +53,13 @@ join_associates a b c ab bc x y is_ab is_x is_bc is_y =
     let left = reduced_twice (a.ledger ++ b.ledger) _ (a.entries ++ b.entries) _ ab _ (join_reduced a _ ab is_ab) (join_reduced _ c _ is_x)
     (horizon_left ab _ x is_x) in
     let right = reduced_twice _ a.ledger _ a.entries _ y (join_reduced _ c _ is_bc) (join_reduced bc _ y turn) (horizon_left _ a _ turn) in
-    let horizons : x.horizon ≡ y.horizon =
-    is_x.horizon ∙ ap (λ h. max h c.horizon) is_ab.horizon ∙ max_rotates a.horizon _ c.horizon ∙ ap (λ h. max h a.horizon) (sym is_bc.horizon)
-    ∙ sym turn.horizon in
-    reduced_unique _ ((b.entries ++ c.entries) ++ a.entries) _ y horizons (reduced_along _ ((b.ledger ++ c.ledger) ++ a.ledger) _
-    ((b.entries ++ c.entries) ++ a.entries) (same_members_rotated _ b.ledger _) (same_members_rotated a.entries _ c.entries) _ left) right
+    let horizons : x.horizon ≡ y.horizon = search rules in
+    search (rules, reduced_unique, reduced_along, same_members_rotated)
 
 -- ---- the join of a valid state with itself is the same state
 
 one_of_two : {A : Type 0} (xs : List A) (x : A) → Contains (xs ++ xs) x → Contains xs x
-one_of_two xs x among = by (Contains-append_cases xs xs x among)
-  where
-    by : Contains xs x ⊎ Contains xs x → Contains xs x
-    by (inl here) = here
-    by (inr here) = here
+one_of_two xs x among = elim (Contains-append_cases xs xs x among) [ inl here ↦ here | inr here ↦ here ]
 
 -- the join is idempotent for valid states
 pub join_idempotent : (a : State) → IsValid a → IsJoin a a a
@@ -105,8 +92,7 @@ join_idempotent a valid = record {
 }
   where
     stays : (key : Key) (entry : Entry) → Contains a.entries (key, entry) → lapse_entry a.horizon entry ≡ entry
-    stays key entry among =
-        entry_stays a.horizon entry (member_of (λ (pair : Key × Entry). HasNotToLapse a.horizon pair.1.op) a.entries (key, entry) valid.have_lapsed among)
+    stays key entry among = search rules
 
     doubled : (floor : Option FileStamp) → IsFloor a.ledger floor → IsFloor (a.ledger ++ a.ledger) floor
     doubled None none = λ item among. none item (one_of_two a.ledger item among)

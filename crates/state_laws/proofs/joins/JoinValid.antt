@@ -1,6 +1,6 @@
 -- The join of valid states is valid. A valid state is still valid after its horizon is raised. The
 -- floor of a valid state's ledger is the file stamp of its first full extract.
-use Rattle.std.proofs.Common.{List, Contains, subst, sym, Some, None, map, inl, inr, ◌⊎◌, ℕ, ◌<◌, ◌≤◌, rules}
+use Rattle.std.proofs.Common.{List, Contains, subst, sym, Some, None, map, inl, inr, ◌⊎◌, ℕ, rules}
 use Rattle.std.proofs.Common.{◌++◌, ap, ◌≡◌, [], ◌∷◌, refl, ◌∙◌, Bool, true, false, cond, eqb-true, All}
 use Rattle.std.specs.Prelude.{Option, max, option_map, find, ◌==◌}
 use Rattle.std.proofs.lemmas.List.Elements.{All-contains, Contains-append_left, Contains-append_right, Contains-append_cases}
@@ -8,7 +8,7 @@ use Rattle.docker_model.specs.records.Date.{IsDay, last_day}
 use Rattle.docker_model.specs.file.Change.{Key}
 use Rattle.docker_model.specs.state.Order.{IsAtMost}
 use Rattle.docker_model.specs.state.Stamp.{FileStamp, LedgerItem, file_stamp_cmp, IsFloor, IsKept, IsFull}
-use Rattle.docker_model.specs.state.Op.{body_end, Op, deleted, lapsed, put_with, Entry}
+use Rattle.docker_model.specs.state.Op.{Op, deleted, lapsed, put_with, Entry}
 use Rattle.docker_model.specs.state.Lapse.{lapse, lapse_entry, HasNotToLapse, lapse_entries}
 use Rattle.docker_model.specs.state.State.{IsOpOf, IsGoodEntry, State, IsJoin, IsValid, IsGoodItem, lapse_state, raise_horizon}
 use Rattle.cif_laws.proofs.orders.Orders.{file_stamp_total, exact_file_stamp}
@@ -16,7 +16,7 @@ use Rattle.cif_laws.proofs.lists.Membership.{Contains-map, map-Contains, all_mem
 use Rattle.cif_laws.proofs.lists.Membership.{cons-Contains, cons-Contains-first, nil-Contains}
 use Rattle.cif_laws.proofs.orders.AtMost.{at_most_itself, level}
 use Rattle.state_laws.proofs.states.OneJoin.{floor_unique}
-use Rattle.state_laws.proofs.states.Lapse.{below_or, put_lapses, put_stays, has_lapsed, max_most}
+use Rattle.state_laws.proofs.states.Lapse.{has_lapsed, max_most}
 use Rattle.state_laws.proofs.states.LapsedGreatest.{lapsed_from}
 use Rattle.state_laws.proofs.states.KeptEntries.{lapse_ascends}
 
@@ -43,11 +43,7 @@ stamp_stays ledger joined floor to stamp kept among =
 op_lapses : (horizon : ℕ) (key : Key) (op : Op) → IsOpOf key op → IsOpOf key (lapse horizon op)
 op_lapses horizon key deleted good = tt
 op_lapses horizon key lapsed good = tt
-op_lapses horizon key (put_with body) good = by (below_or horizon body)
-  where
-    by : (body_end body < horizon) ⊎ (horizon ≤ body_end body) → IsOpOf key (lapse horizon (put_with body))
-    by (inl below) = subst (IsOpOf key) (sym (put_lapses horizon body below)) tt
-    by (inr above) = subst (IsOpOf key) (sym (put_stays horizon body above)) good
+op_lapses horizon key (put_with body) good = search rules
 
 -- after lapsing, a good entry is still good
 pub good_lapses : (horizon : ℕ) (ledger : List LedgerItem) (key : Key) (entry : Entry) → IsGoodEntry ledger (key, entry)
@@ -59,7 +55,10 @@ pub join_is_valid : (first second joined : State) → IsValid first → IsValid 
 join_is_valid first second joined one two is = record {
   horizon = subst IsDay (sym is.horizon) (max_most _ second.horizon _ one.horizon two.horizon);
   ledger = record {
-    each = all_members IsGoodItem _ (λ item among. item_is item (Contains-append_cases first.ledger second.ledger item ((is.ledger item).0 among).0));
+    each = all_members IsGoodItem _ (λ item among. elim (Contains-append_cases first.ledger second.ledger item ((is.ledger item).0 among).0) [
+      | inl here ↦ All-contains IsGoodItem first.ledger item one.ledger.each here
+      | inr here ↦ All-contains IsGoodItem second.ledger item two.ledger.each here
+    ]);
     ascending = is.ledger_ascends;
     floor = is.floor;
     is_floor = kept_floor (first.ledger ++ second.ledger) _ is.floor is.is_floor (λ item among. ((is.ledger item).0 among).0)
@@ -78,10 +77,6 @@ join_is_valid first second joined one two is = record {
       subst (HasNotToLapse joined.horizon) (ap (λ (e : Entry). e.op) told.3) (has_lapsed _ told.0.op));
 }
   where
-    item_is : (item : LedgerItem) → Contains first.ledger item ⊎ Contains second.ledger item → IsGoodItem item
-    item_is item (inl here) = All-contains IsGoodItem first.ledger item one.ledger.each here
-    item_is item (inr here) = All-contains IsGoodItem second.ledger item two.ledger.each here
-
     moved : (ledger : List LedgerItem) → ((item : LedgerItem) → Contains ledger item → IsKept is.floor item.stamp → Contains joined.ledger item)
         → (entry : Key × Entry) → IsKept is.floor entry.1.stamp.file → IsGoodEntry ledger entry → IsGoodEntry joined.ledger entry
     moved ledger to entry kept good = record {
@@ -149,11 +144,10 @@ first_full_is (head ∷ ledger) = by (head.indicator == 70) refl (find (λ (item
     by : (b : Bool) → (head.indicator == 70) ≡ b → (found : Option LedgerItem) → FirstFull ledger (option_map (λ (item : LedgerItem). item.stamp) found)
         → FirstFull (head ∷ ledger) (option_map (λ (item : LedgerItem). item.stamp) (cond b (Some head) found))
     by true h found rest = (head, cons-Contains-first head ledger, eqb-true _ _ h, refl)
-    by false h None none = λ item among full. step item full (Contains-cons head ledger item among)
-      where
-        step : (item : LedgerItem) → IsFull item → (head ≡ item) ⊎ Contains ledger item → ⊥
-        step item full (inl same) = let bad : false ≡ true = sym h ∙ (λ i. (same i).indicator == 70) ∙ (λ i. full i == 70) in cc
-        step item full (inr inside) = none item inside full
+    by false h None none = λ item among full. elim (Contains-cons head ledger item among) [
+      | inl same ↦ let bad : false ≡ true = sym h ∙ (λ i. (same i).indicator == 70) ∙ (λ i. full i == 70) in cc
+      | inr inside ↦ none item inside full
+    ]
     by false h (Some item) rest = (rest.0, cons-Contains head ledger rest.0 rest.1, rest.2, rest.3)
 
 -- the floor of a valid state's ledger is the file stamp of its first full extract

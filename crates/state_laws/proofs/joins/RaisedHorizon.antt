@@ -39,7 +39,7 @@ set_last = search (rules, zero-max, lapsed_already)
 -- the join of `a` with the whole state `b`
 pub join_then_set : (a b c : State) → IsJoin a (without_horizon b) c → IsJoin a b (raise_horizon b.horizon c)
 join_then_set a b c is = record {
-  horizon = horizons;
+  horizon = ap (λ h. max h b.horizon) (is.horizon ∙ max-zero a.horizon);
   floor = is.floor;
   is_floor = is.is_floor;
   ledger_ascends = is.ledger_ascends;
@@ -52,14 +52,10 @@ join_then_set a b c is = record {
         (told.0, told.1, told.2, sym (twofold told.0) ∙ ap (lapse_entry (max c.horizon b.horizon)) told.3 ∙ before.2),
     λ told.
         let there = (is.entries key (lapse_entry c.horizon told.0)).1 (told.0, told.1, told.2, λ i. lapse_entry c.horizon told.0) in
-        subst (λ e. Contains (raise_horizon b.horizon c).entries (key, e)) (twofold told.0 ∙ told.3) (lapsed_to _ c.entries _
-        (lapse_entry c.horizon told.0) there),
+        subst (λ e. Contains (raise_horizon b.horizon c).entries (key, e)) (twofold told.0 ∙ told.3) (search (rules, lapsed_to)),
   );
 }
   where
-    horizons : max c.horizon b.horizon ≡ max a.horizon b.horizon
-    horizons = ap (λ h. max h b.horizon) (is.horizon ∙ max-zero a.horizon)
-
     twofold : (entry : Entry) → lapse_entry (max c.horizon b.horizon) (lapse_entry c.horizon entry) ≡ lapse_entry (max c.horizon b.horizon) entry
     twofold entry = entry_twice _ c.horizon _ ∙ ap (λ h. lapse_entry h entry) (max-eq_left (le-max_left c.horizon b.horizon))
 

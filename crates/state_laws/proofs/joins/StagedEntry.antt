@@ -1,6 +1,6 @@
 -- When one more entry is offered for staging, it is staged or left out. The first lemmas are about
 -- the entry that a state has at a key.
-use Rattle.std.proofs.Common.{◌≡◌, List, [], ◌∷◌, ◌++◌, refl, ap, sym, ◌∙◌, subst, inl, inr, ◌⊎◌, Some, None, Contains, arith, rules}
+use Rattle.std.proofs.Common.{◌≡◌, List, [], ◌∷◌, ◌++◌, refl, ap, sym, ◌∙◌, subst, inl, inr, Some, None, Contains, arith, rules}
 use Rattle.std.specs.Prelude.{Option, ◌↔◌, option_and_then}
 use Rattle.std.specs.declared.cmp.Ordering.TheVariants.{Less}
 use Rattle.std.proofs.lemmas.List.Elements.{Contains-append_left, Contains-append_right, Contains-append_cases}
@@ -13,9 +13,9 @@ use Rattle.state_laws.specs.LawTerms.{without_horizon}
 use Rattle.state_laws.specs.Staging.{IsGreaterThan, IsToStage, IsStaged, IsCommit}
 use Rattle.cif_laws.proofs.lists.BoolsAndOptions.{none_some}
 use Rattle.cif_laws.proofs.lists.Membership.{nil-Contains, Contains-single}
-use Rattle.cif_laws.proofs.orders.Ascending.{irreflexive, later_of, ascending_of}
+use Rattle.cif_laws.proofs.orders.Ascending.{irreflexive, ascending_of}
 use Rattle.cif_laws.proofs.orders.Orders.{entry_total}
-use Rattle.state_laws.proofs.states.PlainTable.{Keyed, Found, NotFound, find_in, one_per_key}
+use Rattle.state_laws.proofs.states.PlainTable.{Keyed, find_in, one_per_key}
 use Rattle.state_laws.proofs.joins.JoinValid.{join_is_valid}
 use Rattle.state_laws.proofs.joins.RaisedHorizon.{join_then_set, none_to_lapse}
 use Rattle.state_laws.proofs.states.OneJoin.{floor_unique}
@@ -31,19 +31,18 @@ Some_is a b h = cc
 -- key with this entry
 pub entry_at_iff : (state : State) → AreAscending state.entries → (key : Key) (entry : Entry) → (entry_at state key ≡ Some entry) ↔ Contains state.entries
     (key, entry)
-entry_at_iff state up key entry = by (find_in _ _)
-  where
-    by : Found state.entries key ⊎ NotFound state.entries key → (entry_at state key ≡ Some entry) ↔ Contains state.entries (key, entry)
-    by (inl (pair, found, here)) =
-        let at : entry_at state key ≡ Some pair.1 = ap (option_and_then (λ (e : Keyed). Some e.1)) found in (
-          λ is. subst (λ e. Contains state.entries (key, e)) (Some_is _ _ (sym at ∙ is)) here,
-          λ among. at ∙ ap Some (one_per_key _ up _ _ _ here among),
-        )
-    by (inr (missing, none)) =
-        let at : entry_at state key ≡ None = ap (option_and_then (λ (e : Keyed). Some e.1)) missing in (
-          λ is. none_some _ (sym at ∙ is),
-          λ among. absurd (none entry among),
-        )
+entry_at_iff state up key entry = elim (find_in _ _) [
+  | inl (pair, found, here) ↦
+      let at : entry_at state key ≡ Some pair.1 = ap (option_and_then (λ (e : Keyed). Some e.1)) found in (
+        λ is. subst (λ e. Contains state.entries (key, e)) (Some_is _ _ (sym at ∙ is)) here,
+        λ among. at ∙ ap Some (one_per_key _ up _ _ _ here among),
+      )
+  | inr (missing, none) ↦
+      let at : entry_at state key ≡ None = ap (option_and_then (λ (e : Keyed). Some e.1)) missing in (
+        λ is. none_some _ (sym at ∙ is),
+        λ among. absurd (none entry among),
+      )
+]
 
 -- an offered entry is to be staged if and only if it isn't below the floor, and the state has no
 -- equal or greater entry for the same key
@@ -76,26 +75,21 @@ module _ (own : State) (floor : Option FileStamp) (offered staged : List (Key ×
   pub one_staged_more : ((other : Key × Entry) → Contains staged other → key_cmp other.0 key ≡ Less) → IsToStage own floor key entry
       → IsStaged own floor (offered ++ (key, entry) ∷ []) (staged ++ (key, entry) ∷ [])
   one_staged_more above to = record {
-    ascending = ascending_of _ _ (later_append _ _ _ (later_of _ _ stages.ascending) (tt, tt)
-        (λ a b in_a in_b. subst (λ (e : Key × Entry). key_cmp a.0 e.0 ≡ Less) (Contains-single _ _ in_b) (above a in_a)));
+    ascending = search (rules, ascending_of, later_append);
     members = λ k e. (
-      λ among. forth k e (Contains-append_cases staged ((key, entry) ∷ []) (k, e) among),
-      λ told. back k e told.1 (Contains-append_cases offered ((key, entry) ∷ []) (k, e) told.0),
+      λ among. elim (Contains-append_cases staged ((key, entry) ∷ []) (k, e) among) [
+        | inl here ↦ let told = (stages.members k e).0 here in (Contains-append_left offered ((key, entry) ∷ []) (k, e) told.0, told.1)
+        | inr here ↦ (
+          Contains-append_right offered ((key, entry) ∷ []) (k, e) here,
+          subst (λ (v : Key × Entry). IsToStage own floor v.0 v.1) (Contains-single _ _ here) to,
+        )
+      ],
+      λ told. elim (Contains-append_cases offered ((key, entry) ∷ []) (k, e) told.0) [
+        | inl here ↦ Contains-append_left staged ((key, entry) ∷ []) (k, e) ((stages.members k e).1 (here, told.1))
+        | inr here ↦ Contains-append_right staged ((key, entry) ∷ []) (k, e) here
+      ],
     );
   }
-    where
-      forth : (k : Key) (e : Entry) → Contains staged (k, e) ⊎ Contains {X = Key × Entry} ((key, entry) ∷ []) (k, e) → Contains (offered ++ (key, entry) ∷ [])
-          (k, e) × IsToStage own floor k e
-      forth k e (inl here) = let told = (stages.members k e).0 here in (Contains-append_left offered ((key, entry) ∷ []) (k, e) told.0, told.1)
-      forth k e (inr here) = (
-        Contains-append_right offered ((key, entry) ∷ []) (k, e) here,
-        subst (λ (v : Key × Entry). IsToStage own floor v.0 v.1) (Contains-single _ _ here) to,
-      )
-
-      back : (k : Key) (e : Entry) → IsToStage own floor k e → Contains offered (k, e) ⊎ Contains {X = Key × Entry} ((key, entry) ∷ []) (k, e)
-          → Contains (staged ++ (key, entry) ∷ []) (k, e)
-      back k e to_stage (inl here) = Contains-append_left staged ((key, entry) ∷ []) (k, e) ((stages.members k e).1 (here, to_stage))
-      back k e to_stage (inr here) = Contains-append_right staged ((key, entry) ∷ []) (k, e) here
 
   -- if the next offered entry isn't to be staged, the staged entries are unchanged
   pub one_left_out : ¬ IsToStage own floor key entry → IsStaged own floor (offered ++ (key, entry) ∷ []) staged
@@ -103,14 +97,12 @@ module _ (own : State) (floor : Option FileStamp) (offered staged : List (Key ×
     ascending = stages.ascending;
     members = λ k e. (
       λ among. let told = (stages.members k e).0 among in (Contains-append_left offered ((key, entry) ∷ []) (k, e) told.0, told.1),
-      λ told. back k e told.1 (Contains-append_cases offered ((key, entry) ∷ []) (k, e) told.0),
+      λ told. elim (Contains-append_cases offered ((key, entry) ∷ []) (k, e) told.0) [
+        | inl here ↦ (stages.members k e).1 (here, told.1)
+        | inr here ↦ absurd (out (subst (λ (v : Key × Entry). IsToStage own floor v.0 v.1) (sym (Contains-single _ _ here)) told.1))
+      ],
     );
   }
-    where
-      back : (k : Key) (e : Entry) → IsToStage own floor k e → Contains offered (k, e) ⊎ Contains {X = Key × Entry} ((key, entry) ∷ []) (k, e)
-          → Contains staged (k, e)
-      back k e to_stage (inl here) = (stages.members k e).1 (here, to_stage)
-      back k e to_stage (inr here) = absurd (out (subst (λ (v : Key × Entry). IsToStage own floor v.0 v.1) (sym (Contains-single _ _ here)) to_stage))
 
 -- ---- after all entries are offered, the commit makes the join
 

@@ -1,7 +1,7 @@
 -- All entries of a received state are passed to an office for staging, and the office commits the
 -- staged entries. The result is the join of the office's state with the received state without the
 -- received horizon.
-use Rattle.std.proofs.Common.{◌≡◌, ℕ, List, ◌++◌, ap, sym, ◌∙◌, subst, inl, inr, ◌⊎◌, Some, None, Contains, rules}
+use Rattle.std.proofs.Common.{◌≡◌, ℕ, List, ◌++◌, ap, sym, ◌∙◌, subst, inl, inr, Some, None, Contains, rules}
 use Rattle.std.specs.Prelude.{Option}
 use Rattle.std.specs.declared.cmp.Ordering.TheVariants.{Equal}
 use Rattle.std.specs.Ordering.{ordering_reverse, ordering_then, nat_cmp}
@@ -15,10 +15,10 @@ use Rattle.docker_model.specs.state.Op.{Entry, entry_cmp, op_cmp}
 use Rattle.docker_model.specs.state.Lapse.{lapse_entry}
 use Rattle.docker_model.specs.state.State.{State, IsJoin, IsValid, IsGoodEntry, IsGreatestAmong}
 use Rattle.state_laws.specs.LawTerms.{without_horizon}
-use Rattle.state_laws.specs.Staging.{HasNoEntryOf, IsToStage, IsStaged, IsPutIn, IsCommit}
+use Rattle.state_laws.specs.Staging.{HasNoEntryOf, IsStaged, IsPutIn, IsCommit}
 use Rattle.cif_laws.proofs.orders.Orders.{entry_total, file_stamp_total, key_total, ledger_item_total}
 use Rattle.cif_laws.proofs.orders.Ascending.{same_list}
-use Rattle.state_laws.proofs.states.PlainTable.{Found, NotFound, find_in, one_per_key}
+use Rattle.state_laws.proofs.states.PlainTable.{find_in, one_per_key}
 use Rattle.cif_laws.proofs.orders.AtMost.{at_most_trans, at_most_itself, at_most_below, at_most_or, level}
 use Rattle.state_laws.proofs.states.OneJoin.{floor_unique}
 use Rattle.state_laws.proofs.states.ExactEntries.{exact_entry}
@@ -63,15 +63,13 @@ module _ (own received : State) (valid : IsValid own) (valid_too : IsValid recei
       let told = (stages.members key entry).0 among in (
         record {
           among = Contains-append_right own.entries received.entries (key, entry) told.0;
-          greatest = λ other here. under told.0 told.1 other (Contains-append_cases own.entries received.entries (key, other) here);
+          greatest = λ other here. elim (Contains-append_cases own.entries received.entries (key, other) here) [
+            | inl here ↦ at_most_below entry_cmp _ entry (told.1.greater other here)
+            | inr here ↦ subst (λ e. IsAtMost entry_cmp other e) (one_received _ other _ here told.0) (at_most_itself entry_total other)
+          ];
         },
         told.1.kept,
       )
-    where
-      under : Contains received.entries (key, entry) → IsToStage own commit.floor key entry → (other : Entry) → Contains own.entries (key, other)
-          ⊎ Contains received.entries (key, other) → IsAtMost entry_cmp other entry
-      under offered to other (inl here) = at_most_below entry_cmp _ entry (to.greater other here)
-      under offered to other (inr here) = subst (λ e. IsAtMost entry_cmp other e) (one_received _ other _ here offered) (at_most_itself entry_total other)
 
   -- suppose that an entry of our own state isn't below the floor, and that no entry for its key is
   -- staged. Then it is the greatest entry that the two states have for the key
@@ -80,7 +78,10 @@ module _ (own received : State) (valid : IsValid own) (valid_too : IsValid recei
   own_best key entry among kept none = (
     record {
       among = Contains-append_left own.entries received.entries (key, entry) among;
-      greatest = λ other here. under other (Contains-append_cases own.entries received.entries (key, other) here);
+      greatest = λ other here. elim (Contains-append_cases own.entries received.entries (key, other) here) [
+        | inl here ↦ subst (λ e. IsAtMost entry_cmp other e) (one_own key other entry here among) (at_most_itself entry_total other)
+        | inr here ↦ elim (at_most_or entry_total other entry) [ inl low ↦ low | inr below ↦ absurd (none other (staged_too other here below)) ]
+      ];
     },
     kept,
   )
@@ -94,15 +95,6 @@ module _ (own received : State) (valid : IsValid own) (valid_too : IsValid recei
         },
       )
 
-      by : (other : Entry) → Contains received.entries (key, other) → IsAtMost entry_cmp other entry ⊎ IsBelow entry_cmp entry other
-          → IsAtMost entry_cmp other entry
-      by other here (inl low) = low
-      by other here (inr below) = absurd (none other (staged_too other here below))
-
-      under : (other : Entry) → Contains own.entries (key, other) ⊎ Contains received.entries (key, other) → IsAtMost entry_cmp other entry
-      under other (inl here) = subst (λ e. IsAtMost entry_cmp other e) (one_own key other entry here among) (at_most_itself entry_total other)
-      under other (inr here) = by other here (at_most_or entry_total other entry)
-
   forth : (key : Key) (entry : Entry) → IsPutIn own staged commit.floor key entry → Best key entry
   forth = search (rules, staged_best, own_best)
 
@@ -110,7 +102,24 @@ module _ (own received : State) (valid : IsValid own) (valid_too : IsValid recei
   -- it is staged, or it is in our own state and no entry for the key is staged
   back : (key : Key) (entry : Entry) → Best key entry → IsPutIn own staged commit.floor key entry
   unfolding Best
-  back key entry best = by (Contains-append_cases own.entries received.entries (key, entry) best.0.among)
+  back key entry best = elim (Contains-append_cases own.entries received.entries (key, entry) best.0.among) [
+    | inl here ↦ inr (here, best.1, none_staged here)
+    | inr here ↦ elim (find_in _ key) [
+      | inr none ↦ inl ((stages.members key entry).1 (here, record { kept = best.1; greater = λ other inside. absurd (none.1 other inside) }))
+      | inl found ↦
+          elim (at_most_or entry_total _ found.0.1) [
+            | inl high ↦
+                let same = tied_equal _ found.0.1 _ found.2 here (level entry_total found.0.1 _
+                (best.0.greatest found.0.1 (Contains-append_left own.entries received.entries (key, found.0.1) found.2)) high) in
+                let mine = subst (λ e. Contains own.entries (key, e)) same found.2 in
+                inr (mine, best.1, none_staged mine)
+            | inr below ↦ inl ((stages.members key entry).1 (
+              here,
+              record { kept = best.1; greater = λ other inside. subst (λ e. IsBelow entry_cmp e entry) (one_own key _ other found.2 inside) below },
+            ))
+          ]
+    ]
+  ]
     where
       -- if our own entry is the greatest entry that the two states have for its key, no entry for
       -- the key is staged
@@ -120,26 +129,6 @@ module _ (own received : State) (valid : IsValid own) (valid_too : IsValid recei
           let up = best.0.greatest other (Contains-append_right own.entries received.entries (key, other) told.0) in
           let below = told.1.greater entry here in
           up (entry_total.antisymm other entry ∙ ap ordering_reverse below)
-
-      as_received : Contains received.entries (key, entry) → Found own.entries key ⊎ NotFound own.entries key → IsPutIn own staged commit.floor key entry
-      as_received here (inr none) = inl ((stages.members key entry).1 (here, record { kept = best.1; greater = λ other inside. absurd (none.1 other inside) }))
-      as_received here (inl found) =
-          pick (best.0.greatest found.0.1 (Contains-append_left own.entries received.entries (key, found.0.1) found.2)) (at_most_or entry_total _ found.0.1)
-        where
-          pick : IsAtMost entry_cmp found.0.1 entry → IsAtMost entry_cmp entry found.0.1 ⊎ IsBelow entry_cmp found.0.1 entry
-              → IsPutIn own staged commit.floor key entry
-          pick low (inl high) =
-              let same = tied_equal _ found.0.1 _ found.2 here (level entry_total found.0.1 _ low high) in
-              let mine = subst (λ e. Contains own.entries (key, e)) same found.2 in
-              inr (mine, best.1, none_staged mine)
-          pick low (inr below) = inl ((stages.members key entry).1 (
-            here,
-            record { kept = best.1; greater = λ other inside. subst (λ e. IsBelow entry_cmp e entry) (one_own key _ other found.2 inside) below },
-          ))
-
-      by : Contains own.entries (key, entry) ⊎ Contains received.entries (key, entry) → IsPutIn own staged commit.floor key entry
-      by (inl here) = inr (here, best.1, none_staged here)
-      by (inr here) = as_received here (find_in _ key)
 
   -- the state after a commit is the join of `own` with the received state without its horizon
   pub commit_is_join : IsJoin own (without_horizon received) after

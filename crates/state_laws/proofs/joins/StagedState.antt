@@ -1,6 +1,6 @@
 -- A state with only the received ledger items and the staged entries is valid. The join of an
 -- office's own state with this state equals the state after the commit.
-use Rattle.std.proofs.Common.{◌≡◌, List, ◌++◌, ◌∙◌, ap, subst, arith, inl, inr, ◌⊎◌, Contains}
+use Rattle.std.proofs.Common.{◌≡◌, List, ◌++◌, ◌∙◌, ap, subst, arith, inl, inr, Contains}
 use Rattle.std.specs.Prelude.{Option}
 use Rattle.std.specs.Ordering.{ordering_reverse}
 use Rattle.std.proofs.Math.Nat.{max-zero}
@@ -49,15 +49,14 @@ module _ (own received : State) (floor : Option FileStamp) (staged : List (Key �
 
   forth : (key : Key) (entry : Entry) → Best key entry → IsPutIn own staged join.floor key entry
   unfolding Best
-  forth key entry best = by (Contains-append_cases own.entries staged (key, entry) best.0.among)
-    where
-      by : Contains own.entries (key, entry) ⊎ Contains staged (key, entry) → IsPutIn own staged join.floor key entry
-      by (inl here) = inr (
-        here,
-        best.1,
-        λ other there. above _ _ _ here there (best.0.greatest other (Contains-append_right own.entries staged (key, other) there)),
-      )
-      by (inr there) = inl there
+  forth key entry best = elim (Contains-append_cases own.entries staged (key, entry) best.0.among) [
+    | inl here ↦ inr (
+      here,
+      best.1,
+      λ other there. above _ _ _ here there (best.0.greatest other (Contains-append_right own.entries staged (key, other) there)),
+    )
+    | inr there ↦ inl there
+  ]
 
   back : (key : Key) (entry : Entry) → IsPutIn own staged join.floor key entry → Best key entry
   unfolding Best
@@ -65,28 +64,25 @@ module _ (own received : State) (floor : Option FileStamp) (staged : List (Key �
     record {
       among = Contains-append_right own.entries staged (key, entry) there;
       greatest = λ other inside.
-          under other (Contains-append_cases own.entries staged (key, other) inside);
+          elim (Contains-append_cases own.entries staged (key, other) inside) [
+            | inl here ↦ at_most_below entry_cmp other entry (((stages.members key entry).0 there).1.greater other here)
+            | inr too ↦ subst (λ e. IsAtMost entry_cmp other e) (one_per_key staged stages.ascending key other entry too there)
+                (at_most_itself entry_total other)
+          ];
     },
     subst (λ f. IsKept f entry.stamp.file) floors ((stages.members key entry).0 there).1.kept,
   )
-    where
-      under : (other : Entry) → Contains own.entries (key, other) ⊎ Contains staged (key, other) → IsAtMost entry_cmp other entry
-      under other (inl here) = at_most_below entry_cmp other entry (((stages.members key entry).0 there).1.greater other here)
-      under other (inr too) =
-          subst (λ e. IsAtMost entry_cmp other e) (one_per_key staged stages.ascending key other entry too there) (at_most_itself entry_total other)
   back key entry (inr told) = (
     record {
       among = Contains-append_left own.entries staged (key, entry) told.0;
       greatest = λ other inside.
-          under other (Contains-append_cases own.entries staged (key, other) inside);
+          elim (Contains-append_cases own.entries staged (key, other) inside) [
+            | inl here ↦ subst (λ e. IsAtMost entry_cmp other e) (one_per_key own.entries up key other entry here told.0) (at_most_itself entry_total other)
+            | inr there ↦ absurd (told.2 other there)
+          ];
     },
     told.1,
   )
-    where
-      under : (other : Entry) → Contains own.entries (key, other) ⊎ Contains staged (key, other) → IsAtMost entry_cmp other entry
-      under other (inl here) =
-          subst (λ e. IsAtMost entry_cmp other e) (one_per_key own.entries up key other entry here told.0) (at_most_itself entry_total other)
-      under other (inr there) = absurd (told.2 other there)
 
   -- the state after the commit is the join of `own` with the state that has only the received
   -- ledger items and the staged entries

@@ -1,6 +1,6 @@
 -- A restricted table has only the keys that pass a test. Its rows are the rows of the whole table
 -- whose keys pass the test.
-use Rattle.std.proofs.Common.{◌≡◌, ℕ, List, ap, sym, ◌∙◌, Bool, true, cond, Some, None, rules}
+use Rattle.std.proofs.Common.{◌≡◌, ℕ, List, ap, ◌∙◌, Bool, true, cond, Some, None, rules}
 use Rattle.docker_model.specs.file.Change.{Key, association_key, schedule_key, Body, association_body, schedule_body}
 use Rattle.docker_model.specs.state.State.{HasGoodBodies}
 use Rattle.docker_model.specs.state.Table.{Table}
@@ -41,10 +41,7 @@ module _ (counts : Key → Bool) where
             told.1,
             told.2,
             told.3,
-            record {
-              is_live = stays_counted live (schedule_key told.0) (schedule_body told.1) (ap counts (sym told.2) ∙ found.1) told.4.is_live;
-              calls = told.4.calls;
-            },
+            search (rules, stays_counted),
           ),
       λ told.
           let was = was_counted live (schedule_key told.0) (schedule_body told.1) told.4.is_live in
@@ -65,10 +62,7 @@ module _ (counts : Key → Bool) where
             told.1,
             told.2,
             told.3,
-            record {
-              is_live = stays_counted live (association_key told.0) (association_body told.1) (ap counts (sym told.2) ∙ found.1) told.4.is_live;
-              here = told.4.here;
-            },
+            search (rules, stays_counted),
           ),
       λ told.
           let was = was_counted live (association_key told.0) (association_body told.1) told.4.is_live in
@@ -107,8 +101,4 @@ module _ (counts : Key → Bool) where
 
   -- if the whole table satisfies `IsOfGoodRows`, so does the restricted table
   pub counted_good : (live : Table) → IsOfGoodRows live → IsOfGoodRows (counted_table counts live)
-  counted_good live good = record {
-    rows = counted_rows counts good.rows;
-    are = counted_are live good.rows good.are;
-    bodies = counted_bodies live good.bodies;
-  }
+  counted_good live good = search (rules, counted_are, counted_bodies)

@@ -1,5 +1,5 @@
 -- If two well-formed entries for the same key tie in the order of entries, they are equal.
-use Rattle.std.proofs.Common.{◌≡◌, ℕ, List, [], ◌∷◌, length, All, refl, ap, sym, ◌∙◌, arith, length-append}
+use Rattle.std.proofs.Common.{◌≡◌, ℕ, List, [], ◌∷◌, length, All, refl, ap, sym, ◌∙◌, arith, length-append, rules}
 use Rattle.std.specs.List.{concat}
 use Rattle.std.specs.declared.cmp.Ordering.TheVariants.{Equal}
 use Rattle.std.specs.Ordering.{nat_cmp}
@@ -40,8 +40,7 @@ same_body (association_key key) (association_body a) (tiploc_body b) good_a good
 same_body (association_key key) (association_body a) (schedule_body b) good_a good_b same = absurd good_b
 same_body (association_key key) (tiploc_body a) b good_a good_b same = absurd good_a
 same_body (association_key key) (schedule_body a) b good_a good_b same = absurd good_a
-same_body (schedule_key key) (schedule_body a) (schedule_body b) good_a good_b same =
-    ap schedule_body (same_lines a b good_a.schedule.records good_b.schedule.records same)
+same_body (schedule_key key) (schedule_body a) (schedule_body b) good_a good_b same = search (rules, same_lines)
 same_body (schedule_key key) (schedule_body a) (tiploc_body b) good_a good_b same = absurd good_b
 same_body (schedule_key key) (schedule_body a) (association_body b) good_a good_b same = absurd good_b
 same_body (schedule_key key) (tiploc_body a) b good_a good_b same = absurd good_a

@@ -1,8 +1,8 @@
 -- The greatest entry for a key in a list. Each key that has an entry has a greatest entry.
-use Rattle.std.proofs.Common.{List, Contains, ◌≡◌, ◌∷◌, subst, inl, inr, ◌⊎◌, ap, [], refl, Bool, true, false}
+use Rattle.std.proofs.Common.{List, Contains, ◌≡◌, ◌∷◌, subst, inl, inr, ◌⊎◌, ap, [], refl, Bool, true, false, rules}
 use Rattle.std.specs.Ordering.{is_eq}
 use Rattle.docker_model.specs.file.Change.{Key}
-use Rattle.docker_model.specs.state.Order.{IsAtMost, IsBelow}
+use Rattle.docker_model.specs.state.Order.{IsAtMost}
 use Rattle.docker_model.specs.state.Op.{Entry, entry_cmp, key_cmp}
 use Rattle.cif_laws.proofs.orders.Orders.{entry_total, same_key, other_key}
 use Rattle.cif_laws.proofs.lists.Membership.{Contains-cons, cons-Contains, cons-Contains-first, nil-Contains}
@@ -26,32 +26,29 @@ greater_of first entries key same (inl none) =
     let here : first ≡ (key, first.1) = (λ i. (same i, first.1)) in (
       first.1,
       subst (Contains (first ∷ entries)) here (cons-Contains-first _ entries),
-      λ other among. by other (Contains-cons _ entries _ among),
+      λ other among. elim (Contains-cons _ entries _ among) [
+        | inl e ↦ subst (λ v. IsAtMost entry_cmp v first.1) (ap (λ (pair : Keyed). pair.1) e) (at_most_itself entry_total first.1)
+        | inr inside ↦ absurd (none other inside)
+      ],
     )
-  where
-    by : (other : Entry) → (first ≡ (key, other)) ⊎ Contains entries (key, other) → IsAtMost entry_cmp other first.1
-    by other (inl e) = subst (λ v. IsAtMost entry_cmp v first.1) (ap (λ (pair : Keyed). pair.1) e) (at_most_itself entry_total first.1)
-    by other (inr inside) = absurd (none other inside)
-greater_of first entries key same (inr best) = by (at_most_or entry_total _ best.0)
-  where
-    here : first ≡ (key, first.1)
-    here = λ i. (same i, first.1)
-
-    by : IsAtMost entry_cmp first.1 best.0 ⊎ IsBelow entry_cmp best.0 first.1 → GreatestEntry (first ∷ entries) key
-    by (inl low) = (best.0, cons-Contains _ entries _ best.1, λ other among. up other (Contains-cons first _ (key, other) among))
-      where
-        up : (other : Entry) → (first ≡ (key, other)) ⊎ Contains entries (key, other) → IsAtMost entry_cmp other best.0
-        up other (inl e) = subst (λ v. IsAtMost entry_cmp v best.0) (ap (λ (pair : Keyed). pair.1) e) low
-        up other (inr inside) = best.2 other inside
-    by (inr high) = (
-      first.1,
-      subst (Contains (first ∷ entries)) here (cons-Contains-first _ entries),
-      λ other among. up other (Contains-cons _ entries _ among),
-    )
-      where
-        up : (other : Entry) → (first ≡ (key, other)) ⊎ Contains entries (key, other) → IsAtMost entry_cmp other first.1
-        up other (inl e) = subst (λ v. IsAtMost entry_cmp v first.1) (ap (λ (pair : Keyed). pair.1) e) (at_most_itself entry_total first.1)
-        up other (inr inside) = at_most_trans entry_total _ best.0 _ (best.2 other inside) (at_most_below entry_cmp _ first.1 high)
+greater_of first entries key same (inr best) = elim (at_most_or entry_total _ best.0) [
+  | inl low ↦ (
+    best.0,
+    cons-Contains _ entries _ best.1,
+    λ other among. elim (Contains-cons first _ (key, other) among) [
+      | inl e ↦ subst (λ v. IsAtMost entry_cmp v best.0) (ap (λ (pair : Keyed). pair.1) e) low
+      | inr inside ↦ best.2 other inside
+    ],
+  )
+  | inr high ↦ (
+    first.1,
+    subst (Contains (first ∷ entries)) (λ i. (same i, first.1)) (cons-Contains-first _ entries),
+    λ other among. elim (Contains-cons _ entries _ among) [
+      | inl e ↦ subst (λ v. IsAtMost entry_cmp v first.1) (ap (λ (pair : Keyed). pair.1) e) (at_most_itself entry_total first.1)
+      | inr inside ↦ at_most_trans entry_total _ best.0 _ (best.2 other inside) (at_most_below entry_cmp _ first.1 high)
+    ],
+  )
+]
 
 still : (first : Keyed) (entries : List Keyed) (key : Key) → ¬ (first.0 ≡ key) → NoEntry entries key ⊎ GreatestEntry entries key → NoEntry (first ∷ entries) key
     ⊎ GreatestEntry (first ∷ entries) key
@@ -60,11 +57,7 @@ still first entries key apart (inl none) = inl (λ entry among. by entry (Contai
     by : (entry : Entry) → (first ≡ (key, entry)) ⊎ Contains entries (key, entry) → ⊥
     by entry (inl e) = apart (ap (λ (pair : Keyed). pair.0) e)
     by entry (inr inside) = none entry inside
-still first entries key apart (inr best) = inr (best.0, cons-Contains _ _ _ best.1, λ other among. by other (Contains-cons _ _ _ among))
-  where
-    by : (other : Entry) → (first ≡ (key, other)) ⊎ Contains entries (key, other) → IsAtMost entry_cmp other best.0
-    by other (inl e) = absurd (apart (ap (λ (pair : Keyed). pair.0) e))
-    by other (inr inside) = best.2 other inside
+still first entries key apart (inr best) = inr (best.0, cons-Contains _ _ _ best.1, search rules)
 
 -- a list has no entry for a key, or has a greatest entry for the key
 pub greatest_in : (entries : List Keyed) (key : Key) → NoEntry entries key ⊎ GreatestEntry entries key

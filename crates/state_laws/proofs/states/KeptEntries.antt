@@ -1,6 +1,6 @@
 -- Lemmas on how a floor and a horizon affect entries. If an entry isn't below the floor, no greater
 -- entry is below the floor. Lapsing preserves the key order of entries.
-use Rattle.std.proofs.Common.{◌≡◌, ℕ, ◌<◌, ◌≤◌, List, [], ◌∷◌, subst, inl, inr, ◌⊎◌, refl, sym, ◌∙◌, Some, None, rules}
+use Rattle.std.proofs.Common.{◌≡◌, ℕ, List, [], ◌∷◌, subst, inl, inr, ◌⊎◌, refl, sym, ◌∙◌, Some, None, rules}
 use Rattle.std.specs.Prelude.{Option}
 use Rattle.std.specs.List.{AllByRecursion}
 use Rattle.std.specs.declared.cmp.Ordering.{Ordering}
@@ -8,13 +8,13 @@ use Rattle.std.specs.declared.cmp.Ordering.TheVariants.{Less, Equal, Greater}
 use Rattle.std.specs.Ordering.{ordering_then, on}
 use Rattle.docker_model.specs.state.Order.{IsBelow, IsAtMost}
 use Rattle.docker_model.specs.state.Stamp.{FileStamp, stamp_cmp, IsKept}
-use Rattle.docker_model.specs.state.Op.{key_cmp, body_end, Op, deleted, lapsed, put_with, op_cmp, Entry, entry_cmp}
+use Rattle.docker_model.specs.state.Op.{key_cmp, Op, deleted, lapsed, put_with, op_cmp, Entry, entry_cmp}
 use Rattle.docker_model.specs.state.Lapse.{lapse, lapse_entry, lapse_keyed, lapse_entries, HasNotToLapse}
 use Rattle.docker_model.specs.state.State.{AreAscending}
 use Rattle.cif_laws.proofs.orders.Orders.{file_stamp_total, exact_stamp, then_equal, op_total, entry_total}
 use Rattle.cif_laws.proofs.orders.AtMost.{at_most_trans, level, at_most_itself}
 use Rattle.state_laws.proofs.states.PlainTable.{Keyed}
-use Rattle.state_laws.proofs.states.Lapse.{below_or, put_lapses, put_stays, entry_stays}
+use Rattle.state_laws.proofs.states.Lapse.{below_or, put_lapses, entry_stays}
 
 -- if the lower of two entries isn't below the floor, the greater entry isn't below the floor either
 pub kept_up : (floor : Option FileStamp) (low high : Entry) → IsAtMost entry_cmp low high → IsKept floor low.stamp.file → IsKept floor high.stamp.file
@@ -25,11 +25,7 @@ kept_up (Some floor) low high most kept = search (rules, at_most_trans, file_sta
 op_lapse_below : (horizon : ℕ) (op : Op) → IsAtMost op_cmp (lapse horizon op) op
 op_lapse_below horizon deleted = at_most_itself op_total deleted
 op_lapse_below horizon lapsed = at_most_itself op_total lapsed
-op_lapse_below horizon (put_with body) = by (below_or horizon body)
-  where
-    by : (body_end body < horizon) ⊎ (horizon ≤ body_end body) → IsAtMost op_cmp (lapse horizon (put_with body)) (put_with body)
-    by (inl below) = subst (λ op. IsAtMost op_cmp op (put_with body)) (sym (put_lapses horizon body below)) (λ greater. cc)
-    by (inr above) = subst (λ op. IsAtMost op_cmp op (put_with body)) (sym (put_stays horizon body above)) (at_most_itself op_total (put_with body))
+op_lapse_below horizon (put_with body) = search (rules, op_total)
 
 -- an entry is never greater after lapsing than before
 pub lapse_below : (horizon : ℕ) (entry : Entry) → IsAtMost entry_cmp (lapse_entry horizon entry) entry
@@ -57,11 +53,7 @@ level_lapsed first second is up down =
 pub lapses_or_not : (horizon : ℕ) (op : Op) → (lapse horizon op ≡ lapsed) ⊎ HasNotToLapse horizon op
 lapses_or_not horizon deleted = inr tt
 lapses_or_not horizon lapsed = inl refl
-lapses_or_not horizon (put_with body) = by (below_or horizon body)
-  where
-    by : (body_end body < horizon) ⊎ (horizon ≤ body_end body) → (lapse horizon (put_with body) ≡ lapsed) ⊎ HasNotToLapse horizon (put_with body)
-    by (inl below) = inl (put_lapses horizon body below)
-    by (inr above) = inr above
+lapses_or_not horizon (put_with body) = elim (below_or horizon body) [ inl below ↦ inl (put_lapses horizon body below) | inr above ↦ inr above ]
 
 -- ---- lapsing preserves the key order of entries
 

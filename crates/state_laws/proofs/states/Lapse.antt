@@ -1,18 +1,17 @@
 -- Lapsing is monotone: it preserves the order of ops and entries. Lapsing is idempotent. Lapsing
 -- with one horizon and then with another equals lapsing with the greater of the two horizons.
-use Rattle.std.proofs.Common.{◌≡◌, ℕ, ◌<◌, ◌≤◌, ◌⊎◌, sym, cond, arith, rules}
+use Rattle.std.proofs.Common.{◌≡◌, ℕ, ◌<◌, ◌≤◌, ◌⊎◌, cond, arith, rules}
 use Rattle.std.proofs.lemmas.Grind.{common_steps}
 use Rattle.std.specs.Prelude.{max}
 use Rattle.std.specs.declared.cmp.Ordering.{Ordering}
 use Rattle.std.specs.declared.cmp.Ordering.TheVariants.{Less, Equal, Greater}
-use Rattle.std.specs.Ordering.{ordering_then, nat_cmp}
+use Rattle.std.specs.Ordering.{ordering_then}
 use Rattle.std.proofs.lemmas.Bool.{lt-ltb, le-ltb, ltb-true, ltb-false}
 use Rattle.std.proofs.Math.Nat.{le-max_left, le-max_right}
-use Rattle.std.specs.Cmp.{nat_cmp_is}
 use Rattle.docker_model.specs.file.Change.{Body}
 use Rattle.docker_model.specs.state.Order.{IsAtMost}
 use Rattle.docker_model.specs.state.Stamp.{stamp_cmp}
-use Rattle.docker_model.specs.state.Op.{body_end, body_cmp, Op, deleted, lapsed, put_with, op_cmp, Entry, entry_cmp}
+use Rattle.docker_model.specs.state.Op.{body_end, Op, lapsed, put_with, op_cmp, Entry, entry_cmp}
 use Rattle.docker_model.specs.state.Lapse.{lapse, HasNotToLapse, lapse_entry}
 
 -- ---- a put lapses or stays
@@ -54,24 +53,9 @@ lapse_twice = grind (common_steps, arith, below_or, le-max_right, put_lapses, le
 
 -- ---- lapsing preserves the order of ops
 
--- the op `lapsed` is at most the result of lapsing any put
-lapsed_least : (horizon : ℕ) (body : Body) → IsAtMost op_cmp lapsed (lapse horizon (put_with body))
-lapsed_least = search (rules, below_or, put_lapses, put_stays)
-
-deleted_least : (horizon : ℕ) (body : Body) → IsAtMost op_cmp deleted (lapse horizon (put_with body))
-deleted_least = search (rules, below_or, put_lapses, put_stays)
-
-number_above : (m n : ℕ) → n < m → nat_cmp m n ≡ Greater
-number_above m n below = sym (nat_cmp_is m n Greater below)
-
--- if one body is at most another body in the order of bodies, it doesn't end later than the other
--- body
-ends_in_order : (a b : Body) → IsAtMost body_cmp a b → body_end a ≤ body_end b
-ends_in_order = search (rules, number_above, ltb-true, ltb-false)
-
 -- lapsing preserves the order of ops
 pub lapse_keeps_order : (horizon : ℕ) (a b : Op) → IsAtMost op_cmp a b → IsAtMost op_cmp (lapse horizon a) (lapse horizon b)
-lapse_keeps_order = search (rules, deleted_least, lapsed_least, below_or, put_lapses, ends_in_order, put_stays)
+lapse_keeps_order = search (rules, below_or, put_lapses, put_stays)
 
 -- lapsing preserves the order of entries
 pub lapse_entry_keeps_order : (horizon : ℕ) (a b : Entry) → IsAtMost entry_cmp a b → IsAtMost entry_cmp (lapse_entry horizon a) (lapse_entry horizon b)

@@ -1,7 +1,7 @@
 -- Suppose that the files of a set have distinct moments, and that the bodies which ended before a
 -- horizon are dropped from their plain table. The result is the live table of the files' summary
 -- under this horizon.
-use Rattle.std.proofs.Common.{◌≡◌, ℕ, List, Contains, inl, inr, ◌⊎◌, ap, sym, ◌∙◌, None, rules}
+use Rattle.std.proofs.Common.{◌≡◌, ℕ, List, Contains, inl, inr, ◌⊎◌, ap, sym, ◌∙◌, rules}
 use Rattle.std.specs.Prelude.{fold, option_and_then}
 use Rattle.docker_model.specs.file.Change.{Key}
 use Rattle.docker_model.specs.state.Order.{IsBelow, IsAtMost}
@@ -39,13 +39,10 @@ module _ (files : List (List (List ℕ))) (horizon : ℕ) (state : State) (table
           let told = (summary.entries key entry).0 among in
           (told.0, in_entries files plain.ordered plain.order summary.floor summary.is_floor key told.0 told.1.is)
 
-      nothing : table key ≡ None → lapse_table horizon table key ≡ None
-      nothing none = ap (option_and_then (unlapsed horizon)) none
-
       by : NoneThere entries empty_table key ⊎ LastThere entries empty_table key → Found state.entries key ⊎ NotFound state.entries key
           → live_table state key ≡ lapse_table horizon table key
       by (inl none) (inl found) = let there = made found.0.1 found.2 in absurd (none.0 there.0 there.1)
-      by (inl none) (inr gone) = ap body_in gone.0 ∙ sym (nothing (table_is ∙ none.1))
+      by (inl none) (inr gone) = ap body_in gone.0 ∙ sym (ap (option_and_then (unlapsed horizon)) (table_is ∙ none.1))
       by (inr last) found =
           let greatest : IsGreatestEntryOf files summary.floor key last.0 = record {
             is = out_entries files plain.ordered plain.order summary.floor summary.is_floor key last.0 last.1;

@@ -1,6 +1,6 @@
 -- A set of files with distinct moments can be put in the order of moments, so it has a plain table.
 -- Without a horizon, the plain table is the live table of the set's summary.
-use Rattle.std.proofs.Common.{◌≡◌, ℕ, List, [], ◌∷◌, Contains, subst, inl, inr, ◌⊎◌, refl, ap, sym, ◌∙◌, arith}
+use Rattle.std.proofs.Common.{◌≡◌, ℕ, List, [], ◌∷◌, Contains, subst, inl, inr, ◌⊎◌, refl, ap, sym, ◌∙◌, arith, rules}
 use Rattle.std.specs.List.{AllByRecursion}
 use Rattle.std.specs.declared.cmp.Ordering.{Ordering}
 use Rattle.std.specs.declared.cmp.Ordering.TheVariants.{Less, Equal, Greater}
@@ -53,20 +53,14 @@ insert_has : (file : File) (files : List File) (other : File) → Contains (inse
 insert_has file [] other among = Contains-cons file [] other among
 insert_has file (first ∷ rest) other among = by (moment_cmp (moment_of file) (moment_of first)) (insert_has file rest other) among
   where
-    put_back : (file ≡ other) ⊎ Contains rest other → (file ≡ other) ⊎ Contains (first ∷ rest) other
-    put_back (inl same) = inl same
-    put_back (inr inside) = inr (cons-Contains first rest other inside)
-
-    head : (Contains (insert_file file rest) other → (file ≡ other) ⊎ Contains rest other) → (first ≡ other) ⊎ Contains (insert_file file rest) other
-        → (file ≡ other) ⊎ Contains (first ∷ rest) other
-    head inner (inl same) = inr (subst (Contains (first ∷ rest)) same (cons-Contains-first first rest))
-    head inner (inr inside) = put_back (inner inside)
-
     by : (o : Ordering) → (Contains (insert_file file rest) other → (file ≡ other) ⊎ Contains rest other)
         → Contains (put_in_place o file first rest (insert_file file rest)) other → (file ≡ other) ⊎ Contains (first ∷ rest) other
     by Less inner here = Contains-cons file (first ∷ rest) other here
     by Equal inner here = inr here
-    by Greater inner here = head inner (Contains-cons first (insert_file file rest) other here)
+    by Greater inner here = elim (Contains-cons first (insert_file file rest) other here) [
+      | inl same ↦ inr (subst (Contains (first ∷ rest)) same (cons-Contains-first first rest))
+      | inr inside ↦ elim (inner inside) [ inl same ↦ inl same | inr inside ↦ inr (cons-Contains first rest other inside) ]
+    ]
 
 insert_keeps : (file : File) (files : List File) (other : File) → Contains files other → Contains (insert_file file files) other
 insert_keeps file [] other among = absurd (nil-Contains other among)
@@ -83,39 +77,34 @@ insert_puts : (file : File) (files : List File) → ((other : File) → Contains
     → Contains (insert_file file files) file
 insert_puts file [] distinct = cons-Contains-first file []
 insert_puts file (first ∷ rest) distinct =
-    by (moment_cmp (moment_of file) (moment_of first)) refl (insert_puts file rest (λ other inside. distinct other (cons-Contains first rest other inside)))
-  where
-    by : (o : Ordering) → moment_cmp (moment_of file) (moment_of first) ≡ o → Contains (insert_file file rest) file
-        → Contains (put_in_place o file first rest (insert_file file rest)) file
-    by Less h inner = cons-Contains-first file (first ∷ rest)
-    by Equal h inner =
-        let same = distinct first (cons-Contains-first first rest) (exact_moment (moment_of file) (moment_of first) h) in
-        subst (Contains (first ∷ rest)) (sym same) (cons-Contains-first first rest)
-    by Greater h inner = cons-Contains first (insert_file file rest) file inner
+    (elim (moment_cmp (moment_of file) (moment_of first)) as (λ o. moment_cmp (moment_of file) (moment_of first) ≡ o → Contains
+    (insert_file file rest) file → Contains (put_in_place o file first rest (insert_file file rest)) file) [
+      | Less ↦ λ h inner. cons-Contains-first file (first ∷ rest)
+      | Equal ↦ λ h inner. let same = distinct first (cons-Contains-first first rest) (exact_moment (moment_of file) (moment_of first) h) in
+          subst (Contains (first ∷ rest)) (sym same) (cons-Contains-first first rest)
+      | Greater ↦ λ h inner. cons-Contains first (insert_file file rest) file inner
+    ]) refl (insert_puts file rest (λ other inside. distinct other (cons-Contains first rest other inside)))
 
 -- files with distinct moments can be put in moment order
 pub moment_order : (files : List File) → HaveDistinctMoments files → (ordered : List File) × IsInMomentOrder files ordered
 moment_order [] distinct = ([], record { same = λ file. (λ among. among, λ among. among); ascending = tt })
-moment_order (file ∷ files) distinct = put_in (moment_order files (λ first second in_first in_second. distinct first second (cons-Contains _ files _ in_first)
-    (cons-Contains file _ second in_second)))
+moment_order (file ∷ files) distinct = put_in (moment_order files (search (rules, cons-Contains)))
   where
     put_in : (ordered : List File) × IsInMomentOrder files ordered → (ordered : List File) × IsInMomentOrder (file ∷ files) ordered
     put_in told = (
       insert_file file told.0,
       record {
         same = λ other. (
-          λ among. back other (insert_has _ told.0 _ among),
-          λ among. there other (Contains-cons file _ other among),
+          λ among. elim (insert_has _ told.0 _ among) [
+            | inl same ↦ subst (Contains (file ∷ files)) same (cons-Contains-first _ files)
+            | inr inside ↦ cons-Contains _ files _ ((told.1.same other).0 inside)
+          ],
+          λ among. elim (Contains-cons file _ other among) [
+            | inl same ↦ subst (Contains (insert_file file told.0)) same (insert_puts file _ (λ third inside.
+                distinct file third (cons-Contains-first file _) (cons-Contains file _ third ((told.1.same third).0 inside))))
+            | inr inside ↦ insert_keeps _ told.0 _ ((told.1.same other).1 inside)
+          ],
         );
         ascending = insert_ascends _ told.0 told.1.ascending;
       },
     )
-      where
-        back : (other : File) → (file ≡ other) ⊎ Contains told.0 other → Contains (file ∷ files) other
-        back other (inl same) = subst (Contains (file ∷ files)) same (cons-Contains-first _ files)
-        back other (inr inside) = cons-Contains _ files _ ((told.1.same other).0 inside)
-
-        there : (other : File) → (file ≡ other) ⊎ Contains files other → Contains (insert_file file told.0) other
-        there other (inl same) = subst (Contains (insert_file file told.0)) same (insert_puts file _ (λ third inside.
-            distinct file third (cons-Contains-first file _) (cons-Contains file _ third ((told.1.same third).0 inside))))
-        there other (inr inside) = insert_keeps _ told.0 _ ((told.1.same other).1 inside)

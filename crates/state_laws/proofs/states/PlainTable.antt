@@ -62,28 +62,30 @@ first_alone entry entries table key true h none =
       entry.1,
       subst (Contains (entry ∷ entries)) same (cons-Contains-first _ entries),
       none.1 ∙ (λ i. cond (h i) (body_of entry.1.op) (table key)),
-      λ other among. only other (Contains-cons _ entries _ among),
+      λ other among. elim (Contains-cons _ entries _ among) [ inl e ↦ inl (sym (ap (λ (pair : Keyed). pair.1) e)) | inr inside ↦ absurd (none.0 other inside) ],
     )
-  where
-    only : (other : Entry) → (entry ≡ (key, other)) ⊎ Contains entries (key, other) → (other ≡ entry.1) ⊎ IsBelow stamp_cmp other.stamp entry.1.stamp
-    only other (inl e) = inl (sym (ap (λ (pair : Keyed). pair.1) e))
-    only other (inr inside) = absurd (none.0 other inside)
 first_alone entry entries table key false h none =
-    inl (λ other among. no other (Contains-cons entry _ (key, other) among), none.1 ∙ (λ i. cond (h i) (body_of entry.1.op) (table key)))
-  where
-    no : (other : Entry) → (entry ≡ (key, other)) ⊎ Contains entries (key, other) → ⊥
-    no other (inl e) = other_key _ key h (ap (λ (pair : Keyed). pair.0) e)
-    no other (inr inside) = none.0 other inside
+    inl (
+      λ other among. elim (Contains-cons entry _ (key, other) among) [
+        | inl e ↦ other_key _ key h (ap (λ (pair : Keyed). pair.0) e)
+        | inr inside ↦ none.0 other inside
+      ],
+      none.1 ∙ (λ i. cond (h i) (body_of entry.1.op) (table key)),
+    )
 
 not_first : (entry : Keyed) (entries : List Keyed) (table : Table) (key : Key) → AllByRecursion (Ascends entry) entries
     → LastThere entries (step table entry) key → LastThere (entry ∷ entries) table key
-not_first entry entries table key above last = (last.0, cons-Contains _ _ _ last.1, last.2, λ other among. by other (Contains-cons _ _ _ among))
-  where
-    by : (other : Entry) → (entry ≡ (key, other)) ⊎ Contains entries (key, other) → (other ≡ last.0) ⊎ IsBelow stamp_cmp other.stamp last.0.stamp
-    by other (inl e) =
+not_first entry entries table key above last = (
+  last.0,
+  cons-Contains _ _ _ last.1,
+  last.2,
+  λ other among. elim (Contains-cons _ _ _ among) [
+    | inl e ↦
         let below = below_by_recursion _ _ _ above last.1 (ap (λ (pair : Keyed). pair.0) e) in
         inr (subst (λ (pair : Keyed). IsBelow stamp_cmp pair.1.stamp last.0.stamp) e below)
-    by other (inr inside) = last.3 other inside
+    | inr inside ↦ last.3 other inside
+  ],
+)
 
 -- after all entries are applied, the table at each key is unchanged, or it has the body of the
 -- key's last entry. This entry has the greatest stamp of the key's entries
@@ -159,8 +161,7 @@ entries_ascend (file ∷ files) up =
     each : (cs : List Change) → AllByRecursion (λ change. AllByRecursion (Ascends (entry_of_change file change)) (entries_along files)) cs
     each [] = tt
     each (change ∷ cs) = (
-      all_weaker (IsLaterThan file) (Ascends (entry_of_change file change))
-          (across_files file change) (entries_along files) (later_along file files up.0),
+      search (rules, all_weaker, later_along),
       each cs,
     )
 
@@ -184,11 +185,7 @@ none_is : (files : List (List (List ℕ))) → list_any is_full files ≡ false 
 none_is [] h file among = absurd (nil-Contains file among)
 none_is (first ∷ files) h file among =
     let parts = or_false (is_full first) (list_any is_full files) h in
-    by parts.0 (none_is files parts.1 file) (Contains-cons first files file among)
-  where
-    by : is_full first ≡ false → (Contains files file → is_full file ≡ false) → (first ≡ file) ⊎ Contains files file → is_full file ≡ false
-    by none rest (inl same) = subst (λ f. is_full f ≡ false) same none
-    by none rest (inr inside) = rest inside
+    elim (Contains-cons first files file among) [ inl same ↦ subst (λ f. is_full f ≡ false) same parts.0 | inr inside ↦ (none_is files parts.1 file) inside ]
 
 abbrev Ascending : List (List (List ℕ)) → Type 0
 Ascending files = IsStrictlyAscending (on moment_of moment_cmp) files
@@ -207,24 +204,20 @@ KeptThere files file = Contains files file × NoneAbove files file
 
 none_above_head : (first : List (List ℕ)) (files : List (List (List ℕ))) (file : List (List ℕ)) → AllByRecursion (IsBelow (on moment_of moment_cmp) first) files
     → Contains files file → NoneAbove files file → NoneAbove (first ∷ files) file
-none_above_head first files file above among none other there full = by (Contains-cons first files other there)
-  where
-    by : (first ≡ other) ⊎ Contains files other → ¬ (CmpStamps other file ≡ Greater)
-    by (inl same) =
-        let below = stamp_below first file (below_by_recursion (IsBelow (on moment_of moment_cmp) first) files file above among) in
-        less_not_greater (CmpStamps other file) (subst (λ f. CmpStamps f file ≡ Less) same below)
-    by (inr inside) = none other inside full
+none_above_head first files file above among none other there full = elim (Contains-cons first files other there) [
+  | inl same ↦
+      let below = stamp_below first file (below_by_recursion (IsBelow (on moment_of moment_cmp) first) files file above among) in
+      less_not_greater (CmpStamps other file) (subst (λ f. CmpStamps f file ≡ Less) same below)
+  | inr inside ↦ none other inside full
+]
 
 -- if no file after the first file is a full extract, every file counts
 all_kept : (first : List (List ℕ)) (files : List (List (List ℕ))) (file : List (List ℕ)) → AllByRecursion (IsBelow (on moment_of moment_cmp) first) files
     → list_any is_full files ≡ false → Contains (first ∷ files) file → NoneAbove (first ∷ files) file
 all_kept first files file above none among other there full = by (Contains-cons first files other there) (Contains-cons first files file among)
   where
-    no_full : Contains files other → ⊥
-    no_full inside = let told = none_is files none other inside in cc
-
     by : (first ≡ other) ⊎ Contains files other → (first ≡ file) ⊎ Contains files file → ¬ (CmpStamps other file ≡ Greater)
-    by (inr inside) here = absurd (no_full inside)
+    by (inr inside) here = absurd (let told = none_is files none other inside in cc)
     by (inl same) (inl same_file) =
         let tied : CmpStamps other file ≡ Equal = subst (λ f. CmpStamps other f ≡ Equal) (sym same ∙ same_file)
         (tied_itself file_stamp_total (file_stamp_of other)) in
@@ -238,21 +231,14 @@ kept_in [] up file among = absurd (nil-Contains file among)
 kept_in (first ∷ files) up file among = by (list_any is_full files) refl (kept_in files up.1 file)
   where
     by : (b : Bool) → list_any is_full files ≡ b → (Contains (from_last_full files) file → KeptThere files file) → KeptThere (first ∷ files) file
-    by true h rest =
-        let inside = rest (subst (λ v. Contains (cond v (from_last_full files) (first ∷ files)) file) h among) in
-        (cons-Contains first files file inside.0, none_above_head first files file up.0 inside.0 inside.1)
-    by false h rest =
-        let inside = subst (λ v. Contains (cond v (from_last_full files) (first ∷ files)) file) h among in
-        (inside, all_kept first files file up.0 h inside)
+    by true h rest = search (rules, cons-Contains, none_above_head, up.0)
+    by false h rest = search (rules, all_kept, up.0)
 
 kept_or_dropped : (files : List (List (List ℕ))) → Ascending files → (file : List (List ℕ)) → Contains files file → Contains (from_last_full files) file
     ⊎ SomeAbove files file
 kept_or_dropped [] up file among = absurd (nil-Contains file among)
 kept_or_dropped (first ∷ files) up file among = by (list_any is_full files) refl (kept_or_dropped files up.1 file) (Contains-cons first files file among)
   where
-    goal : Bool → Type 0
-    goal b = Contains (cond b (from_last_full files) (first ∷ files)) file ⊎ SomeAbove (first ∷ files) file
-
     by : (b : Bool) → list_any is_full files ≡ b → (Contains files file → Contains (from_last_full files) file ⊎ SomeAbove files file)
         → (first ≡ file) ⊎ Contains files file → Contains (cond (list_any is_full files) (from_last_full files) (first ∷ files)) file ⊎ SomeAbove
         (first ∷ files) file
@@ -261,12 +247,7 @@ kept_or_dropped (first ∷ files) up file among = by (list_any is_full files) re
         let full = any_is files h in
         let below = stamp_below first full.0 (below_by_recursion (IsBelow (on moment_of moment_cmp) first) files full.0 up.0 full.1) in
         inr (full.0, cons-Contains first files full.0 full.1, full.2, subst (λ f. CmpStamps f full.0 ≡ Less) same below)
-    by true h rest (inr inside) = deeper (rest inside)
-      where
-        deeper : Contains (from_last_full files) file ⊎ SomeAbove files file
-            → Contains (cond (list_any is_full files) (from_last_full files) (first ∷ files)) file ⊎ SomeAbove (first ∷ files) file
-        deeper (inl kept) = inl (subst (λ v. Contains (cond v (from_last_full files) (first ∷ files)) file) (sym h) kept)
-        deeper (inr above) = inr (above.0, cons-Contains first files above.0 above.1, above.2, above.3)
+    by true h rest (inr inside) = search (rules, cons-Contains)
 
 -- if files are in moment order, the last full extract and the files after it are in moment order
 pub suffix_ascends : (files : List (List (List ℕ))) → Ascending files → Ascending (from_last_full files)
@@ -306,14 +287,13 @@ module _ (files ordered : List (List (List ℕ))) (order : IsInMomentOrder files
   pub in_entries : (key : Key) (entry : Entry) → IsEntryOf files floor key entry → Contains (entries_along (from_last_full ordered)) (key, entry)
   in_entries key entry made =
       let there = (order.same made.file).1 made.kept.among in
-      let kept : Contains (from_last_full ordered) made.file = by (kept_or_dropped ordered order.ascending made.file there) in
+      let kept : Contains (from_last_full ordered) made.file = (elim (kept_or_dropped ordered order.ascending made.file there) [
+        | inl kept ↦ kept
+        | inr above ↦ absurd (not_dropped files ordered order.same floor is_floor made.file made.kept.kept above)
+      ]) in
       let pair : entry_of_change made.file made.change ≡ (key, entry) = (λ i. (made.key_is i, made.entry_is i)) in
       flat_map-Contains entries_of (from_last_full ordered) made.file (key, entry) kept
       (subst (Contains (entries_of made.file)) pair (map-Contains (entry_of_change made.file) (changes made.file) made.change made.among))
-    where
-      by : Contains (from_last_full ordered) made.file ⊎ SomeAbove ordered made.file → Contains (from_last_full ordered) made.file
-      by (inl kept) = kept
-      by (inr above) = absurd (not_dropped files ordered order.same floor is_floor made.file made.kept.kept above)
 
   -- an entry of the last full extract or of a file after it is an entry of a file that counts
   pub out_entries : (key : Key) (entry : Entry) → Contains (entries_along (from_last_full ordered)) (key, entry) → IsEntryOf files floor key entry
@@ -345,30 +325,18 @@ pub find_in : (entries : List Keyed) (key : Key) → Found entries key ⊎ NotFo
 find_in [] key = inr (refl, λ entry among. nil-Contains _ among)
 find_in (first ∷ entries) key = by (is_eq (key_cmp first.0 key)) refl (find_in entries _)
   where
-    test : Keyed → Bool
-    test entry = is_eq (key_cmp entry.0 key)
-
     by : (b : Bool) → is_eq (key_cmp first.0 key) ≡ b → Found entries key ⊎ NotFound entries key → Found (first ∷ entries) key ⊎ NotFound (first ∷ entries) key
     by true h rest =
         let same : first ≡ (key, first.1) = (λ i. (same_key first.0 _ h i, first.1)) in
-        inl (
-          first,
-          (λ i. cond (h i) (Some first) (find (λ entry. is_eq (key_cmp entry.0 key)) entries)),
-          subst (Contains (first ∷ entries)) same (cons-Contains-first first _),
-        )
-    by false h (inl found) = inl (
-      found.0,
-      (λ i. cond (h i) (Some first) (find (λ entry. is_eq (key_cmp entry.0 key)) entries)) ∙ found.1,
-      cons-Contains first _ (key, found.0.1) found.2,
-    )
+        search (rules, cons-Contains-first)
+    by false h (inl found) = search (rules, cons-Contains)
     by false h (inr none) = inr (
       (λ i. cond (h i) (Some first) (find (λ entry. is_eq (key_cmp entry.0 key)) entries)) ∙ none.0,
-      λ entry among. no entry (Contains-cons _ entries _ among),
+      λ entry among. elim (Contains-cons _ entries _ among) [
+        | inl e ↦ other_key first.0 _ h (ap (λ (pair : Keyed). pair.0) e)
+        | inr inside ↦ none.1 entry inside
+      ],
     )
-      where
-        no : (entry : Entry) → (first ≡ (key, entry)) ⊎ Contains entries (key, entry) → ⊥
-        no entry (inl e) = other_key first.0 _ h (ap (λ (pair : Keyed). pair.0) e)
-        no entry (inr inside) = none.1 entry inside
 
 -- a list of entries in key order has at most one entry for each key
 pub one_per_key : (entries : List Keyed) → IsStrictlyAscending (on (λ (entry : Keyed). entry.0) key_cmp) entries → (key : Key) (first second : Entry)

@@ -3,7 +3,7 @@
 -- below the floor. Each entry whose body ended before the horizon has lapsed. A reduction in two
 -- steps equals the reduction in one step, if the horizon of the first step is at most the horizon
 -- of the second step.
-use Rattle.std.proofs.Common.{◌≡◌, ℕ, ◌≤◌, List, ◌++◌, Contains, subst, inl, inr, ◌⊎◌, ap, sym, ◌∙◌, Some, None}
+use Rattle.std.proofs.Common.{◌≡◌, ℕ, ◌≤◌, List, ◌++◌, Contains, subst, inl, inr, ◌⊎◌, ap, sym, ◌∙◌, Some, None, rules}
 use Rattle.std.specs.Prelude.{Option, ◌↔◌}
 use Rattle.std.proofs.Math.Nat.{max-eq_left}
 use Rattle.std.proofs.lemmas.List.Elements.{Contains-append_left, Contains-append_right, Contains-append_cases}
@@ -11,7 +11,7 @@ use Rattle.docker_model.specs.file.Change.{Key}
 use Rattle.docker_model.specs.state.Order.{IsAtMost, IsStrictlyAscending}
 use Rattle.docker_model.specs.state.Stamp.{FileStamp, LedgerItem, file_stamp_cmp, ledger_item_cmp, IsFull, IsFloor, IsKept}
 use Rattle.docker_model.specs.state.Op.{lapsed, Entry, entry_cmp}
-use Rattle.docker_model.specs.state.Lapse.{lapse, lapse_entry, HasNotToLapse}
+use Rattle.docker_model.specs.state.Lapse.{lapse, lapse_entry}
 use Rattle.docker_model.specs.state.State.{State, AreAscending, IsGreatestAmong}
 use Rattle.cif_laws.proofs.orders.Orders.{file_stamp_total, entry_total}
 use Rattle.cif_laws.proofs.orders.AtMost.{at_most_trans, at_most_itself}
@@ -46,30 +46,27 @@ module _ (items more : List LedgerItem) (entries others : List Keyed) (once twic
 
   top_of : (item : LedgerItem) → Contains (items ++ more) item → IsFull item → Top item
   unfolding Top
-  top_of item among full = by (Contains-append_cases items more item among)
+  top_of item among full = elim (Contains-append_cases items more item among) [
+    | inl here ↦ under first.floor first.is_floor (λ i inside kept. (first.ledger i).1 (inside, kept)) here
+    | inr here ↦ (item, Contains-append_right once.ledger more item here, full, at_most_itself file_stamp_total item.stamp)
+  ]
     where
       under : (floor : Option FileStamp) → IsFloor items floor → ((i : LedgerItem) → Contains items i → IsKept floor i.stamp → Contains once.ledger i)
           → Contains items item → Top item
       under None none there here = absurd (none item here full)
       under (Some stamp) greatest there here =
-          let kept : IsAtMost file_stamp_cmp stamp greatest.full.stamp = subst (λ s. IsAtMost file_stamp_cmp stamp s) (sym greatest.stamped)
-          (at_most_itself file_stamp_total stamp) in (
+          let kept : IsAtMost file_stamp_cmp stamp greatest.full.stamp = search rules in (
             greatest.full,
             Contains-append_left once.ledger more greatest.full (there greatest.full greatest.among kept),
             greatest.is_full,
             subst (λ s. IsAtMost file_stamp_cmp item.stamp s) (sym greatest.stamped) (greatest.greatest item here full),
           )
 
-      by : Contains items item ⊎ Contains more item → Top item
-      by (inl here) = under first.floor first.is_floor (λ i inside kept. (first.ledger i).1 (inside, kept)) here
-      by (inr here) = (item, Contains-append_right once.ledger more item here, full, at_most_itself file_stamp_total item.stamp)
-
   back_to : (item : LedgerItem) → Contains (once.ledger ++ more) item → Contains (items ++ more) item
-  back_to item among = by (Contains-append_cases once.ledger more item among)
-    where
-      by : Contains once.ledger item ⊎ Contains more item → Contains (items ++ more) item
-      by (inl here) = Contains-append_left items more item ((first.ledger item).0 here).0
-      by (inr here) = Contains-append_right items more item here
+  back_to item among = elim (Contains-append_cases once.ledger more item among) [
+    | inl here ↦ Contains-append_left items more item ((first.ledger item).0 here).0
+    | inr here ↦ Contains-append_right items more item here
+  ]
 
   whole_floor : (floor : Option FileStamp) → IsFloor (once.ledger ++ more) floor → IsFloor (items ++ more) floor
   unfolding Top
@@ -93,11 +90,10 @@ module _ (items more : List LedgerItem) (entries others : List Keyed) (once twic
   kept_first stamp kept = kept_down first.floor second.floor first.is_floor (whole_floor second.floor second.is_floor) stamp kept
 
   ledger_in : (item : LedgerItem) → Contains (items ++ more) item → IsKept second.floor item.stamp → Contains (once.ledger ++ more) item
-  ledger_in item among kept = by (Contains-append_cases items more item among)
-    where
-      by : Contains items item ⊎ Contains more item → Contains (once.ledger ++ more) item
-      by (inl here) = Contains-append_left once.ledger more item ((first.ledger item).1 (here, kept_first item.stamp kept))
-      by (inr here) = Contains-append_right once.ledger more item here
+  ledger_in item among kept = elim (Contains-append_cases items more item among) [
+    | inl here ↦ Contains-append_left once.ledger more item ((first.ledger item).1 (here, kept_first item.stamp kept))
+    | inr here ↦ Contains-append_right once.ledger more item here
+  ]
 
   -- ---- reducing entries in two steps gives the same entries as reducing them in one step
   module _ (key : Key) where
@@ -108,36 +104,40 @@ module _ (items more : List LedgerItem) (entries others : List Keyed) (once twic
     -- entries for the key
     under_best : (best : Entry) → IsGreatestAmong (entries ++ others) key best → (other : Entry) → Contains (once.entries ++ others) (key, other)
         → IsAtMost entry_cmp other best
-    under_best best is other among = by (Contains-append_cases once.entries others (key, other) among)
-      where
-        by : Contains once.entries (key, other) ⊎ Contains others (key, other) → IsAtMost entry_cmp other best
-        by (inr here) = is.greatest other (Contains-append_right entries others (key, other) here)
-        by (inl here) =
-            let told = (first.of_keys key other).0 here in
-            at_most_trans entry_total other _ best (subst (λ e. IsAtMost entry_cmp e told.0) told.3 (lapse_below _ told.0))
-            (is.greatest told.0 (Contains-append_left entries others (key, told.0) told.1.among))
+    under_best best is other among = elim (Contains-append_cases once.entries others (key, other) among) [
+      | inr here ↦ is.greatest other (Contains-append_right entries others (key, other) here)
+      | inl here ↦
+          let told = (first.of_keys key other).0 here in
+          at_most_trans entry_total other _ best (subst (λ e. IsAtMost entry_cmp e told.0) told.3 (lapse_below _ told.0))
+          (is.greatest told.0 (Contains-append_left entries others (key, told.0) told.1.among))
+    ]
 
     -- suppose that the greatest of all entries for a key isn't below the floor. Either it is in
     -- `others`, or the first step of the reduction keeps it, lapsed with the horizon of this step
     stands : (best : Entry) → IsGreatestAmong (entries ++ others) key best → IsKept second.floor best.stamp.file
         → Contains once.entries (key, lapse_entry once.horizon best) ⊎ Contains others (key, best)
-    stands best is kept = by (Contains-append_cases entries others (key, best) is.among)
-      where
-        by : Contains entries (key, best) ⊎ Contains others (key, best) → Contains once.entries (key, lapse_entry once.horizon best) ⊎ Contains others
-            (key, best)
-        by (inr here) = inr here
-        by (inl here) = inl ((first.of_keys key (lapse_entry once.horizon best)).1 (
-          best,
-          record { among = here; greatest = λ other inside. is.greatest other (Contains-append_left entries others (key, other) inside) },
-          kept_first _ kept,
-          λ i. lapse_entry once.horizon best,
-        ))
+    stands best is kept = elim (Contains-append_cases entries others (key, best) is.among) [
+      | inr here ↦ inr here
+      | inl here ↦ inl ((first.of_keys key (lapse_entry once.horizon best)).1 (
+        best,
+        record { among = here; greatest = λ other inside. is.greatest other (Contains-append_left entries others (key, other) inside) },
+        kept_first _ kept,
+        λ i. lapse_entry once.horizon best,
+      ))
+    ]
 
     -- let `best` be the greatest of all entries for a key, and `top` the key's greatest entry among
     -- the entries that the second step of the reduction receives. Lapsing makes them equal
     same_lapse : (best top : Entry) → IsGreatestAmong (entries ++ others) key best → IsGreatestAmong (once.entries ++ others) key top
         → IsKept second.floor best.stamp.file → IsKept second.floor top.stamp.file → lapse_entry twice.horizon best ≡ lapse_entry twice.horizon top
-    same_lapse best top is_best is_top kept_best kept_top = by (stands _ is_best kept_best)
+    same_lapse best top is_best is_top kept_best kept_top = elim (stands _ is_best kept_best) [
+      | inl there ↦ elim (lapses_or_not once.horizon _) [
+        | inl has ↦ between has there
+        | inr has_not ↦ itself (Contains-append_left once.entries others (key, best)
+            (subst (λ e. Contains once.entries (key, e)) (entry_stays once.horizon _ has_not) there))
+      ]
+      | inr there ↦ itself (Contains-append_right once.entries others (key, best) there)
+    ]
       where
         -- lapsing makes `best` and `top` equal, if the second step of the reduction receives `best`
         -- itself
@@ -164,34 +164,21 @@ module _ (items more : List LedgerItem) (entries others : List Keyed) (once twic
             lapse_entry_keeps_order _ top _ (under_best best is_best _ is_top.among) in
             sym (level_lapsed (lapse_entry twice.horizon top) _ gone high low)
 
-        stayed : (lapse once.horizon best.op ≡ lapsed) ⊎ HasNotToLapse once.horizon best.op → Contains once.entries (key, lapse_entry once.horizon best)
-            → lapse_entry twice.horizon best ≡ lapse_entry twice.horizon top
-        stayed (inl has) there = between has there
-        stayed (inr has_not) there = itself (Contains-append_left once.entries others (key, best)
-            (subst (λ e. Contains once.entries (key, e)) (entry_stays once.horizon _ has_not) there))
-
-        by : Contains once.entries (key, lapse_entry once.horizon best) ⊎ Contains others (key, best)
-            → lapse_entry twice.horizon best ≡ lapse_entry twice.horizon top
-        by (inl there) = stayed (lapses_or_not once.horizon _) there
-        by (inr there) = itself (Contains-append_right once.entries others (key, best) there)
-
     forth : (entry : Entry) → KeptOf (once.entries ++ others) second.floor twice.horizon key entry
         → KeptOf (entries ++ others) second.floor twice.horizon key entry
-    forth entry told = by (greatest_in (entries ++ others) key)
+    forth entry told = elim (greatest_in (entries ++ others) key) [
+      | inl none ↦ absurd (none some.0 some.1)
+      | inr best ↦
+          let is : IsGreatestAmong (entries ++ others) key best.0 = record { among = best.1; greatest = best.2 } in
+          let kept = kept_up second.floor told.0 best.0 (under_best best.0 is told.0 told.1.among) told.2 in
+          (best.0, is, kept, same_lapse best.0 told.0 is told.1 kept told.2 ∙ told.3)
+    ]
       where
         some : (e : Entry) × Contains (entries ++ others) (key, e)
-        some = from (Contains-append_cases once.entries others (key, told.0) told.1.among)
-          where
-            from : Contains once.entries (key, told.0) ⊎ Contains others (key, told.0) → (e : Entry) × Contains (entries ++ others) (key, e)
-            from (inl here) = let was = (first.of_keys key told.0).0 here in (was.0, Contains-append_left entries others (key, was.0) was.1.among)
-            from (inr here) = (told.0, Contains-append_right entries others (key, told.0) here)
-
-        by : NoEntry (entries ++ others) key ⊎ GreatestEntry (entries ++ others) key → KeptOf (entries ++ others) second.floor twice.horizon key entry
-        by (inl none) = absurd (none some.0 some.1)
-        by (inr best) =
-            let is : IsGreatestAmong (entries ++ others) key best.0 = record { among = best.1; greatest = best.2 } in
-            let kept = kept_up second.floor told.0 best.0 (under_best best.0 is told.0 told.1.among) told.2 in
-            (best.0, is, kept, same_lapse best.0 told.0 is told.1 kept told.2 ∙ told.3)
+        some = elim (Contains-append_cases once.entries others (key, told.0) told.1.among) [
+          | inl here ↦ let was = (first.of_keys key told.0).0 here in (was.0, Contains-append_left entries others (key, was.0) was.1.among)
+          | inr here ↦ (told.0, Contains-append_right entries others (key, told.0) here)
+        ]
 
     back : (entry : Entry) → KeptOf (entries ++ others) second.floor twice.horizon key entry
         → KeptOf (once.entries ++ others) second.floor twice.horizon key entry

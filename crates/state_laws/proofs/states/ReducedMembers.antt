@@ -1,12 +1,11 @@
 -- A reduction depends only on the members of the lists of items and entries, not on their order.
 -- For a given horizon there is at most one reduction.
-use Rattle.std.proofs.Common.{List, Some, None, ◌≡◌, subst, sym}
+use Rattle.std.proofs.Common.{List, Some, None, ◌≡◌, subst, sym, rules}
 use Rattle.std.specs.Prelude.{Option}
 use Rattle.std.specs.Cmp.{on_total}
 use Rattle.docker_model.specs.file.Change.{Key}
 use Rattle.docker_model.specs.state.Stamp.{FileStamp, LedgerItem, IsFloor, IsKept}
 use Rattle.docker_model.specs.state.Op.{Entry}
-use Rattle.docker_model.specs.state.Lapse.{lapse_entry}
 use Rattle.docker_model.specs.state.State.{IsGreatestAmong, State}
 use Rattle.cif_laws.proofs.orders.Orders.{key_total, ledger_item_total}
 use Rattle.cif_laws.proofs.orders.Ascending.{same_list}
@@ -74,5 +73,4 @@ reduced_unique items entries s t horizons is_s is_t =
     λ i. record { horizon = horizons i; ledger = ledgers i; entries = pairs i }
   where
     moved : (f g : Option FileStamp) → f ≡ g → (h k : _) → h ≡ k → (key : Key) (entry : Entry) → KeptOf entries f h key entry → KeptOf entries g k key entry
-    moved f g fs h k hs key entry told =
-        (told.0, told.1, subst (λ floor. IsKept floor told.0.stamp.file) fs told.2, subst (λ n. lapse_entry n told.0 ≡ entry) hs told.3)
+    moved f g fs h k hs key entry told = search rules

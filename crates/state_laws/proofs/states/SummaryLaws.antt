@@ -1,7 +1,7 @@
 -- A set of files has at most one summary for each horizon. The join of two summaries is the summary
 -- of both sets of files together, with the greater of their two horizons. Setting a horizon on a
 -- summary gives the summary with the greater of the two horizons.
-use Rattle.std.proofs.Common.{◌≡◌, ℕ, ◌≤◌, List, ◌++◌, map, Contains, subst, inl, inr, ◌⊎◌, ap, sym, ◌∙◌, rules}
+use Rattle.std.proofs.Common.{◌≡◌, ℕ, ◌≤◌, List, ◌++◌, map, Contains, subst, inl, inr, ap, sym, ◌∙◌, rules}
 use Rattle.std.specs.Prelude.{max}
 use Rattle.std.specs.List.{flat_map}
 use Rattle.std.proofs.Math.Nat.{le-max_left, max-eq_left}
@@ -12,7 +12,7 @@ use Rattle.docker_model.specs.state.Lapse.{lapse_entry}
 use Rattle.docker_model.specs.state.State.{State, IsJoin, lapse_state, raise_horizon}
 use Rattle.docker_model.specs.state.Summary.{IsSummary}
 use Rattle.cif_laws.proofs.lists.Membership.{Contains-flat_map, flat_map-Contains, Contains-map, map-Contains, SameMembers, same_members_turned}
-use Rattle.state_laws.proofs.states.PlainTable.{entries_of, entries_along}
+use Rattle.state_laws.proofs.states.PlainTable.{entries_along}
 use Rattle.state_laws.proofs.states.Lapse.{entry_twice}
 use Rattle.state_laws.proofs.states.LapsedGreatest.{lapsed_from, lapsed_to}
 use Rattle.state_laws.proofs.states.KeptEntries.{lapse_ascends}
@@ -43,11 +43,7 @@ same_entries files others same entry = (members_of_flat_map _ _ _ (λ file. (sam
 
 members_of_append : {A : Type 0} (xs ys zs : List A) → ((x : A) → Contains xs x → Contains zs x) → ((x : A) → Contains ys x → Contains zs x) → (x : A)
     → Contains (xs ++ ys) x → Contains zs x
-members_of_append xs ys zs left right x among = by (Contains-append_cases xs ys x among)
-  where
-    by : Contains xs x ⊎ Contains ys x → Contains zs x
-    by (inl here) = left x here
-    by (inr here) = right x here
+members_of_append xs ys zs left right x among = elim (Contains-append_cases xs ys x among) [ inl here ↦ left x here | inr here ↦ right x here ]
 
 -- the ledger items of two sets of files, taken together, are the ledger items of the union of the
 -- sets
@@ -57,12 +53,11 @@ items_of_union files others item = (
       (members_of_map _ _ _ (λ file here. Contains-append_left files others file here)) _,
   λ among.
       let found = Contains-map _ _ _ among in
-      subst (Contains (map ledger_item_of others ++ map ledger_item_of files)) found.2 (by found.0 (Contains-append_cases files others found.0 found.1)),
+      subst (Contains (map ledger_item_of others ++ map ledger_item_of files)) found.2 (elim (Contains-append_cases files others found.0 found.1) [
+        | inl here ↦ Contains-append_right (map ledger_item_of others) (map ledger_item_of files) (ledger_item_of found.0) (map-Contains _ _ _ here)
+        | inr here ↦ Contains-append_left (map ledger_item_of others) (map ledger_item_of files) (ledger_item_of found.0) (map-Contains _ _ _ here)
+      ]),
 )
-  where
-    by : (file : File) → Contains files file ⊎ Contains others file → Contains (map ledger_item_of others ++ map ledger_item_of files) (ledger_item_of file)
-    by file (inl here) = Contains-append_right (map ledger_item_of others) (map ledger_item_of files) (ledger_item_of file) (map-Contains _ _ _ here)
-    by file (inr here) = Contains-append_left (map ledger_item_of others) (map ledger_item_of files) (ledger_item_of file) (map-Contains _ _ _ here)
 
 entries_of_union : (files others : List File) → SameMembers (entries_along others ++ entries_along files) (entries_along (files ++ others))
 entries_of_union files others entry = (
@@ -70,13 +65,11 @@ entries_of_union files others entry = (
       (members_of_flat_map _ _ _ (λ file here. Contains-append_left files others file here)) _,
   λ among.
       let found = Contains-flat_map _ _ _ among in
-      by found.0 found.2 (Contains-append_cases files others found.0 found.1),
+      elim (Contains-append_cases files others found.0 found.1) [
+        | inl here ↦ Contains-append_right (entries_along others) (entries_along files) entry (flat_map-Contains _ _ _ _ here found.2)
+        | inr here ↦ Contains-append_left (entries_along others) (entries_along files) entry (flat_map-Contains _ _ _ _ here found.2)
+      ],
 )
-  where
-    by : (file : File) → Contains (entries_of file) entry → Contains files file ⊎ Contains others file
-        → Contains (entries_along others ++ entries_along files) entry
-    by file inside (inl here) = Contains-append_right (entries_along others) (entries_along files) entry (flat_map-Contains _ _ _ _ here inside)
-    by file inside (inr here) = Contains-append_left (entries_along others) (entries_along files) entry (flat_map-Contains _ _ _ _ here inside)
 
 -- ---- the laws of summaries
 
@@ -97,9 +90,7 @@ join_is_summary files others g h one two joined of_files of_others is =
     (same_members_turned (map ledger_item_of files) _) (same_members_turned (entries_along files) _) joined first in
     let second = reduced_twice _ (map ledger_item_of files) _ (entries_along files) _ joined
     (summary_reduced _ h _ of_others) turn (horizon_right one _ joined is) in
-    reduced_summary _ (max g h) _ (is.horizon ∙ (λ i. max (of_files.horizon_is i) (of_others.horizon_is i)))
-    (reduced_along (map ledger_item_of others ++ map ledger_item_of files) _ (entries_along others ++ entries_along files) _
-    (items_of_union files _) (entries_of_union files _) joined second)
+    search (rules, reduced_summary, reduced_along, items_of_union, entries_of_union, is.horizon, of_files.horizon_is, of_others.horizon_is)
 
 -- lapsing a summary with a horizon that is at least the summary's horizon gives the summary with
 -- the new horizon

@@ -1,6 +1,6 @@
 -- A summary is the result of reducing its files' ledger items and the entries that the files'
 -- changes make.
-use Rattle.std.proofs.Common.{◌≡◌, ℕ, List, map, Contains, subst, inl, inr, ◌⊎◌, ap, sym, Some, None, rules}
+use Rattle.std.proofs.Common.{◌≡◌, ℕ, List, map, Contains, subst, inl, ◌⊎◌, ap, sym, Some, None, rules}
 use Rattle.std.specs.Prelude.{Option}
 use Rattle.docker_model.specs.file.Change.{Key, changes}
 use Rattle.docker_model.specs.state.Order.{IsAtMost}
@@ -42,14 +42,7 @@ module _ (files : List File) (floor : Option FileStamp) (key : Key) where
       let found = Contains-flat_map entries_of files (key, entry) among in
       let change = Contains-map (entry_of_change found.0) (changes found.0) (key, entry) found.2 in
       let is : entry_of found.0 change.0 ≡ entry = ap (λ (pair : Keyed). pair.1) change.2 in
-      record {
-        file = found.0;
-        kept = record { among = found.1; kept = subst (λ (e : Entry). IsKept floor e.stamp.file) (sym is) kept };
-        change = change.0;
-        among = change.1;
-        key_is = ap (λ (pair : Keyed). pair.0) change.2;
-        entry_is = is;
-      }
+      search rules
 
   -- if an entry is a key's greatest entry from the files that aren't below the floor, it is the
   -- key's greatest entry from all files. It isn't below the floor
@@ -57,12 +50,7 @@ module _ (files : List File) (floor : Option FileStamp) (key : Key) where
       × IsKept floor entry.stamp.file
   greatest_forth entry best =
       let there = entry_in entry best.is in
-      (record { among = there.0; greatest = λ other among. by other among (below_kept floor other entry there.1) }, there.1)
-    where
-      by : (other : Entry) → Contains (entries_along files) (key, other) → IsKept floor other.stamp.file ⊎ IsAtMost entry_cmp other entry
-          → IsAtMost entry_cmp other entry
-      by other among (inl kept) = best.greatest other (entry_out other among kept)
-      by other among (inr low) = low
+      search (rules, below_kept, entry_out)
 
   -- if a key's greatest entry from all files isn't below the floor, it is the key's greatest entry
   -- from the files that aren't below the floor

@@ -1,6 +1,6 @@
 -- If each file of a set has at most `most_records` records, the summary of the set is a valid
 -- state.
-use Rattle.std.proofs.Common.{ℕ, ◌≤◌, List, map, length, All, Contains, subst, ap, sym, ◌∙◌, refl, arith}
+use Rattle.std.proofs.Common.{ℕ, ◌≤◌, List, map, length, All, Contains, subst, ap, sym, ◌∙◌, refl, arith, rules}
 use Rattle.std.specs.Prelude.{◌==◌, ◌||◌}
 use Rattle.std.proofs.lemmas.List.Elements.{All-contains}
 use Rattle.docker_model.specs.records.Record.{header, columns, column}
@@ -62,8 +62,7 @@ summary_is_valid files horizon state day each few summary = record {
   );
   have_lapsed = all_members (λ (entry : Key × Entry). HasNotToLapse state.horizon entry.1.op) state.entries (λ entry among.
       let told = (summary.entries entry.0 entry.1).0 among in
-      subst (λ h. HasNotToLapse h entry.1.op) (sym summary.horizon_is) (subst (HasNotToLapse horizon) (ap (λ (e : Entry). e.op) told.2)
-      (has_lapsed horizon told.0.op)));
+      subst (λ h. HasNotToLapse h entry.1.op) (sym summary.horizon_is) (search (rules, has_lapsed)));
 }
   where
     from : (item : LedgerItem) → Contains state.ledger item → Contains (map ledger_item_of files) item

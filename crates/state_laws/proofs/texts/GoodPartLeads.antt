@@ -10,7 +10,7 @@ use Rattle.docker_model.specs.file.Change.{Key, tiploc_key, association_key, sch
 use Rattle.docker_model.specs.state.Stamp.{LedgerItem, Stamp}
 use Rattle.docker_model.specs.state.Op.{key_tag, lapsed, deleted, put_with, body_end}
 use Rattle.docker_model.specs.state.State.{IsGoodItem, State, IsGoodKey, IsLedger, IsStampIn, IsAssociationOf}
-use Rattle.docker_model.specs.state.StateText.{dks_1, mark, dks_2, Format, item_bytes, ledger_text, entries_text}
+use Rattle.docker_model.specs.state.StateText.{dks_1, mark, dks_2, Format, item_bytes, entries_text}
 use Rattle.docker_model.specs.state.StateText.{key_bytes, stamp_bytes, put_bytes, IsHorizonOf, IsOpByte, TellsOp}
 use Rattle.docker_model.specs.state.StatePart.{before_mark, before_ledger_count, before_horizon, AreGood, text_before, before_item, IsAboveItems}
 use Rattle.docker_model.specs.state.StatePart.{RaisesFloor, before_entry_count, before_tag, before_key, IsTag, in_entry, IsAboveEntries, key_width}
@@ -19,7 +19,7 @@ use Rattle.docker_model.specs.state.StateFault.{StateCause, IsBadItem, IsBadKey}
 use Rattle.state_laws.specs.TextStage.{after_items, after_entries, with_entry, after_lines}
 use Rattle.state_laws.proofs.texts.StateReadBack.{read_16, item_read, item_width, key_read, key_width_is, stamp_read, stamp_width}
 use Rattle.state_laws.proofs.texts.TextStages.{Leads, one_step, then_leads}
-use Rattle.state_laws.proofs.texts.TextsBefore.{after_items_text, read_64, after_entries_text, entry_done_text, after_lines_text, read_32}
+use Rattle.state_laws.proofs.texts.TextsBefore.{after_items_text, read_64, entry_done_text, after_lines_text, read_32}
 
 -- after the mark, in the format DKS1 the next part is the number of items; in the format DKS2 it is
 -- the horizon
@@ -81,11 +81,7 @@ pub step_entry_count : (format : Format) (horizon : ℕ) → (count : ℕ) (ledg
 step_entry_count format horizon count ledger fits =
     one_step format (before_entry_count horizon ledger) (after_entries count (record { horizon = horizon; ledger = ledger; entries = [] }))
     (to_be_bytes w64 count) refl (omega arith) (λ cause bad. bad)
-    (ap (λ n. after_entries n (record { horizon = horizon; ledger = ledger; entries = [] })) (read_64 _ fits)) (
-    after_entries_text format count (record { horizon = horizon; ledger = ledger; entries = [] }) (omega arith)
-    ∙ append-nil (ledger_text format horizon (length ledger) ledger ++ to_be_bytes w64 count)
-    ∙ ap (λ xs. xs ++ to_be_bytes w64 count) (sym (append-nil (ledger_text format horizon (length ledger) ledger)))
-    )
+    (ap (λ n. after_entries n (record { horizon = horizon; ledger = ledger; entries = [] })) (read_64 _ fits)) (search rules)
 
 -- the text up to and including one more part of an entry is the text before this part, followed by
 -- the part

@@ -1,6 +1,6 @@
 -- A ledger with a good item appended is still a ledger. An item is good if it is well formed, is
 -- above all items of the ledger, and doesn't raise the floor.
-use Rattle.std.proofs.Common.{◌≡◌, subst, List, [], ◌∷◌, ◌++◌, refl, sym, inl, inr, ◌⊎◌, arith, All, Contains, Some, None, rules}
+use Rattle.std.proofs.Common.{subst, List, [], ◌∷◌, ◌++◌, refl, sym, inl, inr, arith, All, Contains, Some, None, rules}
 use Rattle.std.specs.Prelude.{Option}
 use Rattle.std.specs.List.{AllByRecursion}
 use Rattle.std.proofs.lemmas.List.Elements.{All-from_recursion, recursion_from_All, Contains-append_cases, Contains-append_left, Contains-append_right}
@@ -12,7 +12,7 @@ use Rattle.cif_laws.proofs.orders.Orders.{file_stamp_total}
 use Rattle.cif_laws.proofs.lists.Membership.{below_by_recursion, Contains-single as in_single, nil-Contains}
 use Rattle.cif_laws.proofs.orders.AtMost.{at_most_itself, at_most_trans, at_most_or}
 use Rattle.cif_laws.proofs.lists.AllOf.{all_append, all_weaker}
-use Rattle.cif_laws.proofs.lists.Decisions.{Decided, nat_decided}
+use Rattle.cif_laws.proofs.lists.Decisions.{nat_decided}
 use Rattle.cif_laws.proofs.orders.Ascending.{ascending_last}
 
 -- if one item is below another, its file stamp is at most the other item's file stamp
@@ -37,22 +37,20 @@ module _ (ledger : List LedgerItem) (item : LedgerItem) (is : IsLedger ledger) (
 
   -- if the item isn't for a full extract, appending it leaves the floor unchanged
   same_floor : ¬ IsFull item → (at : Option FileStamp) → IsFloor ledger at → IsFloor (ledger ++ item ∷ []) at
-  same_floor other None none = λ it among full. by it full (Contains-append_cases ledger (item ∷ []) it among)
-    where
-      by : (it : LedgerItem) → IsFull it → Contains ledger it ⊎ Contains (item ∷ []) it → ⊥
-      by it full (inl inside) = none it inside full
-      by it full (inr last) = other (subst IsFull (sym (in_single item it last)) full)
+  same_floor other None none = λ it among full. elim (Contains-append_cases ledger (item ∷ []) it among) [
+    | inl inside ↦ none it inside full
+    | inr last ↦ other (subst IsFull (sym (in_single item it last)) full)
+  ]
   same_floor other (Some stamp) greatest = record {
     full = greatest.full;
     among = Contains-append_left ledger (item ∷ []) greatest.full greatest.among;
     is_full = greatest.is_full;
     stamped = greatest.stamped;
-    greatest = λ it among full. by it full (Contains-append_cases ledger (item ∷ []) it among);
+    greatest = λ it among full. elim (Contains-append_cases ledger (item ∷ []) it among) [
+      | inl inside ↦ greatest.greatest it inside full
+      | inr last ↦ absurd (other (subst IsFull (sym (in_single item it last)) full))
+    ];
   }
-    where
-      by : (it : LedgerItem) → IsFull it → Contains ledger it ⊎ Contains (item ∷ []) it → IsAtMost file_stamp_cmp it.stamp stamp
-      by it full (inl inside) = greatest.greatest it inside full
-      by it full (inr last) = absurd (other (subst IsFull (sym (in_single item it last)) full))
 
   kept_last : (at : Option FileStamp) → IsFloor ledger at → IsKept at item.stamp
   kept_last = search (rules, at_most_last)
@@ -65,12 +63,11 @@ module _ (ledger : List LedgerItem) (item : LedgerItem) (is : IsLedger ledger) (
     among = Contains-append_right ledger (item ∷ []) item (0, omega arith, refl);
     is_full = full;
     stamped = refl;
-    greatest = λ it among is_full. by it (Contains-append_cases ledger (item ∷ []) it among);
+    greatest = λ it among is_full. elim (Contains-append_cases ledger (item ∷ []) it among) [
+      | inl inside ↦ at_most_last it inside
+      | inr last ↦ subst (λ i. IsAtMost file_stamp_cmp i.stamp item.stamp) (in_single item it last) (at_most_itself file_stamp_total item.stamp)
+    ];
   }
-    where
-      by : (it : LedgerItem) → Contains ledger it ⊎ Contains (item ∷ []) it → IsAtMost file_stamp_cmp it.stamp item.stamp
-      by it (inl inside) = at_most_last it inside
-      by it (inr last) = subst (λ i. IsAtMost file_stamp_cmp i.stamp item.stamp) (in_single item it last) (at_most_itself file_stamp_total item.stamp)
 
 kept_each : (ledger : List LedgerItem) (item : LedgerItem) → IsStrictlyAscending ledger_item_cmp ledger → ¬ RaisesFloor ledger item → IsFull item
     → AllByRecursion (λ (it : LedgerItem). IsAtMost file_stamp_cmp item.stamp it.stamp) ledger
@@ -81,37 +78,30 @@ kept_each (first ∷ ledger) item up floor full = (
       (λ it below. at_most_trans file_stamp_total _ first.stamp _ low (stamps_below first _ below)) ledger up.0,
 )
   where
-    by : IsAtMost file_stamp_cmp item.stamp first.stamp ⊎ IsBelow file_stamp_cmp first.stamp item.stamp → IsAtMost file_stamp_cmp item.stamp first.stamp
-    by (inl most) = most
-    by (inr below) = absurd (floor (full, below))
-
     low : IsAtMost file_stamp_cmp item.stamp first.stamp
-    low = by (at_most_or file_stamp_total _ first.stamp)
+    low = elim (at_most_or file_stamp_total _ first.stamp) [ inl most ↦ most | inr below ↦ absurd (floor (full, below)) ]
 
 -- a ledger with a good item appended is still a ledger
 pub one_item_more : (ledger : List LedgerItem) (item : LedgerItem) → IsLedger ledger → IsGoodItem item → IsAboveItems ledger item → ¬ RaisesFloor ledger item
     → IsLedger (ledger ++ item ∷ [])
-one_item_more ledger item is good above floor = by (nat_decided _ 70)
-  where
-    by : Decided (item.indicator ≡ 70) → IsLedger (ledger ++ item ∷ [])
-    by (inl full) = record {
-      each = each_good ledger item is good above floor;
-      ascending = each_ascends ledger item is good above floor;
-      floor = Some item.stamp;
-      is_floor = floor_at_last ledger item is good above floor full;
-      kept = All-from_recursion (λ (it : LedgerItem). IsAtMost file_stamp_cmp item.stamp it.stamp) (ledger ++ item ∷ [])
-          (all_append _ ledger _ (kept_each ledger _ is.ascending floor full) (at_most_itself file_stamp_total item.stamp, tt));
-    }
-    by (inr other) = record {
-      each = each_good ledger item is good above floor;
-      ascending = each_ascends ledger item is good above floor;
-      floor = is.floor;
-      is_floor = same_floor ledger _ is good above floor other is.floor is.is_floor;
-      kept = All-from_recursion (λ (it : LedgerItem). IsKept is.floor it.stamp) (ledger ++ item ∷ [])
-          (all_append (λ (it : LedgerItem). IsKept is.floor it.stamp) _ (item ∷ [])
-          (recursion_from_All (λ (it : LedgerItem). IsKept is.floor it.stamp) ledger is.kept)
-          (kept_last _ item is good above floor is.floor is.is_floor, tt));
-    }
+one_item_more ledger item is good above floor = elim (nat_decided _ 70) [
+  | inl full ↦ record {
+    each = each_good ledger item is good above floor;
+    ascending = each_ascends ledger item is good above floor;
+    floor = Some item.stamp;
+    is_floor = floor_at_last ledger item is good above floor full;
+    kept = All-from_recursion (λ (it : LedgerItem). IsAtMost file_stamp_cmp item.stamp it.stamp) (ledger ++ item ∷ [])
+        (all_append _ ledger _ (kept_each ledger _ is.ascending floor full) (at_most_itself file_stamp_total item.stamp, tt));
+  }
+  | inr other ↦ record {
+    each = each_good ledger item is good above floor;
+    ascending = each_ascends ledger item is good above floor;
+    floor = is.floor;
+    is_floor = same_floor ledger _ is good above floor other is.floor is.is_floor;
+    kept = All-from_recursion (λ (it : LedgerItem). IsKept is.floor it.stamp) (ledger ++ item ∷ [])
+        (search (rules, all_append, recursion_from_All, kept_last));
+  }
+]
 
 -- the empty list of items is a ledger
 pub no_items : IsLedger []

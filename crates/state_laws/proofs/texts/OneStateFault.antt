@@ -1,33 +1,18 @@
 -- A text has at most one fault. If a state's text is within the limit, it has no fault.
 use Rattle.std.proofs.Common.{◌≡◌, ℕ, ◌+◌, ◌≤◌, List, ◌∷◌, ◌++◌, length, ap, sym, ◌∙◌, rules}
 use Rattle.std.proofs.Common.{subst, inl, inr, arith, append_assoc, append-nil, length-append}
-use Rattle.docker_model.specs.file.Change.{Key}
-use Rattle.docker_model.specs.state.Stamp.{LedgerItem}
 use Rattle.docker_model.specs.state.State.{State}
 use Rattle.docker_model.specs.state.StateText.{Format, state_text}
-use Rattle.docker_model.specs.state.StatePart.{EntryPart}
 use Rattle.docker_model.specs.state.StatePart.{Before}
 use Rattle.docker_model.specs.state.StatePart.{at_end, items_before, text_before, width}
-use Rattle.docker_model.specs.state.StateFault.{StateCause, StateFault, IsBadItem, IsBadKey}
-use Rattle.docker_model.specs.state.StateFault.{IsBadEntryPart, IsBadPart, HasBadPart, IsLong, IsShort, HasTail, IsStateFault, IsStateText}
+use Rattle.docker_model.specs.state.StateFault.{StateCause, StateFault}
+use Rattle.docker_model.specs.state.StateFault.{IsBadPart, HasBadPart, IsLong, IsShort, HasTail, IsStateFault, IsStateText}
 use Rattle.cif_laws.proofs.lists.Fronts.{same_front}
 use Rattle.state_laws.proofs.texts.TextsApart.{same_end, IsStopped, one_stop, stop_of_bad, stop_of_long, stop_of_short, stop_at_end}
 
--- an item is bad for at most one cause
-one_item_cause : (ledger : List LedgerItem) (item : LedgerItem) (first second : StateCause) → IsBadItem ledger item first → IsBadItem ledger item second
-    → first ≡ second
-one_item_cause = search rules
-
-one_key_cause : (state : State) (key : Key) (first second : StateCause) → IsBadKey state key first → IsBadKey state key second → first ≡ second
-one_key_cause = search rules
-
-one_part_cause : (format : Format) → (state : State) (part : EntryPart) (bytes : List ℕ) (first second : StateCause)
-    → IsBadEntryPart format state part bytes first → IsBadEntryPart format state part bytes second → first ≡ second
-one_part_cause = search (rules, one_key_cause)
-
 one_cause : (format : Format) → (before : Before) (bytes : List ℕ) (first second : StateCause) → IsBadPart format before bytes first
     → IsBadPart format before bytes second → first ≡ second
-one_cause = search (rules, one_item_cause, one_part_cause)
+one_cause = search rules
 
 -- two faults with the same offset and cause are equal
 fault_is : (first second : StateFault) → first.at ≡ second.at → first.cause ≡ second.cause → first ≡ second
@@ -39,13 +24,11 @@ bad_and_bad format limit text first second one two =
     let same = one_stop format limit text one.before two.before (stop_of_bad format limit text first one) (stop_of_bad format limit text second two) in
     let behind = same_front (text_before format one.before) (text_before format two.before) (one.bytes ++ one.rest) (two.bytes ++ two.rest)
     (ap (λ before. length (text_before format before)) same)
-    (sym (append_assoc (text_before format one.before) one.bytes one.rest) ∙ sym one.whole ∙ two.whole
-    ∙ append_assoc (text_before format two.before) two.bytes two.rest) in
+    (search (rules, append_assoc)) in
     let parts = same_front one.bytes two.bytes one.rest two.rest (one.size ∙ ap width same ∙ sym two.size) behind.1 in
     let bad = subst (λ bytes. IsBadPart format two.before bytes first.cause) parts.0
     (subst (λ before. IsBadPart format before one.bytes first.cause) same one.bad) in
-    fault_is first second (one.item_at ∙ ap (λ before. length (items_before format before)) same ∙ sym two.item_at)
-    (one_cause format two.before two.bytes first.cause second.cause bad two.bad)
+    search (rules, one_cause)
 
 bad_and_long : (format : Format) → (limit : ℕ) (text : List ℕ) (first second : StateFault) → HasBadPart format limit text first
     → IsLong format limit text second → ⊥
@@ -120,41 +103,34 @@ pub one_fault : (format : Format) → (limit : ℕ) (text : List ℕ) (first sec
 one_fault format limit text first second (inl one) (inl two) = bad_and_bad format limit text first second one two
 one_fault format limit text first second (inl one) (inr (inl two)) = absurd (bad_and_long format limit text first second one two)
 one_fault format limit text first second (inl one) (inr (inr (inl two))) = absurd (bad_and_short format limit text first second one two)
-one_fault format limit text first second (inl one) (inr (inr (inr two))) =
-    absurd (end_and_bad format limit text two.state first (stop_of_tail format limit text second two) one)
+one_fault format limit text first second (inl one) (inr (inr (inr two))) = search (rules, end_and_bad, stop_of_tail, two.state)
 one_fault format limit text first second (inr (inl one)) (inl two) = absurd (bad_and_long format limit text second first two one)
 one_fault format limit text first second (inr (inl one)) (inr (inl two)) = fault_is first second (one.limit_at ∙ sym two.limit_at) (one.cause ∙ sym two.cause)
 one_fault format limit text first second (inr (inl one)) (inr (inr (inl two))) = absurd (long_and_short format limit text first second one two)
-one_fault format limit text first second (inr (inl one)) (inr (inr (inr two))) =
-    absurd (end_and_long format limit text two.state first (stop_of_tail format limit text second two) one)
+one_fault format limit text first second (inr (inl one)) (inr (inr (inr two))) = search (rules, end_and_long, stop_of_tail, two.state)
 one_fault format limit text first second (inr (inr (inl one))) (inl two) = absurd (bad_and_short format limit text second first two one)
 one_fault format limit text first second (inr (inr (inl one))) (inr (inl two)) = absurd (long_and_short format limit text second first two one)
 one_fault format limit text first second (inr (inr (inl one))) (inr (inr (inl two))) = short_and_short format limit text first second one two
-one_fault format limit text first second (inr (inr (inl one))) (inr (inr (inr two))) =
-    absurd (end_and_short format limit text two.state first (stop_of_tail format limit text second two) one)
-one_fault format limit text first second (inr (inr (inr one))) (inl two) =
-    absurd (end_and_bad format limit text one.state second (stop_of_tail format limit text first one) two)
-one_fault format limit text first second (inr (inr (inr one))) (inr (inl two)) =
-    absurd (end_and_long format limit text one.state second (stop_of_tail format limit text first one) two)
-one_fault format limit text first second (inr (inr (inr one))) (inr (inr (inl two))) =
-    absurd (end_and_short format limit text one.state second (stop_of_tail format limit text first one) two)
+one_fault format limit text first second (inr (inr (inl one))) (inr (inr (inr two))) = search (rules, end_and_short, stop_of_tail, two.state)
+one_fault format limit text first second (inr (inr (inr one))) (inl two) = search (rules, end_and_bad, stop_of_tail, one.state)
+one_fault format limit text first second (inr (inr (inr one))) (inr (inl two)) = search (rules, end_and_long, stop_of_tail, one.state)
+one_fault format limit text first second (inr (inr (inr one))) (inr (inr (inl two))) = search (rules, end_and_short, stop_of_tail, one.state)
 one_fault format limit text first second (inr (inr (inr one))) (inr (inr (inr two))) = tail_and_tail format limit text first second one two
 
 -- if a state's text is within the limit, it has no fault
 pub no_fault_of_state : (format : Format) → (limit : ℕ) (text : List ℕ) (state : State) (fault : StateFault) → IsStateText format limit text state
     → ¬ IsStateFault format limit text fault
-no_fault_of_state format limit text state fault is found = by found
+no_fault_of_state format limit text state fault is found = elim found [
+  | inl one ↦ end_and_bad format _ text _ fault stopped one
+  | inr (inl one) ↦ end_and_long _ limit _ state _ stopped one
+  | inr (inr (inl one)) ↦ end_and_short format _ text _ fault stopped one
+  | inr (inr (inr one)) ↦
+      let same = same_end _ state (one_stop _ limit _ (at_end one.state) _ (stop_of_tail format _ text _ one) stopped) in
+      let sizes = ap (λ s. length (state_text format s)) same in
+      let here = ap length is.is in
+      let there = ap length one.whole ∙ length-append (state_text format one.state) (one.next ∷ one.rest) in
+      omega arith
+]
   where
     stopped : IsStopped format limit text (at_end state)
     stopped = stop_at_end _ limit _ state _ is.valid (is.is ∙ sym (append-nil (state_text format state))) (subst (λ xs. length xs ≤ limit) is.is is.within)
-
-    by : IsStateFault format limit text fault → ⊥
-    by (inl one) = end_and_bad format _ text _ fault stopped one
-    by (inr (inl one)) = end_and_long _ limit _ state _ stopped one
-    by (inr (inr (inl one))) = end_and_short format _ text _ fault stopped one
-    by (inr (inr (inr one))) =
-        let same = same_end _ state (one_stop _ limit _ (at_end one.state) _ (stop_of_tail format _ text _ one) stopped) in
-        let sizes = ap (λ s. length (state_text format s)) same in
-        let here = ap length is.is in
-        let there = ap length one.whole ∙ length-append (state_text format one.state) (one.next ∷ one.rest) in
-        omega arith

@@ -1,5 +1,5 @@
 -- It is decidable whether a part of a state's text is good.
-use Rattle.std.proofs.Common.{◌≡◌, ℕ, ◌-◌, ◌^◌, List, [], ◌∷◌, subst, inl, inr, ◌⊎◌, Contains, rules}
+use Rattle.std.proofs.Common.{◌≡◌, ℕ, ◌-◌, ◌^◌, List, [], ◌∷◌, subst, inl, inr, Contains, rules}
 use Rattle.std.specs.Prelude.{slice_index}
 use Rattle.std.specs.Int.{w32, from_be_bytes}
 use Rattle.docker_model.specs.records.Record.{association, is_printable, column, IsTextOfLength}
@@ -70,14 +70,10 @@ contains_decided : (xs : List FileStamp) (x : FileStamp) → Decided (Contains x
 contains_decided [] x = inr (nil-Contains x)
 contains_decided (y ∷ xs) x = by (same_decided file_stamp_total exact_file_stamp y x) (contains_decided xs x)
   where
-    neither : ¬ (y ≡ x) → ¬ Contains xs x → (y ≡ x) ⊎ Contains xs x → ⊥
-    neither apart out (inl same) = apart same
-    neither apart out (inr inside) = out inside
-
     by : Decided (y ≡ x) → Decided (Contains xs x) → Decided (Contains (y ∷ xs) x)
     by (inl same) rest = inl (subst (λ z. Contains (y ∷ xs) z) same (cons-Contains-first y xs))
     by (inr apart) (inl inside) = inl (cons-Contains y xs x inside)
-    by (inr apart) (inr out) = inr (λ among. neither apart out (Contains-cons y xs x among))
+    by (inr apart) (inr out) = inr (λ among. elim (Contains-cons y xs x among) [ inl same ↦ apart same | inr inside ↦ out inside ])
 
 -- it is decidable whether a stamp is the stamp of a change in a file of the ledger
 pub stamp_in_decided : (ledger : List LedgerItem) (stamp : Stamp) → Decided (IsStampIn ledger stamp)

@@ -1,22 +1,21 @@
 -- A part of a state's text that has the right number of bytes either is bad for some cause or is
 -- good.
-use Rattle.std.proofs.Common.{◌≡◌, ℕ, ◌-◌, ◌<◌, ◌≤◌, ◌^◌, List, [], ◌∷◌, ◌++◌, length, refl, ap, sym, ◌∙◌, subst, rules}
-use Rattle.std.proofs.Common.{inl, inr, ◌⊎◌, arith, true, false, cond, nat_le, append-nil, length-append}
-use Rattle.std.specs.Prelude.{slice_index}
-use Rattle.std.specs.Int.{w16, w32, to_be_bytes, from_be_bytes}
+use Rattle.std.proofs.Common.{◌≡◌, ℕ, ◌<◌, ◌≤◌, ◌^◌, List, [], ◌∷◌, ◌++◌, length, refl, ap, sym, ◌∙◌, rules}
+use Rattle.std.proofs.Common.{inl, inr, ◌⊎◌, arith, true, false, nat_le, append-nil, length-append}
+use Rattle.std.specs.Int.{w16, to_be_bytes, from_be_bytes}
 use Rattle.std.proofs.lemmas.Nat.{be_bytes_2}
 use Rattle.std.proofs.lemmas.Bool.Decides.{leb_tells}
 use Rattle.std.specs.Cmp.Lexicographic.{nat_list_cmp_total}
 use Rattle.std.proofs.lemmas.Map.Lookups.{exact_bytes}
-use Rattle.docker_model.specs.file.Change.{Key, tiploc_key, association_key, schedule_key, ScheduleKey, tiploc_body, schedule_body}
+use Rattle.docker_model.specs.file.Change.{Key, tiploc_key, association_key, schedule_key, ScheduleKey, schedule_body}
 use Rattle.docker_model.specs.state.Stamp.{Stamp, LedgerItem}
 use Rattle.docker_model.specs.state.Op.{Op, lapsed, put_with}
 use Rattle.docker_model.specs.state.Lapse.{HasNotToLapse}
-use Rattle.docker_model.specs.state.State.{IsGoodItem, IsGoodKey, IsStampIn, IsScheduleOf, State, IsOpOf}
-use Rattle.docker_model.specs.state.StateText.{item_in, key_in, stamp_in, Format, dks_1, dks_2}
+use Rattle.docker_model.specs.state.State.{IsGoodItem, IsGoodKey, State, IsOpOf}
+use Rattle.docker_model.specs.state.StateText.{item_in, key_in, Format, dks_1, dks_2}
 use Rattle.docker_model.specs.state.StateText.{mark, entries_text, IsOpByte, TellsOp, IsToldState}
-use Rattle.docker_model.specs.state.StatePart.{EntryPart, before_tag, before_key, before_stamp, before_op, before_body, before_line, key_text, part_width}
-use Rattle.docker_model.specs.state.StatePart.{key_width, IsTag, IsLineCount, IsAboveItems, RaisesFloor, AreLinesOf, AreLinesUpTo, Before, before_mark}
+use Rattle.docker_model.specs.state.StatePart.{EntryPart, before_tag, before_key, before_stamp, before_op, before_body, before_line, part_width}
+use Rattle.docker_model.specs.state.StatePart.{key_width, IsTag, IsLineCount, IsAboveItems, RaisesFloor, AreLinesUpTo, Before, before_mark}
 use Rattle.docker_model.specs.state.StatePart.{before_horizon, before_ledger_count, before_item, before_entry_count, in_entry, at_end}
 use Rattle.docker_model.specs.state.StatePart.{text_before, width, HaveNotToLapse, IsAboveEntries, IsKeyHere, IsStampHere, IsPartHere, AreGood}
 use Rattle.docker_model.specs.state.StateFault.{StateCause, bad_mark, bad_item, bad_order, bad_floor, bad_tag}
@@ -30,7 +29,7 @@ use Rattle.state_laws.proofs.texts.StateBytes.{item_written, stamp_written, key_
 use Rattle.state_laws.proofs.texts.PartDecisions.{good_item_decided, above_items_decided, raises_floor_decided, tag_decided, good_key_decided}
 use Rattle.state_laws.proofs.texts.PartDecisions.{stamp_in_decided, above_entries_decided, op_byte_decided, body_part_decided, lines_here_decided}
 use Rattle.state_laws.proofs.texts.LedgerGrown.{one_item_more, no_items}
-use Rattle.state_laws.proofs.texts.StateGrown.{good_after_items, good_after_entries, tells_deleted, tells_put, no_entries, one_entry_more}
+use Rattle.state_laws.proofs.texts.StateGrown.{good_after_items, good_after_entries, tells_deleted, no_entries, one_entry_more}
 
 -- the part is good: once a reader has read it, all parts read are good, and the text read ends with
 -- this part
@@ -46,16 +45,8 @@ same_bytes_decided : (first second : List ℕ) → Decided (first ≡ second)
 same_bytes_decided = same_decided nat_list_cmp_total exact_bytes
 
 judge_mark : (format : Format) (bytes : List ℕ) → Judged format before_mark bytes
-judge_mark dks_1 bytes = by (same_bytes_decided bytes (mark dks_1))
-  where
-    by : Decided (bytes ≡ mark dks_1) → Judged dks_1 before_mark bytes
-    by (inl same) = inr (refl, sym same)
-    by (inr other) = inl (bad_mark, (refl, other))
-judge_mark dks_2 bytes = by (same_bytes_decided bytes (mark dks_2))
-  where
-    by : Decided (bytes ≡ mark dks_2) → Judged dks_2 before_mark bytes
-    by (inl same) = inr (tt, sym same)
-    by (inr other) = inl (bad_mark, (refl, other))
+judge_mark dks_1 bytes = elim (same_bytes_decided bytes (mark dks_1)) [ inl same ↦ inr (refl, sym same) | inr other ↦ inl (bad_mark, (refl, other)) ]
+judge_mark dks_2 bytes = elim (same_bytes_decided bytes (mark dks_2)) [ inl same ↦ inr (tt, sym same) | inr other ↦ inl (bad_mark, (refl, other)) ]
 
 two_bytes : (bytes : List ℕ) → length bytes ≡ 2 → AreBytes bytes → to_be_bytes w16 (from_be_bytes w16 bytes) ≡ bytes
 two_bytes bytes size small = be_bytes_2 bytes _ size (small_at bytes small) refl
@@ -106,45 +97,25 @@ pub good_after_lines : (format : Format) → (count : ℕ) (state : State) (key 
     → StateHere format count state → IsStampHere state (schedule_key key) stamp
     → IsLineCount n → length lines ≤ n → (lines ≡ []) ⊎ (AreLinesUpTo key n lines × HaveNotToLapse state lines)
     → AreGood format (after_lines count state key stamp n lines)
-good_after_lines format count state key stamp n lines told here counted within are = by (leb_tells n (length lines)) are
+good_after_lines format count state key stamp n lines told here counted within are =
+    let done : Before = after_entries count (with_entry state (schedule_key key) stamp (put_with (schedule_body lines))) in
+    by (leb_tells n (length lines)) are
   where
-    done : Before
-    done = after_entries count (with_entry state (schedule_key key) stamp (put_with (schedule_body lines)))
-
-    schedule_of : length lines ≡ n → AreLinesUpTo key n lines → IsScheduleOf key lines
-    schedule_of all up = record {
-      schedule = up.complete all;
-      few = subst (λ m. m < 2 ^ 32 - 1) (sym all) counted.1;
-      new = up.lines_of.new;
-      key_is = up.lines_of.key_is;
-    }
-
-    lines_so_far : (lines ≡ []) ⊎ (AreLinesUpTo key n lines × HaveNotToLapse state lines) → (lines ≡ []) ⊎ (AreLinesOf key lines × HaveNotToLapse state lines)
-    lines_so_far (inl none) = inl none
-    lines_so_far (inr up) = inr (up.0.lines_of, up.1)
-
     by : ((nat_le n (length lines) ≡ true) × (n ≤ length lines)) ⊎ ((nat_le n (length lines) ≡ false) × (length lines < n))
         → (lines ≡ []) ⊎ (AreLinesUpTo key n lines × HaveNotToLapse state lines) → AreGood format (after_lines count state key stamp n lines)
     by (inl all) (inl none) = let some = counted.0 in let size = ap length none in let enough = all.1 in absurd (omega arith)
-    by (inl all) (inr up) =
-        let enough = all.1 in
-        subst (λ b. AreGood format (cond b (after_entries count (with_entry state (schedule_key key) stamp (put_with (schedule_body lines))))
-        (in_entry count state (before_line key stamp n lines)))) (sym all.0) (entry_done _ _ _ _ _ _ told here (schedule_of (omega arith) up.0) up.1
-        (tells_put _ _))
-    by (inr more) up = subst (λ b. AreGood format (cond b (after_entries count (with_entry state (schedule_key key) stamp (put_with (schedule_body lines))))
-        (in_entry count state (before_line key stamp n lines)))) (sym more.0) (told.0, told.1, told.2, told.3, (here, counted, more.1, lines_so_far up))
+    by (inl all) (inr up) = search (rules, entry_done)
+    by (inr more) up = search rules
 
 judge_tag : (format : Format) → (count : ℕ) (state : State) (bytes : List ℕ) → StateHere format count state → length bytes ≡ 1
     → Judged format (in_entry count state before_tag) bytes
-judge_tag format count state bytes told size = by (tag_decided _)
-  where
-    by : Decided (IsTag (slice_index bytes 0)) → Judged format (in_entry count state before_tag) bytes
-    by (inl is) = inr (
-      (told.0, told.1, told.2, told.3, is),
-      part_more _ _ _ _ _
-          ∙ ap (λ xs. text_before format (in_entry count state before_tag) ++ xs) (single _ size),
-    )
-    by (inr bad) = inl (bad_tag, (refl, bad))
+judge_tag format count state bytes told size = elim (tag_decided _) [
+  | inl is ↦ inr (
+    (told.0, told.1, told.2, told.3, is),
+    search (rules, single),
+  )
+  | inr bad ↦ inl (bad_tag, (refl, bad))
+]
 
 judge_key : (format : Format) → (count : ℕ) (state : State) (tag : ℕ) (bytes : List ℕ) → StateHere format count state → IsTag tag → length bytes ≡ key_width tag
     → AreBytes bytes → Judged format (in_entry count state (before_key tag)) bytes
@@ -163,15 +134,13 @@ judge_key format count state tag bytes told is size small = by (good_key_decided
 
 judge_stamp : (format : Format) → (count : ℕ) (state : State) (key : Key) (bytes : List ℕ) → StateHere format count state → IsKeyHere state key
     → length bytes ≡ 15 → AreBytes bytes → Judged format (in_entry count state (before_stamp key)) bytes
-judge_stamp format count state key bytes told here size small = by (stamp_in_decided _ _)
-  where
-    by : Decided (IsStampIn state.ledger (stamp_in bytes)) → Judged format (in_entry count state (before_stamp key)) bytes
-    by (inl is) = inr (
-      (told.0, told.1, told.2, told.3, (here, is)),
-      ap (λ xs. entries_text format count state ++ (key_text key ++ xs)) (stamp_written _ size small)
-          ∙ part_more _ _ _ _ _,
-    )
-    by (inr bad) = inl (bad_stamp, (refl, bad))
+judge_stamp format count state key bytes told here size small = elim (stamp_in_decided _ _) [
+  | inl is ↦ inr (
+    (told.0, told.1, told.2, told.3, (here, is)),
+    search (rules, stamp_written, part_more),
+  )
+  | inr bad ↦ inl (bad_stamp, (refl, bad))
+]
 
 -- the first byte of an op is 0 or 1, or it is 2 and the format has lapsed ops
 op_of_byte : (format : Format) (byte : ℕ) → IsOpByte format byte → (byte ≡ 0) ⊎ (byte ≡ 1) ⊎ ((byte ≡ 2) × TellsOp format lapsed)
@@ -193,19 +162,9 @@ judge_body format count state key stamp bytes told here size small = by key here
     by : (key : Key) → IsStampHere state key stamp → length bytes ≡ width (in_entry count state (before_body key stamp)) → Decided (IsBodyPart state key bytes)
         → Judged format (in_entry count state (before_body key stamp)) bytes
     by key at wide (inr bad) = inl (bad_body, (refl, bad))
-    by (tiploc_key code) at wide (inl fine) = inr (
-      entry_done _ count _ (tiploc_key code) _ (put_with (tiploc_body bytes)) told at fine (tiploc_stays _ told.0) (tells_put format _),
-      body_text format _ state _ stamp _ told.2,
-    )
-    by (association_key key) at wide (inl fine) = inr (
-      entry_done format _ state _ stamp _ told at fine.0 fine.1 (tells_put format _),
-      body_text format _ state _ stamp _ told.2,
-    )
-    by (schedule_key key) at wide (inl fine) = inr (
-      good_after_lines format _ state _ stamp _ [] told at fine (omega arith) (inl refl),
-      count_text _ count _ key _ (from_be_bytes w32 bytes) told.2
-          ∙ ap (λ xs. text_before format (in_entry count state (before_body (schedule_key key) stamp)) ++ xs) (four_bytes _ wide small),
-    )
+    by (tiploc_key code) at wide (inl fine) = search (rules, entry_done, body_text)
+    by (association_key key) at wide (inl fine) = search (rules, entry_done, body_text)
+    by (schedule_key key) at wide (inl fine) = search (rules, count_text, four_bytes)
 
 judge_line : (format : Format) → (count : ℕ) (state : State) (key : ScheduleKey) (stamp : Stamp) (n : ℕ) (lines : List (List ℕ)) (bytes : List ℕ)
     → StateHere format count state → IsPartHere state (before_line key stamp n lines)
@@ -214,13 +173,7 @@ judge_line format count state key stamp n lines bytes told here = by (lines_here
   where
     by : Decided (AreLinesUpTo key n (lines ++ bytes ∷ []) × HaveNotToLapse state (lines ++ bytes ∷ []))
         → Judged format (in_entry count state (before_line key stamp n lines)) bytes
-    by (inl are) =
-        let longer = length-append lines (bytes ∷ []) in
-        let more = here.2 in
-        inr (
-          good_after_lines format _ state _ stamp _ (lines ++ bytes ∷ []) told here.0 here.1 (omega arith) (inr are),
-          line_text _ count _ key _ n _ bytes told.2 here.2,
-        )
+    by (inl are) = search (rules, length-append, good_after_lines, line_text)
     by (inr bad) = inl (bad_body, (refl, bad))
 
 judge_part : (format : Format) → (count : ℕ) (state : State) (part : EntryPart) (bytes : List ℕ) → StateHere format count state → IsPartHere state part

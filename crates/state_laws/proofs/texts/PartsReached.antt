@@ -1,16 +1,15 @@
 -- If all parts before a stage of a state's text are good, a reader gets to this stage part by part.
 use Rattle.std.proofs.Common.{List, ◌∷◌, ◌++◌, ◌≡◌, [], refl, ap, sym, ◌∙◌, subst, Contains, Some, None, ℕ, ◌<◌, rules}
-use Rattle.std.proofs.Common.{◌≤◌, length, arith, append_assoc, append-nil, length-append, inl, inr, ◌^◌, ◌⊎◌}
+use Rattle.std.proofs.Common.{◌≤◌, length, arith, append_assoc, append-nil, length-append, inl, inr, ◌^◌}
 use Rattle.std.specs.Prelude.{Option}
 use Rattle.std.specs.List.{AllByRecursion}
-use Rattle.std.specs.Ordering.{ordering_reverse, on}
+use Rattle.std.specs.Ordering.{on}
 use Rattle.std.specs.declared.cmp.Ordering.{Ordering}
 use Rattle.std.specs.declared.cmp.Ordering.TheVariants.{Less, Equal, Greater}
 use Rattle.std.proofs.lemmas.List.Elements.{recursion_from_All, All-from_recursion, Contains-append_right}
 use Rattle.docker_model.specs.records.Record.{columns, IsRecord}
-use Rattle.docker_model.specs.records.Field.{HasNewTransaction}
 use Rattle.docker_model.specs.file.File.{IsSchedule, BeginsSchedule, first_record}
-use Rattle.docker_model.specs.file.Change.{schedule_key, ScheduleKey, schedule_named, Key, tiploc_key}
+use Rattle.docker_model.specs.file.Change.{schedule_key, ScheduleKey, Key, tiploc_key}
 use Rattle.docker_model.specs.file.Change.{association_key, Body, tiploc_body, association_body, schedule_body}
 use Rattle.docker_model.specs.state.Order.{IsBelow}
 use Rattle.docker_model.specs.state.Stamp.{LedgerItem, ledger_item_cmp, FileStamp, file_stamp_cmp, IsFloor, IsKept, Stamp}
@@ -20,9 +19,9 @@ use Rattle.docker_model.specs.state.State.{IsGoodItem, IsLedger, State, IsSchedu
 use Rattle.docker_model.specs.state.StateText.{Format, TellsOp, IsHorizonOf, IsToldState}
 use Rattle.docker_model.specs.state.StatePart.{IsAboveItems, RaisesFloor, AreLinesUpTo, HaveNotToLapse, IsTag, before_key, in_entry, before_stamp, IsKeyHere}
 use Rattle.docker_model.specs.state.StatePart.{before_op, IsStampHere, before_body, IsAboveEntries, before_mark, before_entry_count, EntryPart, before_tag}
-use Rattle.docker_model.specs.state.StatePart.{before_line, AreLinesOf, IsPartHere, Before, before_horizon, before_ledger_count, before_item, at_end, AreGood}
+use Rattle.docker_model.specs.state.StatePart.{before_line, IsPartHere, Before, before_horizon, before_ledger_count, before_item, at_end, AreGood}
 use Rattle.state_laws.specs.TextStage.{after_items, after_lines, after_entries, with_entry}
-use Rattle.cif_laws.proofs.orders.Orders.{file_stamp_total, exact_file_stamp}
+use Rattle.cif_laws.proofs.orders.Orders.{file_stamp_total}
 use Rattle.cif_laws.proofs.lists.Membership.{cons-Contains-first}
 use Rattle.state_laws.proofs.texts.TextStages.{Leads, no_step, then_leads}
 use Rattle.state_laws.proofs.texts.TextsBefore.{more_items, more_lines, more_entries, all_lines, all_items, all_entries}
@@ -49,10 +48,8 @@ item_floor (first ∷ before) item later is raises =
     among = Contains-append_right (first ∷ before) (item ∷ later) item (cons-Contains-first _ _)
 
     not_above : (stamp : FileStamp) (o : Ordering) → file_stamp_cmp stamp first.stamp ≡ o → ¬ (o ≡ Greater) → ¬ (file_stamp_cmp item.stamp stamp ≡ Greater) → ⊥
-    not_above stamp Less told low high =
-        high (file_stamp_total.antisymm item.stamp stamp ∙ ap ordering_reverse (file_stamp_total.trans stamp first.stamp item.stamp told raises.1))
-    not_above stamp Equal told low high = high (file_stamp_total.antisymm item.stamp stamp
-        ∙ ap ordering_reverse (subst (λ s. file_stamp_cmp s item.stamp ≡ Less) (sym (exact_file_stamp stamp first.stamp told)) raises.1))
+    not_above stamp Less told low high = search (rules, file_stamp_total)
+    not_above stamp Equal told low high = search (rules, file_stamp_total)
     not_above stamp Greater told low high = low refl
 
     by : (floor : Option FileStamp) → IsFloor ((first ∷ before) ++ item ∷ later) floor → IsKept floor first.stamp → ⊥
@@ -84,11 +81,7 @@ lines_front : (key : ScheduleKey) (n : ℕ) (front rest : List (List ℕ)) → 0
 lines_front key n front rest some are within =
     let same = first_of_front front rest some in
     record {
-      lines_of = record {
-        begin = begins_front front rest are.lines_of.begin;
-        new = subst HasNewTransaction same are.lines_of.new;
-        key_is = subst (λ line. schedule_named line ≡ schedule_key key) same are.lines_of.key_is;
-      };
+      lines_of = search (rules, begins_front);
       complete = λ whole. by rest within whole are.complete;
     }
   where
@@ -243,14 +236,12 @@ part_leads format count state (before_stamp key) below ledger here = key_leads _
 part_leads format count state (before_op key stamp) below ledger here = stamp_leads _ _ _ _ _ below ledger here
 part_leads format count state (before_body key stamp) below ledger here = put_leads _ _ _ _ _ below ledger here
 part_leads format count state (before_line key stamp n lines) below ledger here = then_leads _ _ _ _ (put_leads _ _ _ _ _ below ledger here.0)
-    (then_leads _ _ _ _ (step_count _ _ _ _ _ _ below here.1) (then_leads _ _ _ _ (by here.3) (no_step _ _ _ (more_lines _ _ _ _ _ _ here.2))))
-  where
-    by : (lines ≡ []) ⊎ (AreLinesOf key lines × HaveNotToLapse state lines) → Leads format (after_lines count state key stamp n [])
-        (after_lines count state key stamp n lines)
-    by (inl none) = no_step _ _ _ (ap (after_lines count state key stamp n) (sym none))
-    by (inr are) =
-        let more = here.2 in
-        lines_lead format count state key stamp n [] lines below (record { lines_of = are.0; complete = λ whole. absurd (omega arith) }) are.1 (omega arith)
+    (then_leads _ _ _ _ (step_count _ _ _ _ _ _ below here.1) (then_leads _ _ _ _ (elim here.3 [
+      | inl none ↦ no_step _ _ _ (ap (after_lines count state key stamp n) (sym none))
+      | inr are ↦
+          let more = here.2 in
+          lines_lead format count state key stamp n [] lines below (record { lines_of = are.0; complete = λ whole. absurd (omega arith) }) are.1 (omega arith)
+    ]) (no_step _ _ _ (more_lines _ _ _ _ _ _ here.2))))
 
 -- if all parts before a stage are good, a reader gets from the beginning of the text to this stage
 pub reach : (format : Format) (before : Before) → AreGood format before → Leads format before_mark before

@@ -1,14 +1,9 @@
 -- Each valid state can be written in the format with a horizon, and so can each state that was read
 -- from a text without a horizon.
-use Rattle.std.proofs.Common.{arith, rules}
-use Rattle.docker_model.specs.state.Op.{Op}
+use Rattle.std.proofs.Common.{rules}
 use Rattle.docker_model.specs.state.State.{State, IsValid}
-use Rattle.docker_model.specs.state.StateText.{dks_2, IsToldState, TellsOp}
-
--- any op can be written in the format with a horizon
-pub any_op_told : (op : Op) → TellsOp dks_2 op
-any_op_told = omega arith
+use Rattle.docker_model.specs.state.StateText.{dks_2, IsToldState}
 
 -- each valid state can be written in the format with a horizon
 pub valid_is_told : (state : State) → IsValid state → IsToldState dks_2 state
-valid_is_told = search (rules, any_op_told)
+valid_is_told = search rules

@@ -1,6 +1,6 @@
 -- Decoding bytes as a number, a ledger item, a stamp or a key, and encoding the result again, gives
 -- the same bytes. The number of bytes must be the number that such a value has.
-use Rattle.std.proofs.Common.{◌≡◌, ℕ, zero, suc, ◌<◌, ◌^◌, List, [], ◌∷◌, ◌++◌, length, take, drop, get_or, refl, ap, subst, arith}
+use Rattle.std.proofs.Common.{◌≡◌, ℕ, zero, suc, ◌<◌, ◌^◌, List, [], ◌∷◌, length, get_or, refl, ap, subst, arith}
 use Rattle.std.proofs.lemmas.Grind.{common_steps}
 use Rattle.std.proofs.Common.{rules}
 use Rattle.std.specs.Prelude.{slice_index}
@@ -8,7 +8,7 @@ use Rattle.std.specs.List.{AllByRecursion}
 use Rattle.std.specs.Int.{w16, w32, w64, to_be_bytes, from_be_bytes}
 use Rattle.std.proofs.lemmas.Nat.{be_bytes_2, be_bytes_4, be_bytes_8}
 use Rattle.docker_model.specs.state.Op.{key_tag}
-use Rattle.docker_model.specs.state.StateText.{item_bytes, key_bytes, stamp_bytes, item_in, key_in, stamp_in, association_key_in, schedule_key_in}
+use Rattle.docker_model.specs.state.StateText.{item_bytes, key_bytes, stamp_bytes, item_in, key_in, stamp_in, schedule_key_in}
 use Rattle.docker_model.specs.state.StatePart.{key_width, IsTag}
 
 -- each number in the list is a byte, from 0 to 255
@@ -61,25 +61,15 @@ item_written = grind (common_steps, arith, cells_are, two_bytes)
 pub stamp_written : (bytes : List ℕ) → length bytes ≡ 15 → AreBytes bytes → stamp_bytes (stamp_in bytes) ≡ bytes
 stamp_written = search (rules, cells_are, two_bytes, four_bytes)
 
-association_written : (bytes : List ℕ) → length bytes ≡ 23 → AreBytes bytes → key_bytes (association_key_in bytes) ≡ bytes
-association_written bytes size all = subst (λ xs. AreBytes xs → key_bytes (association_key_in xs) ≡ xs) (cells_are 23 bytes size) written all
-  where
-    written : AreBytes (cells 23 bytes) → key_bytes (association_key_in (cells 23 bytes)) ≡ cells 23 bytes
-    written small =
-        let start = two_bytes _ _ small.1.1.1.1.1.1.1.1.1.1.1.1.0 small.1.1.1.1.1.1.1.1.1.1.1.1.1.0 in
-        λ i. take 12 (cells 23 bytes) ++ start i ++ drop 14 (cells 23 bytes)
-
 schedule_written : (bytes : List ℕ) → length bytes ≡ 9 → AreBytes bytes → key_bytes (schedule_key_in bytes) ≡ bytes
 schedule_written bytes size all = subst (λ xs. AreBytes xs → key_bytes (schedule_key_in xs) ≡ xs) (cells_are 9 bytes size) written all
   where
     written : AreBytes (cells 9 bytes) → key_bytes (schedule_key_in (cells 9 bytes)) ≡ cells 9 bytes
-    written small =
-        let day = two_bytes _ _ small.1.1.1.1.1.1.0 small.1.1.1.1.1.1.1.0 in
-        λ i. take 6 (cells 9 bytes) ++ day i ++ drop 8 (cells 9 bytes)
+    written small = search rules
 
 -- decoding bytes as the key for a tag, and encoding the key again, gives the same bytes
 pub key_written : (tag : ℕ) (bytes : List ℕ) → IsTag tag → length bytes ≡ key_width tag → AreBytes bytes → key_bytes (key_in tag bytes) ≡ bytes
-key_written = search (rules, association_written, schedule_written)
+key_written = search (rules, schedule_written)
 
 -- a key that is decoded as a key for a tag has that tag
 pub tag_of_key : (tag : ℕ) (bytes : List ℕ) → IsTag tag → key_tag (key_in tag bytes) ≡ tag

@@ -6,11 +6,10 @@ use Rattle.std.proofs.lemmas.List.Elements.{recursion_from_All}
 use Rattle.std.proofs.lemmas.Bool.Decides.{leb_tells}
 use Rattle.docker_model.specs.records.Date.{IsDay}
 use Rattle.docker_model.specs.file.Change.{Body, Key}
-use Rattle.docker_model.specs.state.Order.{IsBelow}
 use Rattle.docker_model.specs.state.Stamp.{LedgerItem, Stamp}
-use Rattle.docker_model.specs.state.Op.{deleted, put_with, Entry, key_cmp, Op}
+use Rattle.docker_model.specs.state.Op.{deleted, put_with, Entry, Op}
 use Rattle.docker_model.specs.state.Lapse.{HasNotToLapse}
-use Rattle.docker_model.specs.state.State.{IsLedger, IsGoodEntry, IsValid, State, IsOpOf}
+use Rattle.docker_model.specs.state.State.{IsLedger, IsValid, State, IsOpOf}
 use Rattle.docker_model.specs.state.StateText.{Format, IsHorizonOf, TellsOp, IsToldState}
 use Rattle.docker_model.specs.state.StatePart.{IsStampHere, AreGood}
 use Rattle.state_laws.specs.TextStage.{with_entry, after_items, after_entries}
@@ -48,18 +47,7 @@ one_more = grind (common_steps, arith, all_append, recursion_from_All)
 -- a valid state with a good entry appended is still valid
 pub valid_more : (state : State) (key : Key) (stamp : Stamp) (op : Op) → IsValid state → IsStampHere state key stamp → IsOpOf key op
     → HasNotToLapse state.horizon op → IsValid (with_entry state key stamp op)
-valid_more state key stamp op valid here of stays = record {
-  horizon = valid.horizon;
-  ledger = valid.ledger;
-  entries = (
-    one_more (IsGoodEntry state.ledger) state.entries (key, entry) valid.entries.0 (record { key = here.0.0; stamp = here.1; op = of }),
-    ascending_last _ state.entries _ valid.entries.1 (recursion_from_All (λ (e : Key × Entry). IsBelow key_cmp e.0 key) state.entries here.0.1),
-  );
-  have_lapsed = one_more (λ (e : Key × Entry). HasNotToLapse state.horizon e.1.op) _ (key, entry) valid.have_lapsed stays;
-}
-  where
-    entry : Entry
-    entry = record { stamp = stamp; op = op }
+valid_more state key stamp op valid here of stays = search (rules, one_more, ascending_last, recursion_from_All)
 
 -- if a state and one more good entry can be written in a format, so can the state with that entry
 -- appended

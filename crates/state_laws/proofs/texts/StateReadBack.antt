@@ -2,10 +2,10 @@
 -- many bytes an item, a key and a stamp have.
 use Rattle.std.proofs.Common.{◌≡◌, ℕ, suc, ◌+◌, ◌-◌, ◌<◌, ◌^◌, List, [], ◌∷◌, ◌++◌, length, take, drop, rules}
 use Rattle.std.proofs.lemmas.Grind.{common_steps}
-use Rattle.std.proofs.Common.{ap, ◌∙◌, subst, arith, append_assoc, length-append, Contains}
+use Rattle.std.proofs.Common.{ap, ◌∙◌, subst, arith, append_assoc, length-append}
 use Rattle.std.specs.Prelude.{slice_index, slice_range}
 use Rattle.std.specs.Int.{w16, w32, to_be_bytes, from_be_bytes}
-use Rattle.std.proofs.lemmas.Nat.{from_be_bytes-to_be_bytes_2, from_be_bytes-to_be_bytes_4}
+use Rattle.std.proofs.lemmas.Nat.{from_be_bytes-to_be_bytes_2}
 use Rattle.std.proofs.lemmas.List.{take_at, take_all, get_or-append_right}
 use Rattle.docker_model.specs.file.Change.{Key, association_key, schedule_key, AssociationKey, ScheduleKey}
 use Rattle.docker_model.specs.state.Stamp.{FileStamp, Stamp, LedgerItem}
@@ -56,10 +56,7 @@ item_width = search (rules, length-append)
 stamp_of_ledger : (ledger : List LedgerItem) (stamp : Stamp) → IsLedger ledger → IsStampIn ledger stamp → IsGoodFileStamp stamp.file
 stamp_of_ledger ledger stamp is in_it =
     let found = Contains-map (λ (item : LedgerItem). item.stamp) ledger stamp.file in_it.in_ledger in
-    subst IsGoodFileStamp found.2 (good_stamp found.0 (of_all found.0 found.1))
-  where
-    of_all : (item : LedgerItem) → Contains ledger item → IsGoodItem item
-    of_all item among = subst IsGoodItem among.2 (is.each among.0 item among.1)
+    subst IsGoodFileStamp found.2 (good_stamp found.0 (subst IsGoodItem found.1.2 (is.each found.1.0 found.0 found.1.1)))
 
 -- a stamp whose file is in the ledger can be decoded from its bytes
 pub stamp_read : (ledger : List LedgerItem) (stamp : Stamp) → IsLedger ledger → IsStampIn ledger stamp → stamp_in (stamp_bytes stamp) ≡ stamp
@@ -67,9 +64,7 @@ stamp_read ledger stamp is in_it =
     let good = stamp_of_ledger ledger stamp is in_it in
     let high = in_it.high in
     let file : file_stamp_in (stamp_bytes stamp) ≡ stamp.file = file_stamp_read stamp.file (to_be_bytes w32 stamp.number) good in
-    let number : from_be_bytes w32 (slice_range (stamp_bytes stamp) 11 15) ≡ stamp.number =
-    ap (λ bytes. from_be_bytes w32 (take 4 bytes)) (drop_past stamp.file.reference (to_be_bytes w32 stamp.number) 7 0 good.reference)
-    ∙ from_be_bytes-to_be_bytes_4 stamp.number (omega arith) in
+    let number : from_be_bytes w32 (slice_range (stamp_bytes stamp) 11 15) ≡ stamp.number = search rules in
     λ i. record { file = file i; number = number i }
 
 -- a stamp whose file is in the ledger has 15 bytes
@@ -103,33 +98,19 @@ association_read key good =
     ap (take 6) (drop_past key.base behind_base 6 0 size_base) ∙ take_at key.associated behind_associated 6 size_associated in
     let from_start : (k : ℕ) → drop (6 + (6 + k)) (association_bytes key) ≡ drop k behind_associated =
     λ k. drop_past key.base behind_base 6 (6 + k) size_base ∙ drop_past key.associated behind_associated 6 k size_associated in
-    let start : from_be_bytes w16 (slice_range (association_bytes key) 12 14) ≡ key.start = ap (λ bytes. from_be_bytes w16 (take 2 bytes)) (from_start 0)
-    ∙ read_16 key.start (omega arith) in
+    let start : from_be_bytes w16 (slice_range (association_bytes key) 12 14) ≡ key.start = search (rules, read_16) in
     let location : slice_range (association_bytes key) 14 21 ≡ key.location = ap (take 7) (from_start 2) ∙ take_at key.location end 7 size_location in
     let at_end : (k : ℕ) → slice_index (association_bytes key) (21 + k) ≡ slice_index end k =
     λ k. get_or-append_right key.base behind_base 6 (21 + k) 0 size_base (omega arith)
-    ∙ ap (λ n. slice_index behind_base n) (by_six k) ∙ get_or-append_right key.associated behind_associated 6 (15 + k) 0 size_associated (omega arith)
+    ∙ ap (λ n. slice_index behind_base n) (omega arith) ∙ get_or-append_right key.associated behind_associated 6 (15 + k) 0 size_associated (omega arith)
     ∙ ap (λ n. slice_index behind_associated n) (by_nine k) ∙ get_or-append_right key.location end 7 (7 + k) 0 size_location (omega arith)
-    ∙ ap (λ n. slice_index end n) (by_seven k) in
+    ∙ ap (λ n. slice_index end n) (omega arith) in
     let suffix : slice_index (association_bytes key) 21 ≡ key.suffix = at_end 0 in
     let indicator : slice_index (association_bytes key) 22 ≡ key.indicator = at_end 1 in
-    λ i. association_key (record {
-      base = base i;
-      associated = associated i;
-      start = start i;
-      location = location i;
-      suffix = suffix i;
-      indicator = indicator i;
-    })
+    search rules
   where
-    by_six : (k : ℕ) → 21 + k - 6 ≡ 15 + k
-    by_six k = omega arith
-
     by_nine : (k : ℕ) → 15 + k - 6 ≡ suc (suc (7 + k))
     by_nine k = omega arith
-
-    by_seven : (k : ℕ) → 7 + k - 7 ≡ k
-    by_seven k = omega arith
 
 schedule_bytes : ScheduleKey → List ℕ
 schedule_bytes key = key.uid ++ (to_be_bytes w16 key.runs_from ++ (key.indicator ∷ []))
@@ -154,14 +135,6 @@ schedule_read key good =
 pub key_read : (key : Key) → IsGoodKey key → key_in (key_tag key) (key_bytes key) ≡ key
 key_read = search (rules, association_bytes_are, association_read, schedule_bytes_are, schedule_read)
 
-association_sized : (key : AssociationKey) → IsGoodAssociationKey key → length (association_bytes key) ≡ 23
-unfolding association_bytes
-association_sized = search (rules, length-append)
-
-schedule_sized : (key : ScheduleKey) → IsGoodScheduleKey key → length (schedule_bytes key) ≡ 9
-unfolding schedule_bytes
-schedule_sized = search (rules, length-append)
-
 -- `key_width` computes the number of bytes of a well-formed key from the key's tag
 pub key_width_is : (key : Key) → IsGoodKey key → length (key_bytes key) ≡ key_width (key_tag key)
-key_width_is = search (rules, association_bytes_are, association_sized, schedule_bytes_are, schedule_sized)
+key_width_is = search (rules, association_bytes_are, schedule_bytes_are, length-append)

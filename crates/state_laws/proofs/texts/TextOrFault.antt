@@ -6,27 +6,19 @@ use Rattle.std.proofs.lemmas.List.{take-append-drop, length-take-le}
 use Rattle.std.proofs.lemmas.List.Elements.{recursion_from_All}
 use Rattle.docker_model.specs.state.State.{State}
 use Rattle.docker_model.specs.state.StateText.{Format, state_text}
-use Rattle.docker_model.specs.state.StatePart.{EntryPart, part_width}
-use Rattle.docker_model.specs.state.StatePart.{key_width, IsTag, Before, before_mark}
-use Rattle.docker_model.specs.state.StatePart.{at_end, items_before, text_before, width, IsPartHere, AreGood}
+use Rattle.docker_model.specs.state.StatePart.{Before, before_mark}
+use Rattle.docker_model.specs.state.StatePart.{at_end, items_before, text_before, width, AreGood}
 use Rattle.docker_model.specs.state.StateFault.{too_short, has_tail, too_long, StateFault, IsStateFault, IsStateText}
 use Rattle.state_laws.specs.TextStage.{advance}
 use Rattle.cif_laws.proofs.lists.AllOf.{all_front, all_behind}
-use Rattle.cif_laws.proofs.lists.Decisions.{Decided, le_decided}
+use Rattle.cif_laws.proofs.lists.Decisions.{le_decided}
 use Rattle.state_laws.proofs.texts.StateBytes.{AreBytes}
-use Rattle.state_laws.proofs.texts.PartJudged.{Judged, judge}
-
--- each key has at least one byte, and so has each other part of an entry
-key_width_some : (tag : ℕ) → IsTag tag → 0 < key_width tag
-key_width_some = search rules
-
-part_some : (state : State) (part : EntryPart) → IsPartHere state part → 0 < part_width part
-part_some = search (rules, key_width_some)
+use Rattle.state_laws.proofs.texts.PartJudged.{judge}
 
 -- at each stage of a text, a reader is at the end of a state, or a part of at least one byte comes
 -- next
 pub end_or_part : (format : Format) → (before : Before) → AreGood format before → ((state : State) × (before ≡ at_end state)) ⊎ (0 < width before)
-end_or_part = search (rules, part_some)
+end_or_part = search rules
 
 -- the text is within the limit and is the text of a state, or it has a fault
 abbrev pub Answer : (format : Format) → ℕ → List ℕ → Type 0
@@ -69,45 +61,86 @@ at_the_end format limit text state (byte ∷ rest) told =
 
 not_whole : (format : Format) → (limit : ℕ) (text : List ℕ) (before : Before) (rest : List ℕ) → Walked format limit text before rest
     → length rest < width before → Answer format limit text
-not_whole format limit text before rest told ends = by (le_decided (length text) limit)
-  where
-    by : Decided (length text ≤ limit) → Answer format limit text
-    by (inl within) =
-        inr (
-          record { at = length (items_before format before); cause = too_short },
-          inr (inr (inl (record {
-            before = before;
-            good = told.good;
-            rest = rest;
-            whole = told.whole;
-            ends = ends;
-            within = within;
-            cause = refl;
-            item_at = refl;
-          }))),
-        )
-    by (inr above) =
-        let sizes = ap length told.whole ∙ length-append (text_before format before) rest in
-        let there : limit < length text = omega arith in
-        inr (
-          record { at = limit; cause = too_long },
-          inr (inl (record {
-            before = before;
-            good = told.good;
-            rest = rest;
-            whole = told.whole;
-            reaches = told.within;
-            needs = omega arith;
-            there = there;
-            cause = refl;
-            limit_at = refl;
-          })),
-        )
+not_whole format limit text before rest told ends = elim (le_decided (length text) limit) [
+  | inl within ↦
+      inr (
+        record { at = length (items_before format before); cause = too_short },
+        inr (inr (inl (record {
+          before = before;
+          good = told.good;
+          rest = rest;
+          whole = told.whole;
+          ends = ends;
+          within = within;
+          cause = refl;
+          item_at = refl;
+        }))),
+      )
+  | inr above ↦
+      let sizes = ap length told.whole ∙ length-append (text_before format before) rest in
+      let there : limit < length text = omega arith in
+      inr (
+        record { at = limit; cause = too_long },
+        inr (inl (record {
+          before = before;
+          good = told.good;
+          rest = rest;
+          whole = told.whole;
+          reaches = told.within;
+          needs = omega arith;
+          there = there;
+          cause = refl;
+          limit_at = refl;
+        })),
+      )
+]
 
 one_part : (format : Format) → (limit : ℕ) (text : List ℕ) (before : Before) (rest : List ℕ) → Walked format limit text before rest → 0 < width before
     → width before ≤ length rest
     → ((after : Before) (more : List ℕ) → Walked format limit text after more → length more < length rest → Answer format limit text) → Answer format limit text
-one_part format limit text before rest told some enough go_on = by (le_decided (length (text_before format before) + width before) limit)
+one_part format limit text before rest told some enough go_on = elim (le_decided (length (text_before format before) + width before) limit) [
+  | inl below ↦ elim (judge format before part told.good some size (all_front (λ b. b < 256) part more small)) [
+    | inl bad ↦
+        inr (
+          record { at = length (items_before format before); cause = bad.0 },
+          inl (record {
+            before = before;
+            good = told.good;
+            bytes = part;
+            rest = more;
+            whole = whole;
+            size = size;
+            below_limit = below;
+            bad = bad.1;
+            item_at = refl;
+          }),
+        )
+    | inr fine ↦
+        let sizes = ap length fine.1 ∙ length-append (text_before format before) part in
+        let wide = size in
+        let parts = ap length (sym split) ∙ length-append part more in
+        go_on (advance format before part) more
+        (record { good = fine.0; small = all_behind (λ b. b < 256) part more small; whole = whole ∙ ap (λ xs. xs ++ more) (sym fine.1); within = omega arith })
+        (omega arith)
+  ]
+  | inr above ↦
+      let sizes = ap length told.whole ∙ length-append (text_before format before) rest in
+      let needs : limit < length (text_before format before) + width before = omega arith in
+      inr (
+        record { at = limit; cause = too_long },
+        inr (inl (record {
+          before = before;
+          good = told.good;
+          rest = rest;
+          whole = told.whole;
+          reaches = told.within;
+          needs = needs;
+          there = omega arith;
+          cause = refl;
+          limit_at = refl;
+        })),
+      )
+]
   where
     part : List ℕ
     part = take (width before) rest
@@ -127,61 +160,15 @@ one_part format limit text before rest told some enough go_on = by (le_decided (
     whole : text ≡ text_before format before ++ part ++ more
     whole = told.whole ∙ ap (λ xs. text_before format before ++ xs) (sym split) ∙ sym (append_assoc (text_before format before) part more)
 
-    judged : length (text_before format before) + width before ≤ limit → Judged format before part → Answer format limit text
-    judged below (inl bad) =
-        inr (
-          record { at = length (items_before format before); cause = bad.0 },
-          inl (record {
-            before = before;
-            good = told.good;
-            bytes = part;
-            rest = more;
-            whole = whole;
-            size = size;
-            below_limit = below;
-            bad = bad.1;
-            item_at = refl;
-          }),
-        )
-    judged below (inr fine) =
-        let sizes = ap length fine.1 ∙ length-append (text_before format before) part in
-        let wide = size in
-        let parts = ap length (sym split) ∙ length-append part more in
-        go_on (advance format before part) more
-        (record { good = fine.0; small = all_behind (λ b. b < 256) part more small; whole = whole ∙ ap (λ xs. xs ++ more) (sym fine.1); within = omega arith })
-        (omega arith)
-
-    by : Decided (length (text_before format before) + width before ≤ limit) → Answer format limit text
-    by (inl below) = judged below (judge format before part told.good some size (all_front (λ b. b < 256) part more small))
-    by (inr above) =
-        let sizes = ap length told.whole ∙ length-append (text_before format before) rest in
-        let needs : limit < length (text_before format before) + width before = omega arith in
-        inr (
-          record { at = limit; cause = too_long },
-          inr (inl (record {
-            before = before;
-            good = told.good;
-            rest = rest;
-            whole = told.whole;
-            reaches = told.within;
-            needs = needs;
-            there = omega arith;
-            cause = refl;
-            limit_at = refl;
-          })),
-        )
-
 one_step_on : (format : Format) → (limit : ℕ) (text : List ℕ) (before : Before) (rest : List ℕ) → Walked format limit text before rest
     → ((after : Before) (more : List ℕ) → Walked format limit text after more → length more < length rest → Answer format limit text) → Answer format limit text
-one_step_on format limit text before rest told go_on = by (end_or_part format before told.good)
-  where
-    with_part : 0 < width before → Decided (width before ≤ length rest) → Answer format limit text
-    with_part some (inl enough) = one_part format limit text before rest told some enough go_on
-    with_part some (inr short) = not_whole format limit text before rest told (omega arith)
-
-    by : ((state : State) × (before ≡ at_end state)) ⊎ (0 < width before) → Answer format limit text
-    by (inl end) = at_the_end format limit text end.0 rest (subst (λ b. Walked format limit text b rest) end.1 told)
-    by (inr some) = with_part some (le_decided (width before) (length rest))
+one_step_on format limit text before rest told go_on = elim (end_or_part format before told.good) [
+  | inl end ↦ at_the_end format limit text end.0 rest (subst (λ b. Walked format limit text b rest) end.1 told)
+  | inr some ↦ elim (le_decided (width before) (length rest)) [
+    | inl enough ↦ one_part format limit text before rest told some enough go_on
+    | inr short ↦ not_whole format limit text before rest told (omega arith)
+  ]
+]
 
 walk : (format : Format) → (limit : ℕ) (text : List ℕ) (steps : ℕ) (before : Before) (rest : List ℕ) → Walked format limit text before rest
     → length rest ≤ steps → Answer format limit text

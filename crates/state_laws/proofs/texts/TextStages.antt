@@ -1,6 +1,6 @@
 -- A reader reads a text part by part. The text read is the concatenation of the parts read. Of two
 -- different stages of one text, one is later than the other.
-use Rattle.std.proofs.Common.{◌≡◌, ℕ, ◌<◌, List, ◌++◌, length, [], ◌∷◌, ap, ◌∙◌, sym, subst, append_assoc, append-nil, ◌⊎◌, refl, inl, inr}
+use Rattle.std.proofs.Common.{◌≡◌, ℕ, ◌<◌, List, ◌++◌, length, [], ◌∷◌, ap, ◌∙◌, sym, subst, append_assoc, append-nil, ◌⊎◌, refl, inl, inr, rules}
 use Rattle.std.specs.Prelude.{⊤}
 use Rattle.std.specs.List.{concat}
 use Rattle.std.proofs.lemmas.List.{append_cancel_left}
@@ -86,16 +86,14 @@ in_line_from format from [] (other ∷ others) rest more f g same =
       part = other;
       more = concat others;
       is_next = g.0;
-      text = after_text format from (other ∷ others) g
-          ∙ sym (append_assoc (text_before format from) other (concat others));
+      text = search (rules, after_text);
     }))
 in_line_from format from (part ∷ parts) [] rest more f g same =
     inr (inr (record {
       part = part;
       more = concat parts;
       is_next = f.0;
-      text = after_text format from (part ∷ parts) f
-          ∙ sym (append_assoc (text_before format from) part (concat parts));
+      text = search (rules, after_text);
     }))
 in_line_from format from (part ∷ parts) (other ∷ others) rest more f g same =
     let told = same_front part other (concat parts ++ rest) (concat others ++ more) (f.0.size ∙ sym g.0.size)
@@ -107,11 +105,4 @@ in_line_from format from (part ∷ parts) (other ∷ others) rest more f g same 
 -- two stages that a reader reaches in one text are equal, or one is later than the other
 pub in_line : (format : Format) → (from first second : Before) (rest more : List ℕ) → Leads format from first → Leads format from second
     → text_before format first ++ rest ≡ text_before format second ++ more → AreInLine format first second
-in_line format from first second rest more one two same =
-    let text_one = ap (text_before format) (sym one.to) ∙ after_text format from one.parts one.follow in
-    let text_two = ap (text_before format) (sym two.to) ∙ after_text format from two.parts two.follow in
-    let parts = append_cancel_left (text_before format from) (concat one.parts ++ rest) (concat two.parts ++ more)
-    (sym (append_assoc (text_before format from) (concat one.parts) rest) ∙ (λ i. sym text_one i ++ rest) ∙ same ∙ (λ i. text_two i ++ more)
-    ∙ append_assoc (text_before format from) (concat two.parts) more) in
-    subst (λ v. AreInLine format v second) one.to (subst (λ v. AreInLine format (after_parts format from one.parts) v) two.to
-    (in_line_from format from one.parts two.parts rest more one.follow two.follow parts))
+in_line format from first second rest more one two same = search (rules, after_text, append_cancel_left, append_assoc, in_line_from)

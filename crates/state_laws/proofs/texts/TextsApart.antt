@@ -84,12 +84,11 @@ pub record IsStopped (format : Format) (limit : ℕ) (text : List ℕ) (before :
 -- a reader with a limit stops at no more than one stage of a text
 pub one_stop : (format : Format) → (limit : ℕ) (text : List ℕ) (first second : Before) → IsStopped format limit text first → IsStopped format limit text second
     → first ≡ second
-one_stop format limit text first second one two = by (both_in_line format text first second one.rest two.rest one.good two.good one.whole two.whole)
-  where
-    by : AreInLine format first second → first ≡ second
-    by (inl same) = same
-    by (inr (inl later)) = absurd (one.stops second two.rest later two.whole two.within)
-    by (inr (inr later)) = absurd (two.stops first one.rest later one.whole one.within)
+one_stop format limit text first second one two = elim (both_in_line format text first second one.rest two.rest one.good two.good one.whole two.whole) [
+  | inl same ↦ same
+  | inr (inl later) ↦ absurd (one.stops second two.rest later two.whole two.within)
+  | inr (inr later) ↦ absurd (two.stops first one.rest later one.whole one.within)
+]
 
 -- the text before a later stage has three pieces. The first is the text before the earlier stage,
 -- and the second is the part that comes next at the earlier stage. The third has all bytes between

@@ -11,7 +11,7 @@ use Rattle.docker_model.specs.file.Change.{Key, schedule_key, ScheduleKey, sched
 use Rattle.docker_model.specs.state.Stamp.{Stamp, LedgerItem}
 use Rattle.docker_model.specs.state.Op.{Op, put_with}
 use Rattle.docker_model.specs.state.State.{State}
-use Rattle.docker_model.specs.state.StateText.{stamp_bytes, Format, op_bytes, entry_bytes, ledger_text, entries_text}
+use Rattle.docker_model.specs.state.StateText.{stamp_bytes, Format, op_bytes, ledger_text, entries_text}
 use Rattle.docker_model.specs.state.StatePart.{before_tag, before_line, part_text, key_text, before_item, before_entry_count, in_entry, at_end, text_before}
 use Rattle.state_laws.specs.TextStage.{after_items, after_entries, with_entry, after_lines}
 
@@ -61,16 +61,11 @@ pub after_entries_text : (format : Format) → (count : ℕ) (state : State) →
     → text_before format (after_entries count state) ≡ entries_text format count state
 after_entries_text = search (rules, leb_tells, nat_le, append-nil)
 
--- appending an entry to the state appends the entry's bytes to the text
-pub with_entry_text : (format : Format) → (count : ℕ) (state : State) (key : Key) (stamp : Stamp) (op : Op)
-    → entries_text format count (with_entry state key stamp op) ≡ entries_text format count state ++ entry_bytes (key, record { stamp = stamp; op = op })
-with_entry_text = search (rules, flat_map-append, append-nil, append_assoc)
-
 -- the text up to and including an entry ends with the bytes of the entry
 pub entry_done_text : (format : Format) → (count : ℕ) (state : State) (key : Key) (stamp : Stamp) (op : Op) → length state.entries < count
     → text_before format (after_entries count (with_entry state key stamp op)) ≡ entries_text format count state ++
     (key_text key ++ stamp_bytes stamp ++ op_bytes op)
-entry_done_text = search (rules, length-append, after_entries_text, with_entry_text)
+entry_done_text = search (rules, length-append, after_entries_text, flat_map-append, append-nil, append_assoc)
 
 -- the text up to and including the first lines of a schedule ends with these lines
 pub after_lines_text : (format : Format) → (count : ℕ) (state : State) (key : ScheduleKey) (stamp : Stamp) (n : ℕ) (lines : List (List ℕ))
