@@ -183,7 +183,8 @@ pub kept_drafted : (places : List Place) (events : List Event) (name : Text) (lo
     → IsStill (shelf_standing events) name look (length events) → IsKept places (events ++ drafted name look ∷ [])
 kept_drafted = search (rules, kept_still, still_after)
 
--- the same as `still_since`, for a history and a look that are given by equations
+-- if no text was written to a file since a look, this also holds for a history and a look that are
+-- equal to these
 pub still_as : (events shown : List Event) (name : Text) (look seen : ℕ) → events ≡ shown → look ≡ seen
     → IsStill (shelf_standing shown) name seen (length shown) → IsStill (shelf_standing events) name look (length events)
 still_as = search rules
