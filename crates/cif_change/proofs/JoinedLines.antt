@@ -1,9 +1,5 @@
 -- Lemmas on comparing lists of lines by their joined bytes. Equal lines at the front can be skipped.
-use Rattle.std.proofs.Common.{◌≡◌, ℕ, List, [], ◌∷◌, ◌++◌, refl, ap, ◌∙◌, rules}
-use Rattle.std.specs.List.{concat}
-use Rattle.std.specs.Ordering.{ordering_then}
-use Rattle.std.specs.Cmp.{nat_cmp_total, tied_itself}
-use Rattle.docker_model.specs.state.Order.{bytes_cmp}
+use Rattle.cif_laws.proofs.Common.{◌≡◌, ℕ, List, [], ◌∷◌, ◌++◌, refl, ap, ◌∙◌, rules, concat, ordering_then, nat_cmp_total, tied_itself, bytes_cmp}
 
 -- prepending the same bytes to two lists of bytes doesn't change how the lists compare
 pub behind_front : (front xs ys : List ℕ) → bytes_cmp (front ++ xs) (front ++ ys) ≡ bytes_cmp xs ys

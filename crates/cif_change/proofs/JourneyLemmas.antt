@@ -1,29 +1,24 @@
 -- Lemmas on what the reader of a schedule remembers of the lines it has taken, and why it accepts or refuses the next line.
-use Rattle.std.proofs.Common.{◌≡◌, ℕ, ◌+◌, ◌≤◌, ◌<◌, Bool, true, false, cond, List, [], ◌∷◌, ◌++◌, map, rules}
-use Rattle.std.proofs.Common.{subst, refl, ap, sym, ◌∙◌, Some, None, arith, append-nil, append_assoc}
-use Rattle.std.specs.Prelude.{Option, IsTrue, ◌↔◌, ◌||◌, ◌&&◌, nat_le, is_some, is_none, IsOk, OnOk, IfErr, Result, Ok, Err}
-use Rattle.std.proofs.lemmas.Bool.{false≢true, le-leb, le-ltb, leb-true}
-use Rattle.docker_model.specs.records.Record.{Kind, kind_of, IsRecord, HasKind, basic_schedule, origin_location}
-use Rattle.docker_model.specs.records.Record.{intermediate_location, terminating_location, columns}
-use Rattle.docker_model.specs.records.Clock.{half_minutes, scheduled_time}
-use Rattle.docker_model.specs.file.File.{first_record, IsSchedule, BeginsSchedule}
-use Rattle.docker_model.specs.records.Field.{is_deletion, HasGoodFields, leftmost_bad_field}
+use Rattle.cif_laws.proofs.Common.{◌≡◌, ℕ, ◌+◌, ◌≤◌, ◌<◌, Bool, true, false, cond, List, [], ◌∷◌, ◌++◌, map, rules, subst, refl, ap, sym, ◌∙◌, Some, None}
+use Rattle.cif_laws.proofs.Common.{arith, append-nil, append_assoc, Option, IsTrue, ◌↔◌, ◌||◌, ◌&&◌, nat_le, is_some, is_none, IsOk, OnOk, IfErr, Result}
+use Rattle.cif_laws.proofs.Common.{le-leb, le-ltb, leb-true, Kind, kind_of, IsRecord, HasKind, basic_schedule, origin_location, intermediate_location}
+use Rattle.cif_laws.proofs.Common.{terminating_location, columns, half_minutes, scheduled_time, first_record, IsSchedule, BeginsSchedule, is_deletion}
+use Rattle.cif_laws.proofs.Common.{HasGoodFields, leftmost_bad_field, bad_kind, bad_place, Occasion, arrival, departure, timed, times_of, times_by_kind}
+use Rattle.cif_laws.proofs.Common.{times_along, midnights}
 use Rattle.docker_model.specs.file.FileFault as fault
-use Rattle.docker_model.specs.file.FileFault.{bad_kind, bad_place}
 use Rattle.cif_laws.specs.RecordCause.{field_cause, schedule_cause, first_line_cause}
 use Rattle.cif_laws.specs.ScheduleFault.{IsScheduleFault}
-use Rattle.docker_model.specs.file.Journey.{Occasion, arrival, departure, timed, times_of, times_by_kind, times_along, midnights}
 use Rattle.cif_laws.proofs.records.Columns.{good_fields}
 use Rattle.cif_laws.proofs.records.ScheduledTimes.{time_there}
 use Rattle.cif_laws.specs.RecordTest.{is_record, has_good_fields}
-use Rattle.cif_laws.proofs.lists.BoolsAndOptions.{test_by_none, and_true}
+use Rattle.cif_laws.proofs.lists.BoolsAndOptions.{test_by_none, some_by_test}
 use Rattle.cif_laws.proofs.records.RecordTests.{record_iff_test, midnights_step, last_time_step, no_times, no_times_before}
 use Rattle.cif_laws.specs.TimesSoFar.{last_of, falls_after, later_or}
 use Rattle.cif_laws.specs.ScheduleStage.{Stage, after_basic, stage_after}
 use Rattle.cif_laws.specs.ScheduleStage.{is_basic_kind, stage_of, may_lack, may_end, is_first_line, is_sound_next, next_stage}
 use Rattle.cif_laws.proofs.schedules.ScheduleStages.{no_stage_of_none, stage_of_more, first_line_iff_test}
 use Rattle.cif_laws.proofs.schedules.ScheduleStages.{schedule_iff_stage, begins_iff_stage, sound_next_by_count}
-use Rattle.cif_laws.proofs.schedules.ScheduleCauses.{first_line_fault, begins_next_stage, schedule_fault}
+use Rattle.cif_laws.proofs.schedules.ScheduleCauses.{first_line_fault, schedule_fault}
 use Rattle.cif_change.specs.declared.cause.FileCause.{FileCause}
 use Rattle.cif_change.specs.Cause.{cause_meant}
 use Rattle.cif_change.specs.JourneyRead.{JourneyState, stage_then, HasLines, IsScheduleCause, may_end_by, time_list, FaultsLine}
@@ -34,44 +29,24 @@ Lines = List (List ℕ)
 abbrev no_stage : Option Stage
 no_stage = None
 
--- if `Some x` equals `Some y`, then `x` equals `y`
-some_is : {A : Type 0} (x y : A) → Some x ≡ Some y → x ≡ y
-some_is x y same = cc
-
 -- ---- the end of a schedule
-
--- lines that may begin a schedule are a whole schedule if and only if a schedule may end at the stage after them
-whole_iff : (lines : Lines) (stage : Stage) → stage_of lines ≡ Some stage → IsSchedule lines ↔ (may_end stage lines ≡ true)
-whole_iff lines stage at = (
-  λ is.
-      let told = (schedule_iff_stage _).0 is in
-      subst (λ s. may_end s lines ≡ true) (some_is _ _ (sym told.1.found ∙ at)) told.1.may,
-  λ may. (schedule_iff_stage _).1 (stage, record { found = at; may = may }),
-)
 
 -- whether the schedule may end is determined by the stage and by `lacking`, which the reader
 -- remembers
-may_end_same : (stage : Stage) (lines : Lines) (lacking : Bool) → lacking ≡ may_lack (first_record lines)
-    → may_end_by (Some stage) lacking ≡ may_end stage lines
-may_end_same = search rules
-
-complete_iff : (journey : JourneyState) (lines : Lines) → HasLines journey lines → IsTrue (may_end_by journey.stage journey.lacking) ↔ IsSchedule lines
-complete_iff journey lines has = by journey.stage refl
-  where
-    by : (stage : Option Stage) → journey.stage ≡ stage → IsTrue (may_end_by stage journey.lacking) ↔ IsSchedule lines
-    by None h =
-        (λ bad. absurd cc, λ is. let told = (schedule_iff_stage lines).0 is in let bad : Some told.0 ≡ None = sym told.1.found ∙ sym has.stage_is ∙ h in cc)
-    by (Some stage) h =
-        let iff = whole_iff lines stage (sym has.stage_is ∙ h) in
-        let same = may_end_same stage lines journey.lacking has.lacking_is in
-        (λ test. iff.1 (sym same ∙ test), λ is. same ∙ iff.0 is)
+may_end_iff : (stage : Option Stage) (lines : Lines) (lacking : Bool) → lacking ≡ may_lack (first_record lines)
+    → IsTrue (may_end_by stage lacking) ↔ ((last : Stage) × (stage ≡ Some last) × (may_end last lines ≡ true))
+may_end_iff = search rules
 
 -- the test `may_end_by` passes for the stage and for `lacking`, as the reader remembers them, if
 -- and only if the lines taken are a whole schedule
 pub complete_by : (journey : JourneyState) (lines : Lines) (result : Bool) → result ≡ may_end_by journey.stage journey.lacking → HasLines journey lines
     → IsTrue result ↔ IsSchedule lines
 complete_by journey lines result told has =
-    let iff = complete_iff journey lines has in (λ test. iff.0 (sym told ∙ test), λ is. told ∙ iff.1 is)
+    let ends = may_end_iff journey.stage lines journey.lacking has.lacking_is in
+    let whole = schedule_iff_stage lines in (
+      λ test. let at = ends.0 (sym told ∙ test) in whole.1 (at.0, record { found = sym has.stage_is ∙ at.1; may = at.2 }),
+      λ is. let at = whole.0 is in told ∙ ends.1 (at.0, has.stage_is ∙ at.1.found, at.1.may),
+    )
 
 -- ---- the next line
 
@@ -86,30 +61,29 @@ abbrev pub cause_by : Option Stage → List ℕ → fault.FileCause
 cause_by None line = first_line_cause line
 cause_by (Some stage) line = schedule_cause stage line
 
-begins_by : (journey : JourneyState) (lines : Lines) (line : List ℕ) (next : Stage) → HasLines journey lines → next_by journey.stage lines line ≡ Some next
-    → BeginsSchedule (lines ++ line ∷ [])
-begins_by journey lines line next has found = by journey.stage refl found
-  where
-    first : (b : Bool) → is_first_line line ≡ b → cond b (Some after_basic) None ≡ Some next → BeginsSchedule (line ∷ [])
-    first true h told = (begins_iff_stage line []).1 (after_basic, λ i. cond (h i) (Some after_basic) None)
-    first false h told = cc
+-- lines that end with this line begin a schedule if and only if they lead the reader to a stage
+begins_iff : (lines : Lines) (line : List ℕ) → BeginsSchedule (lines ++ line ∷ []) ↔ (is_some (stage_of (lines ++ line ∷ [])) ≡ true)
+begins_iff [] line = search (rules, begins_iff_stage line [], some_by_test)
+begins_iff (basic ∷ rest) line = search (rules, begins_iff_stage basic (rest ++ line ∷ []), some_by_test)
 
-    by : (stage : Option Stage) → journey.stage ≡ stage → next_by stage lines line ≡ Some next → BeginsSchedule (lines ++ line ∷ [])
-    by None h told = subst (λ l. BeginsSchedule (l ++ line ∷ [])) (sym (has.fresh h)) (first (is_first_line line) refl told)
-    by (Some stage) h told = begins_next_stage lines stage line next (sym has.stage_is ∙ h) told
+next_is_stage : (journey : JourneyState) (lines : Lines) (line : List ℕ) → HasLines journey lines
+    → next_by journey.stage lines line ≡ stage_of (lines ++ line ∷ [])
+next_is_stage journey lines line has =
+    (elim journey.stage as (λ stage. journey.stage ≡ stage → next_by stage lines line ≡ stage_of (lines ++ line ∷ [])) [
+      | None ↦ λ h. subst (λ l. next_by None l line ≡ stage_of (l ++ line ∷ [])) (sym (has.fresh h)) refl
+      | Some stage ↦ λ h. sym (stage_of_more lines stage line (sym has.stage_is ∙ h))
+    ]) refl
+
+not_first : (b : Bool) → cond b (Some after_basic) None ≡ no_stage → b ≡ false
+not_first = search rules
 
 fault_by : (journey : JourneyState) (lines : Lines) (line : List ℕ) → HasLines journey lines → IsRecord line → next_by journey.stage lines line ≡ None
     → IsScheduleFault lines line (cause_by journey.stage line)
-fault_by journey lines line has is nowhere = by journey.stage refl nowhere
-  where
-    first : (b : Bool) → is_first_line line ≡ b → cond b (Some after_basic) None ≡ None → IsScheduleFault [] line (first_line_cause line)
-    first true h told = cc
-    first false h told = first_line_fault _ is h
-
-    by : (stage : Option Stage) → journey.stage ≡ stage → next_by stage lines line ≡ None → IsScheduleFault lines line (cause_by journey.stage line)
-    by None h told = subst (λ s. IsScheduleFault lines line (cause_by s line)) (sym h)
-        (subst (λ l. IsScheduleFault l line (first_line_cause line)) (sym (has.fresh h)) (first (is_first_line line) refl told))
-    by (Some stage) h told = subst (λ s. IsScheduleFault lines line (cause_by s line)) (sym h) (schedule_fault _ _ _ (sym has.stage_is ∙ h) is told)
+fault_by journey lines line has is = (elim journey.stage as (λ stage. journey.stage ≡ stage → next_by stage lines line ≡ None
+    → IsScheduleFault lines line (cause_by stage line)) [
+      | None ↦ λ h told. subst (λ l. IsScheduleFault l line (first_line_cause line)) (sym (has.fresh h)) (first_line_fault line is (not_first _ told))
+      | Some stage ↦ λ h told. schedule_fault lines stage line (sym has.stage_is ∙ h) is told
+    ]) refl
 
 -- if there is no stage after a line, the line is refused for the cause that `cause_by` gives
 pub refused_by : (journey : JourneyState) (lines : Lines) (line : List ℕ) (cause : fault.FileCause) → HasLines journey lines → IsRecord line
@@ -120,19 +94,10 @@ refused_by journey lines line cause has is nowhere same = subst (IsScheduleFault
 -- followed by this line
 pub judged_ok : {A : Type 0} (answer : Result A FileCause) (journey : JourneyState) (lines : Lines) (line : List ℕ) → HasLines journey lines → IsRecord line
     → IsOk answer ↔ (is_some (next_by journey.stage lines line) ≡ true) → IsOk answer ↔ BeginsSchedule (lines ++ line ∷ [])
-judged_ok answer journey lines line has is iff = (
-  λ ok. by (next_by journey.stage lines line) refl (iff.0 ok),
-  λ begins. from (next_by journey.stage lines line) refl begins,
-)
-  where
-    by : (next : Option Stage) → next_by journey.stage lines line ≡ next → is_some (next_by journey.stage lines line) ≡ true
-        → BeginsSchedule (lines ++ line ∷ [])
-    by None h some = let bad : false ≡ true = (λ i. is_some (sym h i)) ∙ some in cc
-    by (Some next) h some = begins_by _ _ _ _ has h
-
-    from : (next : Option Stage) → next_by journey.stage lines line ≡ next → BeginsSchedule (lines ++ line ∷ []) → IsOk answer
-    from None h begins = absurd ((fault_by _ _ _ has is h).here begins)
-    from (Some next) h begins = iff.1 (λ i. is_some (h i))
+judged_ok answer journey lines line has is iff =
+    let same = ap (λ (next : Option Stage). is_some next) (next_is_stage journey lines line has) in
+    let begins = begins_iff lines line in
+    (λ ok. begins.1 (sym same ∙ iff.0 ok), λ told. iff.1 (same ∙ begins.0 told))
 
 -- suppose that a result is `Ok` if and only if there is a stage after the line, and that its error
 -- is otherwise the cause that `cause_by` gives. Then this error is the cause for which the line is
@@ -144,15 +109,14 @@ pub judged_err : {A : Type 0} (answer : Result A FileCause) (journey : JourneySt
     → IfErr answer (λ cause. IsScheduleCause lines line (cause_meant cause))
 judged_err = search (rules, fault_by)
 
+some_if : (b : Bool) (stage : Stage) → is_some (cond b (Some stage) None) ≡ b
+some_if = search rules
+
 -- if no line has been taken yet, a line leads to a stage if and only if the line is a basic
 -- schedule with good fields
 pub first_test : (journey : JourneyState) (lines : Lines) (line : List ℕ) → journey.stage ≡ None
     → is_some (next_by journey.stage lines line) ≡ is_first_line line
-first_test journey lines line at = (λ i. is_some (next_by (at i) lines line)) ∙ by (is_first_line line)
-  where
-    by : (b : Bool) → is_some (cond b (Some after_basic) None) ≡ b
-    by true = refl
-    by false = refl
+first_test journey lines line at = (λ i. is_some (next_by (at i) lines line)) ∙ some_if (is_first_line line) after_basic
 
 -- Says that the reader is at a stage, that a line of this kind may come next, and that `next` is the stage after the line.
 pub record LeadsOn (stage : Option Stage) (kind : Option Kind) (next : Stage) : Type 0 where
@@ -171,11 +135,7 @@ next_test journey lines line next is led =
     let on = leads_on journey.stage (kind_of line) next led in
     (λ i. is_some (next_by (on.at i) lines line))
     ∙ (λ i. is_some (cond ((record_iff_test line).0 is i && is_sound_next lines line) (on.after i) None))
-    ∙ by (is_sound_next lines line)
-  where
-    by : (b : Bool) → is_some (cond b (Some next) None) ≡ b
-    by true = refl
-    by false = refl
+    ∙ some_if (is_sound_next lines line) next
 
 -- a line of a kind that may come next is refused either for its leftmost bad field or for a third midnight
 pub next_cause : (journey : JourneyState) (line : List ℕ) (next : Stage) → stage_then journey.stage (kind_of line) ≡ Some next
@@ -186,24 +146,21 @@ next_cause = search (rules, leads_on, no_stage_of_none)
 pub iff_along : (P : Type 0) (a b : Bool) → a ≡ b → P ↔ (b ≡ true) → P ↔ (a ≡ true)
 iff_along P a b same iff = (λ p. same ∙ iff.0 p, λ test. iff.1 (sym same ∙ test))
 
+none_if : (b : Bool) (stage : Option Stage) → stage ≡ None → cond b stage None ≡ None
+none_if = search rules
+
+no_basic : (b c : Bool) → cond (b && false && c) (Some after_basic) None ≡ no_stage
+no_basic = search rules
+
 -- a line that doesn't begin with the identity of a kind of record is refused with the cause `Kind`, whichever lines precede it
 pub unknown_kind : (journey : JourneyState) (lines : Lines) (line : List ℕ) → HasLines journey lines → IsRecord line → kind_of line ≡ None
     → IsScheduleFault lines line fault.bad_kind
 unknown_kind journey lines line has is none = refused_by journey lines line fault.bad_kind has is (nowhere journey.stage) (cause journey.stage)
   where
     nowhere : (stage : Option Stage) → next_by stage lines line ≡ None
-    nowhere None = (λ i. cond (is_record line && is_basic_kind (none i) && has_good_fields line) (Some after_basic) None) ∙ by (is_record line)
-      where
-        by : (b : Bool) → cond (b && false && has_good_fields line) (Some after_basic) None ≡ None
-        by true = refl
-        by false = refl
-    nowhere (Some stage) =
-        (λ i. cond (is_record line && is_sound_next lines line) (stage_after stage (none i)) None) ∙ by (is_record line && is_sound_next lines line)
-        ∙ no_stage_of_none stage
-      where
-        by : (b : Bool) → cond b (stage_after stage None) None ≡ stage_after stage None
-        by true = refl
-        by false = sym (no_stage_of_none stage)
+    nowhere None = (λ i. cond (is_record line && is_basic_kind (none i) && has_good_fields line) (Some after_basic) None)
+        ∙ no_basic (is_record line) (has_good_fields line)
+    nowhere (Some stage) = none_if (is_record line && is_sound_next lines line) _ (ap (stage_after stage) none ∙ no_stage_of_none stage)
 
     cause : (stage : Option Stage) → cause_by stage line ≡ fault.bad_kind
     cause None = λ i. cond (is_none (none i)) bad_kind (cond (is_basic_kind (kind_of line)) (field_cause line) bad_place)
@@ -214,17 +171,9 @@ pub out_of_place : (journey : JourneyState) (lines : Lines) (line : List ℕ) (s
     → journey.stage ≡ Some stage → kind_of line ≡ Some kind
     → stage_after stage (Some kind) ≡ None → IsScheduleFault lines line fault.bad_place
 out_of_place journey lines line stage kind has is at known none = refused_by _ _ _ _ has is
-    ((λ i. next_by (at i) lines line) ∙ (λ i. cond (is_record line && is_sound_next lines line) (nowhere i) None) ∙ by
-    (is_record line && is_sound_next lines line))
+    ((λ i. next_by (at i) lines line) ∙ none_if (is_record line && is_sound_next lines line) _ (ap (stage_after stage) known ∙ none))
     ((λ i. cause_by (at i) line) ∙ (λ i. cond (is_none (known i)) bad_kind (cond (is_none (stage_after stage (known i))) bad_place (field_cause line))) ∙
     (λ i. cond (is_none (none i)) bad_place (field_cause line)))
-  where
-    nowhere : stage_after stage (kind_of line) ≡ None
-    nowhere = ap (stage_after stage) known ∙ none
-
-    by : (b : Bool) → cond b no_stage no_stage ≡ no_stage
-    by true = refl
-    by false = refl
 
 -- ---- the times of the next line
 
@@ -267,24 +216,8 @@ next_is lines line stage next at is sound after = stage_of_more lines _ line at
     ∙ (λ i. cond (sound i) (stage_after stage (kind_of line)) None)
     ∙ after
 
--- in a deletion, taking another line changes nothing that the reader remembers except the stage
-pub deletion_goes_on : (journey : JourneyState) (lines : Lines) (line : List ℕ) (stage next : Stage) → HasLines journey lines → IsRecord line
-    → journey.stage ≡ Some stage → journey.deletion ≡ true
-    → stage_after stage (kind_of line) ≡ Some next → HasLines (record journey { stage = Some next }) (lines ++ line ∷ [])
-deletion_goes_on journey lines line stage next has is at deletion after =
-    let stage_is : stage_of lines ≡ Some stage = sym has.stage_is ∙ at in
-    let first = first_stays lines stage line stage_is in
-    record {
-      stage_is = sym (next_is lines line stage next stage_is is (deletion_sound (sym has.deletion_is ∙ deletion)) after);
-      fresh = λ none. absurd cc;
-      deletion_is = has.deletion_is ∙ ap is_deletion (sym first);
-      lacking_is = has.lacking_is ∙ ap may_lack (sym first);
-      falls_are = λ kept. let bad : true ≡ false = sym deletion ∙ kept in cc;
-      last_is = λ kept. let bad : true ≡ false = sym deletion ∙ kept in cc;
-    }
-  where
-    deletion_sound : is_deletion (first_record lines) ≡ true → is_sound_next lines line ≡ true
-    deletion_sound told = λ i. told i || (has_good_fields line && nat_le (midnights (lines ++ line ∷ [])) 2)
+deletion_sound : (lines : Lines) (line : List ℕ) → is_deletion (first_record lines) ≡ true → is_sound_next lines line ≡ true
+deletion_sound lines line told = λ i. told i || (has_good_fields line && nat_le (midnights (lines ++ line ∷ [])) 2)
 
 -- the midnights that the schedule passes at the next line can be counted from the last time that
 -- the reader remembers
@@ -297,33 +230,6 @@ falls_so_far journey lines line has kept = sym (falls_from_zero _ _)
 sound_by_falls : (journey : JourneyState) (lines : Lines) (line : List ℕ) (more : ℕ) → HasLines journey lines → journey.deletion ≡ false
     → more ≡ journey.falls + falls_after (Some journey.last) (times_along (line ∷ [])) → is_sound_next lines line ≡ (has_good_fields line && nat_le more 2)
 sound_by_falls = search (rules, sound_next_by_count, falls_so_far)
-
--- unless the schedule is a deletion, the reader can take a sound line. It then remembers the next
--- stage, the new count of midnights and the new last time
-pub sound_goes_on : (journey : JourneyState) (lines : Lines) (line : List ℕ) (stage next : Stage) (more later : ℕ) → HasLines journey lines
-    → IsRecord line → journey.stage ≡ Some stage
-    → journey.deletion ≡ false → stage_after stage (kind_of line) ≡ Some next → HasGoodFields line
-    → more ≡ journey.falls + falls_after (Some journey.last) (times_along (line ∷ [])) → more ≤ 2
-    → Some later ≡ later_or (last_of (times_along (line ∷ []))) (Some journey.last)
-    → HasLines (record journey { stage = Some next; falls = more; last = later }) (lines ++ line ∷ [])
-sound_goes_on journey lines line stage next more later has is at kept after fields falls few last =
-    let stage_is : stage_of lines ≡ Some stage = sym has.stage_is ∙ at in
-    let first = first_stays lines stage line stage_is in
-    let sound = sound_by_falls journey lines line more has kept falls
-    ∙ and_true (has_good_fields line) (nat_le more 2) (test_by_none (leftmost_bad_field line) fields) (le-leb more 2 few) in
-    record {
-      stage_is = sym (next_is lines line stage next stage_is is sound after);
-      fresh = λ none. absurd cc;
-      deletion_is = has.deletion_is ∙ ap is_deletion (sym first);
-      lacking_is = has.lacking_is ∙ ap may_lack (sym first);
-      falls_are = λ _.
-          falls ∙ (λ i. has.falls_are kept i + sym (falls_so_far journey lines line has kept) i) ∙ sym (midnights_step lines line);
-      last_is = λ _.
-          last
-          ∙ (λ i. later_or (last_of (times_along (line ∷ []))) (has.last_is kept i))
-          ∙ later_in_turn (last_of (times_along (line ∷ []))) (last_of (times_along lines)) (Some 0)
-          ∙ (λ i. later_or (sym (last_time_step lines line) i) (Some 0));
-    }
 
 -- the number of midnights passed up to the last of three optional times is the sum of the counts
 -- for each time in turn
@@ -373,7 +279,17 @@ pub deletion_read : (journey : JourneyState) (lines : Lines) (line : List ℕ) (
     → stage_then journey.stage (kind_of line) ≡ Some next
     → journey.deletion ≡ true → HasLines (record journey { stage = Some next }) (lines ++ line ∷ [])
 deletion_read journey lines line next has is led deletion =
-    let on = leads_on journey.stage (kind_of line) next led in deletion_goes_on journey lines line on.here next has is on.at deletion on.after
+    let on = leads_on journey.stage (kind_of line) next led in
+    let stage_is : stage_of lines ≡ Some on.here = sym has.stage_is ∙ on.at in
+    let first = first_stays lines on.here line stage_is in
+    record {
+      stage_is = sym (next_is lines line on.here next stage_is is (deletion_sound lines line (sym has.deletion_is ∙ deletion)) on.after);
+      fresh = λ none. absurd cc;
+      deletion_is = has.deletion_is ∙ ap is_deletion (sym first);
+      lacking_is = has.lacking_is ∙ ap may_lack (sym first);
+      falls_are = λ kept. let bad : true ≡ false = sym deletion ∙ kept in cc;
+      last_is = λ kept. let bad : true ≡ false = sym deletion ∙ kept in cc;
+    }
 
 -- Says that a line has these times and that, after the line, `more` is the number of midnights that the schedule has passed and `later` is its last time.
 pub record IsTimed (journey : JourneyState) (line : List ℕ) (first second third : Option ℕ) (more later : ℕ) : Type 0 where
@@ -381,49 +297,51 @@ pub record IsTimed (journey : JourneyState) (line : List ℕ) (first second thir
   pub falls : more ≡ journey.falls + falls_after (Some journey.last) (time_list first ++ time_list second ++ time_list third)
   pub last : Some later ≡ later_or third (later_or second (later_or first (Some journey.last)))
 
-timed_falls : (journey : JourneyState) (line : List ℕ) (first second third : Option ℕ) (more later : ℕ)
-    → IsTimed journey line first second third more later
-    → more ≡ journey.falls + falls_after (Some journey.last) (times_along (line ∷ []))
-timed_falls = search (rules, one_line)
+module _ (journey : JourneyState) (lines : Lines) (line : List ℕ) (first second third : Option ℕ) (more later : ℕ) (has : HasLines journey lines)
+    (kept : journey.deletion ≡ false) (fields : HasGoodFields line) (told : IsTimed journey line first second third more later) where
+  timed_falls : more ≡ journey.falls + falls_after (Some journey.last) (times_along (line ∷ []))
+  timed_falls = search (rules, one_line)
 
--- a line with good fields is sound if and only if the schedule, with the line's times, passes midnight at most twice
-pub sound_test : (journey : JourneyState) (lines : Lines) (line : List ℕ) (first second third : Option ℕ) (more later : ℕ)
-    → HasLines journey lines → journey.deletion ≡ false
-    → HasGoodFields line → IsTimed journey line first second third more later → is_sound_next lines line ≡ nat_le more 2
-sound_test journey lines line first second third more later has kept fields told =
-    sound_by_falls journey lines line more has kept (timed_falls journey line first second third more later told)
-    ∙ (λ i. test_by_none (leftmost_bad_field line) fields i && nat_le more 2)
+  -- a line with good fields is sound if and only if the schedule, with the line's times, passes midnight at most twice
+  sound_test : is_sound_next lines line ≡ nat_le more 2
+  sound_test = sound_by_falls journey lines line more has kept timed_falls ∙ (λ i. test_by_none (leftmost_bad_field line) fields i && nat_le more 2)
 
--- a line with good fields is sound if the schedule, with the line's times, passes midnight at most twice
-pub sound_by_few : (journey : JourneyState) (lines : Lines) (line : List ℕ) (first second third : Option ℕ) (more later : ℕ)
-    → HasLines journey lines → journey.deletion ≡ false
-    → HasGoodFields line → IsTimed journey line first second third more later → more ≤ 2 → is_sound_next lines line ≡ true
-sound_by_few journey lines line first second third more later has kept fields told few = sound_test _ _ _ _ _ _ _ _ has kept fields told ∙ le-leb more 2 few
+  -- a line with good fields is sound if the schedule, with the line's times, passes midnight at most twice
+  pub sound_by_few : more ≤ 2 → is_sound_next lines line ≡ true
+  sound_by_few few = sound_test ∙ le-leb more 2 few
 
--- a line isn't sound if the schedule, with the line's times, passes midnight more than twice
-pub unsound_by_many : (journey : JourneyState) (lines : Lines) (line : List ℕ) (first second third : Option ℕ) (more later : ℕ)
-    → HasLines journey lines → journey.deletion ≡ false
-    → HasGoodFields line → IsTimed journey line first second third more later → 2 < more → ¬ (is_sound_next lines line ≡ true)
-unsound_by_many journey lines line first second third more later has kept fields told many sound =
-    let few = leb-true more 2 (sym (sound_test journey lines line first second third more later has kept fields told) ∙ sound) in omega arith
+  -- a line isn't sound if the schedule, with the line's times, passes midnight more than twice
+  pub unsound_by_many : 2 < more → ¬ (is_sound_next lines line ≡ true)
+  unsound_by_many many sound = let few = leb-true more 2 (sym sound_test ∙ sound) in omega arith
 
--- after a sound line the reader remembers the next stage, the new count of midnights and the new last time
-pub sound_read : (journey : JourneyState) (lines : Lines) (line : List ℕ) (next : Stage) (first second third : Option ℕ) (more later : ℕ)
-    → HasLines journey lines → IsRecord line
-    → stage_then journey.stage (kind_of line) ≡ Some next → journey.deletion ≡ false → HasGoodFields line
-    → IsTimed journey line first second third more later → more ≤ 2
-    → HasLines (record journey { stage = Some next; falls = more; last = later }) (lines ++ line ∷ [])
-sound_read journey lines line next first second third more later has is led kept fields told few =
-    let on = leads_on journey.stage (kind_of line) next led in
-    sound_goes_on journey lines line on.here next more later has is on.at kept on.after fields (timed_falls journey line first second third more later told) few
-    (told.last ∙ last_in_turn (Some journey.last) first second third ∙ (λ i. later_or (last_of (sym (one_line line ∙ told.times) i)) (Some journey.last)))
+  -- unless the schedule is a deletion, the reader can take a sound line. It then remembers the next
+  -- stage, the new count of midnights and the new last time
+  pub sound_read : (next : Stage) → IsRecord line → stage_then journey.stage (kind_of line) ≡ Some next → more ≤ 2
+      → HasLines (record journey { stage = Some next; falls = more; last = later }) (lines ++ line ∷ [])
+  sound_read next is led few =
+      let on = leads_on journey.stage (kind_of line) next led in
+      let stage_is : stage_of lines ≡ Some on.here = sym has.stage_is ∙ on.at in
+      let front = first_stays lines on.here line stage_is in
+      record {
+        stage_is = sym (next_is lines line on.here next stage_is is (sound_by_few few) on.after);
+        fresh = λ none. absurd cc;
+        deletion_is = has.deletion_is ∙ ap is_deletion (sym front);
+        lacking_is = has.lacking_is ∙ ap may_lack (sym front);
+        falls_are = λ _.
+            timed_falls ∙ (λ i. has.falls_are kept i + sym (falls_so_far journey lines line has kept) i) ∙ sym (midnights_step lines line);
+        last_is = λ _.
+            told.last
+            ∙ last_in_turn (Some journey.last) first second third
+            ∙ (λ i. later_or (last_of (sym (one_line line ∙ told.times) i)) (has.last_is kept i))
+            ∙ later_in_turn (last_of (times_along (line ∷ []))) (last_of (times_along lines)) (Some 0)
+            ∙ (λ i. later_or (sym (last_time_step lines line) i) (Some 0));
+      }
 
 -- ---- the result of taking a line
 
 -- if a fact holds whenever the result is `Ok`, and the result is `Ok`, the fact holds
 pub of_ok : {A E P : Type 0} (answer : Result A E) → OnOk answer P → IsOk answer → P
-of_ok (Ok value) holds is = holds
-of_ok (Err cause) holds is = absurd (false≢true is)
+of_ok = search rules
 
 -- a cause that is right whichever lines the reader may have taken satisfies `FaultsLine`
 pub faults_line : {A : Type 0} (answer : Result A FileCause) (journey : JourneyState) (line : List ℕ)

@@ -1,5 +1,5 @@
 -- The conversion of keys from the code's type to the definitions' type is injective.
-use Rattle.std.proofs.Common.{◌≡◌, rules}
+use Rattle.cif_laws.proofs.Common.{◌≡◌, rules}
 use Rattle.cif_line.specs.Letter.{stp_letter}
 use Rattle.cif_line.specs.declared.letter.Stp.{Stp}
 use Rattle.cif_change.specs.declared.key.Key.{Key}

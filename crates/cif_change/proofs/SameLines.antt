@@ -1,12 +1,8 @@
 -- Two lines are equal if and only if their five blocks of sixteen bytes are equal. A block is compared with one lane for each byte.
-use Rattle.std.proofs.Common.{◌≡◌, ℕ, ◌+◌, ◌*◌, ◌%◌, ◌^◌, ◌≤◌, nat_eq, Bool, true, false, cond, not, ◌&&◌, List, rules}
-use Rattle.std.proofs.Common.{[], ◌∷◌, ◌++◌, map, length, take, drop, w8, refl, sym, ap, ◌∙◌, arith}
-use Rattle.std.specs.Prelude.{◌↔◌, IsTrue}
-use Rattle.std.proofs.lemmas.Bool.{eqb-true}
-use Rattle.std.proofs.lemmas.Bool.Decides.{nat_tests}
-use Rattle.std.proofs.lemmas.List.{drop_all}
+use Rattle.cif_laws.proofs.Common.{◌≡◌, ℕ, ◌+◌, ◌*◌, ◌%◌, ◌^◌, ◌≤◌, nat_eq, Bool, true, false, cond, not, ◌&&◌, List, rules, [], ◌∷◌, ◌++◌, map, length, take}
+use Rattle.cif_laws.proofs.Common.{drop, w8, refl, sym, ap, ◌∙◌, arith, ◌↔◌, IsTrue, eqb-true, nat_tests, drop_all, mask_l, top}
 use Rattle.std.proofs.lemmas.Simd.{mask_l-mod, chunk-drop, tops_compared, length-zip2}
-use lib.Lanes.{mask_l, top, zip2}
+use lib.Lanes.{zip2}
 
 -- whether two bytes differ
 abbrev differ : ℕ → ℕ → Bool
@@ -27,9 +23,8 @@ twice m = grind (arith, nat_tests)
 -- two lists of the same length are equal if their mask of differences is 0. This mask has a bit set for each pair of bytes that differ
 none_differs : (xs ys : List ℕ) → length xs ≡ length ys → nat_eq (mask_l (zip2 differ xs ys)) 0 ≡ true → xs ≡ ys
 none_differs [] [] even none = refl
-none_differs [] (y ∷ ys) even none = absurd (omega arith)
-none_differs (x ∷ xs) [] even none = absurd (omega arith)
 none_differs (x ∷ xs) (y ∷ ys) even none = grind (arith, nat_eq, not, eqb-true, twice, one_set, (none_differs xs ys (omega arith)))
+none_differs _ _ even none = absurd (omega arith)
 
 -- if two lists are equal, their mask of differences is 0. This mask has a bit set for each pair of bytes that differ
 none_of_same : (xs : List ℕ) → nat_eq (mask_l (zip2 differ xs xs)) 0 ≡ true

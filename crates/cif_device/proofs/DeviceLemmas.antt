@@ -1,8 +1,7 @@
 -- Consecutive writes or reads, and the failure count of a device.
-use Rattle.std.proofs.Common.{◌≡◌, ℕ, ◌+◌, ◌-◌, List, ◌++◌, arith, length, take, drop, replicate, Option, ap, sym, subst, ◌∙◌, append_assoc}
-use Rattle.std.proofs.Common.{rules}
+use Rattle.std.proofs.Common.{◌≡◌, ℕ, ◌+◌, ◌-◌, List, ◌++◌, arith, length, take, drop, replicate, Option, ap, sym, ◌∙◌, append_assoc, rules, ◌≢◌, true, false}
+use Rattle.std.proofs.Common.{Result, IsErr, OnOk, OnErr}
 use Rattle.std.proofs.lemmas.Grind.{common_steps}
-use Rattle.std.specs.Prelude.{◌≢◌, true, false, Result, IsErr, OnOk, OnErr}
 use Rattle.std.specs.List.{concat}
 use Rattle.std.proofs.lemmas.List.{replicate-append-replicate}
 use Rattle.std.proofs.lemmas.List.Folds.{concat-append}
@@ -36,18 +35,8 @@ concat-replicate_add m n text =
 -- if an endless source returns one list of bytes and then another, it returns their concatenation
 pub Goes-append : (old middle new : Round) (front back : List ℕ) →
     Goes old front middle → Goes middle back new → Goes old (front ++ back) new
-Goes-append old middle new front back (again, step, m, first) (again', step', n, second) = (again' ∙ again, step' ∙ step, m + n, whole)
-  where
-    then : middle.left ++ concat (replicate n old.again) ≡ back ++ new.left
-    then = subst (λ text. middle.left ++ concat (replicate n text) ≡ back ++ new.left) again second
-
-    whole : old.left ++ concat (replicate (m + n) old.again) ≡ (front ++ back) ++ new.left
-    whole = ap (λ more. old.left ++ more) (concat-replicate_add _ n _)
-        ∙ sym (append_assoc old.left (concat (replicate m old.again)) (concat (replicate n old.again)))
-        ∙ ap (λ text. text ++ concat (replicate n old.again)) first
-        ∙ append_assoc front middle.left (concat (replicate n old.again))
-        ∙ ap (λ more. front ++ more) then
-        ∙ sym (append_assoc front back new.left)
+Goes-append old middle new front back (again, step, m, first) (again', step', n, second) =
+    (again' ∙ again, step' ∙ step, m + n, search (rules, concat-replicate_add, append_assoc))
 
 -- ---- the failure count of a device
 

@@ -1,8 +1,7 @@
 -- What a taker has been fed after each read of the source that feeds it.
-use Rattle.std.proofs.Common.{◌≡◌, ℕ, ◌+◌, ◌<◌, ◌≤◌, List, [], ◌∷◌, ◌++◌, length, take, drop, Some, None, refl, sym, ◌∙◌, rules}
+use Rattle.std.proofs.Common.{◌≡◌, ℕ, ◌+◌, ◌<◌, ◌≤◌, List, [], ◌∷◌, ◌++◌, length, take, drop, Some, None, refl, sym, ◌∙◌, rules, subst, arith, append_assoc}
+use Rattle.std.proofs.Common.{append-nil, length-append, ◌^◌, Err, Result, Fits, w64, Option, Bool, false}
 use Rattle.std.proofs.lemmas.Grind.{common_steps}
-use Rattle.std.proofs.Common.{subst, arith, append_assoc, append-nil, length-append, ◌^◌, Err, Result, Fits, w64, Ok}
-use Rattle.std.specs.Prelude.{Option, Bool, true, false}
 use Rattle.std.proofs.lemmas.List.{length-take-le, take-append-le, take-take}
 use Rattle.cif_device.specs.Device.{Reads, IsEnd, Ends}
 use Rattle.cif_device.specs.declared.feed.FeedFault.{FeedFault}
@@ -86,26 +85,10 @@ end_stays None (Some rest) piece more end = cc
 end_stays (Some left) (Some rest) [] more end = cc
 end_stays (Some left) (Some rest) (byte ∷ piece) more end = let none : ⊥ = cc in absurd none
 
--- a read of no bytes into a buffer with room reports the end
-pub ended_by : (n room : ℕ) (ended now_ended passed now_passed : Bool) → Ends n room ended now_ended passed now_passed → n ≡ 0 → 0 < room → now_ended ≡ true
-ended_by n room ended now_ended passed now_passed (reports, _, _, _) none some = reports none some
-
 -- if the end wasn't reported before a read of at least one byte, it isn't reported after that read
 pub going_on : (n room : ℕ) (ended now_ended passed now_passed : Bool) → Ends n room ended now_ended passed now_passed → ¬ (n ≡ 0) → ended ≡ false
     → now_ended ≡ false
 going_on n room ended now_ended passed now_passed (_, going, _, _) some was = going (omega (arith, some)) ∙ was
-
--- a read before the end was reported leaves `passed` unchanged
-pub not_passed_by : (n room : ℕ) (ended now_ended passed now_passed : Bool) → Ends n room ended now_ended passed now_passed → ended ≡ false
-    → now_passed ≡ passed
-not_passed_by n room ended now_ended passed now_passed (_, _, _, stays) was = stays was
-
--- a failed read leaves `ended` unchanged
-pub still_going : (ended now_ended passed now_passed : Bool) → (now_ended ≡ ended) × (now_passed ≡ passed) → now_ended ≡ ended
-still_going ended now_ended passed now_passed (same, _) = same
-
-pub still_not_passed : (ended now_ended passed now_passed : Bool) → (now_ended ≡ ended) × (now_passed ≡ passed) → now_passed ≡ passed
-still_not_passed ended now_ended passed now_passed (_, same) = same
 
 -- the first bytes in the buffer are the bytes that were read
 pub same_front : (n len : ℕ) (piece into items : List ℕ) → piece ≡ take len (into ++ drop (length into) items) → length into ≡ len → n ≤ length into
@@ -116,15 +99,3 @@ same_front = search (rules, take-append-le, take-take)
 pub none_failed : {Fault : Type 0} (result : Result ℕ (FeedFault Fault)) (before now after : ℕ) → ¬ (result ≡ Err feed.Source) → after ≡ now → now ≡ before
     → (result ≡ Err feed.Source → after ≡ before + 1) × (after ≡ before + 1 → result ≡ Err feed.Source)
 none_failed result before now after other same kept = (λ is. absurd (other is), λ more. let none : ⊥ = omega (arith, same, kept, more) in absurd none)
-
--- a result that is a number of bytes isn't the error `Source`
-pub count_told : {Fault : Type 0} (count : ℕ) → ¬ (◌≡◌ {A = Result ℕ (FeedFault Fault)} (Ok count) (Err feed.Source))
-count_told count is = cc
-
--- the error `Refused` isn't the error `Source`
-pub refusal_told : {Fault : Type 0} (fault : Fault) → ¬ (◌≡◌ {A = Result ℕ (FeedFault Fault)} (Err (feed.Refused fault)) (Err feed.Source))
-refusal_told fault is = cc
-
--- the error `Memory` isn't the error `Source`
-pub memory_answer : {Fault : Type 0} → ¬ (◌≡◌ {A = Result ℕ (FeedFault Fault)} (Err feed.Memory) (Err feed.Source))
-memory_answer is = cc

@@ -1,5 +1,5 @@
 -- Lemmas on results that are `Ok` or `Err`.
-use Rattle.std.specs.Prelude.{Result, Ok, Err, IsOk, OnOk, IfErr}
+use Rattle.cif_laws.proofs.Common.{Result, Ok, Err, IsOk, OnOk, IfErr}
 
 -- if a fact holds whenever the result is `Ok`, and the result is `Ok`, the fact holds
 pub at_ok : {A E P : Type 0} (answer : Result A E) → OnOk answer P → IsOk answer → P

@@ -1,10 +1,6 @@
 -- Lemmas on what the reader returns at the end of a file: the file with its changes, or its counts.
-use Rattle.std.proofs.Common.{◌≡◌, ℕ, ◌+◌, ◌*◌, ◌≤◌, List, [], ◌∷◌, length, None, arith, length-append, rules}
-use Rattle.std.proofs.lemmas.List.{length-map}
-use Rattle.std.specs.Prelude.{Option}
-use Rattle.docker_model.specs.file.File.{most_records}
-use Rattle.docker_model.specs.records.Record.{Kind, kind_of}
-use Rattle.docker_model.specs.file.Change.{Change, Key, Act, acts_by_kind, changes_of_record, changes_from}
+use Rattle.cif_laws.proofs.Common.{◌≡◌, ℕ, ◌+◌, ◌*◌, ◌≤◌, List, [], ◌∷◌, length, None, refl, arith, length-append, rules, length-map, Option, most_records}
+use Rattle.cif_laws.proofs.Common.{Kind, kind_of, Change, Key, Act, acts_by_kind, changes_of_record, changes_from}
 use Rattle.cif_file.specs.declared.file.ended.Ended.{Ended}
 use Rattle.cif_file.specs.declared.keeper.kept.FileSoFar.{FileSoFar}
 use Rattle.cif_file.specs.declared.keeper.counting.CountingKeeper.{CountingKeeper}
@@ -15,7 +11,7 @@ use Rattle.cif_file.specs.FileRead.{IsRead, IsCounted}
 use Rattle.cif_file.specs.ParserRead.{IsOfFileText, IsCountOfFileText, IsEndedText, ParserState, WasFed, IsReading, EndsBy}
 use Rattle.cif_file.specs.SourceRead.{ReadsText, CountsText, ReadsEnded}
 use Rattle.cif_file.specs.declared.read.parser.FileReading.{FileReading}
-use Rattle.cif_file.proofs.ParserLemmas.{reading_at_none}
+use Rattle.cif_file.proofs.ParserLemmas.{reading_of}
 
 -- ---- how many changes the records of a file make
 
@@ -46,11 +42,6 @@ is_read : (limit : ℕ) (text : List ℕ) (ended : Ended FileSoFar) → limit �
 unfolding of_file
 is_read = search (rules, of_file)
 
--- the parts that the reader returns belong to the file
-are_parts : (limit : ℕ) (text : List ℕ) (ended : Ended FileSoFar) → limit ≤ most_records → IsEndedText KeepsAll limit text ended
-    → ArePartsOfFile (parts_ended ended)
-are_parts limit text ended few is = is_read limit text ended few is
-
 -- the limit of a reader is at most `most_records`
 limit_at : (reading : FileReading FileSoFar) (limit : ℕ) (text : List ℕ) → IsReading KeepsAll reading limit text → limit ≤ most_records
 limit_at reading limit text at = let room = reading.records.room in let same = at.counted.limit_is in omega arith
@@ -59,8 +50,8 @@ limit_at reading limit text at = let room = reading.records.room in let same = a
 pub are_parts_some : (parser : ParserState) (ended : Ended FileSoFar) → WasFed parser → parser.fault ≡ None → EndsBy KeepsAll parser.reading ended
     → ArePartsOfFile (parts_ended ended)
 are_parts_some parser ended fed none ends =
-    let at = reading_at_none parser fed.limit fed.text none fed.read in
-    are_parts fed.limit fed.text ended (limit_at parser.reading fed.limit fed.text at) (ends fed.limit fed.text at)
+    let at = reading_of parser parser refl none fed.limit fed.text fed.read in
+    is_read fed.limit fed.text ended (limit_at parser.reading fed.limit fed.text at) (ends fed.limit fed.text at)
 
 -- if the reader returns a file for the text that a source held, the source held the text of that file
 pub reads_text : (limit : ℕ) (left : Option (List ℕ)) (ended : Ended FileSoFar) → ReadsEnded KeepsAll limit left ended → ReadsText limit left (file_ended ended)
@@ -68,7 +59,7 @@ reads_text limit left ended reads = record { text = reads.text; held = reads.hel
 
 pub reads_parts : (limit : ℕ) (left : Option (List ℕ)) (ended : Ended FileSoFar) → limit ≤ most_records → ReadsEnded KeepsAll limit left ended
     → ArePartsOfFile (parts_ended ended)
-reads_parts limit left ended few reads = are_parts limit reads.text ended few reads.of_text
+reads_parts limit left ended few reads = is_read limit reads.text ended few reads.of_text
 
 -- ---- the counts of a file
 

@@ -1,18 +1,12 @@
 -- Lemmas on what the reader of a file's records remembers after taking a record, and why it refuses
 -- a record.
-use Rattle.std.proofs.Common.{◌≡◌, ℕ, ◌+◌, ◌<◌, inr, Bool, true, false, cond, List, [], ◌∷◌, ◌++◌, length, map, subst, rules}
-use Rattle.std.proofs.Common.{refl, ap, sym, ◌∙◌, Some, None, arith, append-nil, append_assoc, length-append}
-use Rattle.std.specs.Prelude.{Option, IsTrue, ◌↔◌, ◌&&◌, is_some, is_none, option_map, OnOk, Result}
-use Rattle.std.specs.List.{prefix_len}
-use Rattle.std.proofs.lemmas.List.{take-append-le}
+use Rattle.cif_laws.proofs.Common.{◌≡◌, ℕ, ◌+◌, ◌<◌, inr, Bool, true, false, cond, List, [], ◌∷◌, ◌++◌, length, map, subst, rules, refl, ap, sym, ◌∙◌, Some}
+use Rattle.cif_laws.proofs.Common.{None, arith, append-nil, append_assoc, length-append, Option, IsTrue, ◌↔◌, ◌&&◌, is_some, is_none, option_map, OnOk, Result}
+use Rattle.cif_laws.proofs.Common.{prefix_len, take-append-le, Kind, header, basic_schedule, trailer, kind_of, IsRecord, HasKind, first_record, follows_basic}
+use Rattle.cif_laws.proofs.Common.{IsFile, IsSchedule, BeginsSchedule, HasGoodFields, leftmost_bad_field, Change, Key, Act, schedule_rest, acts_by_kind}
+use Rattle.cif_laws.proofs.Common.{changes_of_record, changes_from, changes, schedule_named, bad_place, bad_kind, bad_field}
 use Rattle.std.proofs.lemmas.List.Sums.{prefix_len-le-length}
-use Rattle.docker_model.specs.records.Record.{Kind, header, basic_schedule, trailer, kind_of, IsRecord, HasKind}
-use Rattle.docker_model.specs.file.File.{first_record, follows_basic, IsFile, IsSchedule, BeginsSchedule}
-use Rattle.docker_model.specs.records.Field.{HasGoodFields, leftmost_bad_field}
-use Rattle.docker_model.specs.file.Change.{Change, Key, Act, Body, schedule_rest, acts_by_kind, changes_of_record}
-use Rattle.docker_model.specs.file.Change.{changes_from, changes, schedule_named, delete, put}
 use Rattle.docker_model.specs.file.FileFault as fault
-use Rattle.docker_model.specs.file.FileFault.{bad_place, bad_kind, bad_field}
 use Rattle.cif_laws.proofs.files.UnitChanges.{unit_then, schedule_change}
 use Rattle.cif_laws.specs.RecordTest.{is_record, has_good_fields}
 use Rattle.cif_laws.proofs.lists.BoolsAndOptions.{test_by_none, none_by_test}
@@ -22,7 +16,7 @@ use Rattle.cif_laws.proofs.schedules.ScheduleStages.{stage_of_more, first_line_i
 use Rattle.cif_laws.specs.FileStage.{Place, before_header, between_units, in_schedule, after_end, unit_by_kind, place_in}
 use Rattle.cif_laws.specs.FileStage.{is_header_kind, place_by_kind, is_sound_at, next_place, IsPlaceOf}
 use Rattle.cif_laws.proofs.files.FileStages.{test_by_next, next_by_test, next_behind, stage_stops, file_iff_place, one_place, place_of_more, at_of_place}
-use Rattle.cif_laws.specs.RecordCause.{cause_of, kind_cause, place_cause, is_after_end}
+use Rattle.cif_laws.specs.RecordCause.{kind_cause, place_cause, is_after_end}
 use Rattle.cif_laws.proofs.schedules.ScheduleCauses.{no_unit_by_kind, next_place_of_stage, cause_of_record}
 use Rattle.cif_laws.proofs.schedules.ScheduleCauses.{cause_in_schedule, cause_behind_schedule, fault_of_schedule}
 use Rattle.cif_line.specs.declared.kind_of_record.Kind as code
@@ -37,7 +31,7 @@ use Rattle.cif_change.specs.Meaning.{key_meant}
 use Rattle.cif_file.specs.declared.file.ended.Ended.{Ended}
 use Rattle.cif_file.specs.KeeperRead.{Keeps, change_opened, Begins, AddsLine, AddsSingle, Closes}
 use Rattle.cif_file.specs.EndedRead.{IsEnded}
-use Rattle.cif_change.specs.JourneyRead.{progress_meant, HasLines, Advances, IsScheduleCause, is_over_by}
+use Rattle.cif_change.specs.JourneyRead.{progress_meant, HasLines, IsScheduleCause, is_over_by}
 use Rattle.cif_file.specs.RecordsRead.{header_of, IsOpen, IsKept, HasRecords, IsOver, GoesOnWith, IsNoNext, IsNoNextCause, IsWholeBy, GoesOnTo, StandsBefore}
 
 abbrev Lines : Type 0
@@ -106,10 +100,6 @@ whole_iff lines stage at = (
   λ may. (schedule_iff_stage _).1 (stage, record { found = at; may = may }),
 )
 
-same_change : (n m : ℕ) (k l : Key) (b c : Bool) (body : Body) → n ≡ m → k ≡ l → b ≡ c
-    → ◌≡◌ {A = Change} (record { number = n; key = k; act = cond b delete (put body) }) (record { number = m; key = l; act = cond c delete (put body) })
-same_change n m k l b c body numbers keys tests = λ i. record { number = numbers i; key = keys i; act = cond (tests i) delete (put body) }
-
 -- if records end with a complete schedule, their changes are the changes of the records before this
 -- schedule, followed by exactly one change
 pub changes_closed : (opened : Opened) (lines before : Lines) → HasLines (progress_meant opened.progress) lines → opened.number ≡ length before + 1
@@ -125,14 +115,6 @@ changes_closed opened (basic ∷ others) before has number named is =
     ∙ schedule_change (1 + length before) _ others is
     ∙ ap (λ change. change ∷ []) (search rules)
     )
-
--- ---- what a keeper holds
-
--- two equal keepers hold the same lines and changes
-same_keeper : {K : Type 0} (keeps : Keeps K) (old new : K) (lines : Lines) (made more : List Change) → new ≡ old → made ≡ more → keeps old lines made
-    → keeps new lines more
-same_keeper keeps old new lines made more same equal kept =
-    subst (λ k. keeps k lines more) (sym same) (subst (keeps old lines) equal kept)
 
 -- ---- records that begin a unit
 
@@ -152,45 +134,34 @@ place_over keeps front records line next over is fields begins =
 
 -- ---- taking a record that begins a unit
 
--- if all units read so far are whole, the reader can take a trailer
-pub trailer_added : {K : Type 0} (keeps : Keeps K) (old new : Front K) (records : Lines) (line : List ℕ) → IsOver keeps old records → IsRecord line
-    → HasKind trailer line → HasGoodFields line
-    → new.header ≡ old.header → new.stage ≡ AfterEnd → new.keeper ≡ old.keeper → HasRecords keeps new (records ++ line ∷ [])
-trailer_added keeps old new records line over is kind fields same_header place made = record {
-  place = after_end;
-  at = place_over _ old _ line _ over is fields (ap (λ k. unit_by_kind k line) kind);
-  header_is = same_header ∙ over.header_is ∙ sym (header_stays records _ over.some);
-  kept_are = search (rules, changes_anew);
-}
+module _ {K : Type 0} (keeps : Keeps K) (old new : Front K) (records : Lines) (line : List ℕ) (over : IsOver keeps old records) (is : IsRecord line)
+    (fields : HasGoodFields line) (same_header : new.header ≡ old.header) where
+  added : (next : Place) → unit_by_kind (kind_of line) line ≡ Some next → IsKept keeps new.stage new.keeper next (records ++ line ∷ [])
+      → HasRecords keeps new (records ++ line ∷ [])
+  added next begins kept = record {
+    place = next;
+    at = place_over keeps old records line next over is fields begins;
+    header_is = same_header ∙ over.header_is ∙ sym (header_stays records _ over.some);
+    kept_are = kept;
+  }
 
--- if all units read so far are whole, the reader can take a record that is a unit by itself. The
--- keeper then makes the record's changes
-pub single_added : {K : Type 0} (keeps : Keeps K) (old new : Front K) (records : Lines) (line : List ℕ) (number : ℕ) → IsOver keeps old records
-    → IsRecord line → HasGoodFields line
-    → unit_by_kind (kind_of line) line ≡ Some between_units
-    → number ≡ length records + 1 → new.header ≡ old.header → new.stage ≡ BetweenUnits
-    → AddsSingle keeps old.keeper number line new.keeper → HasRecords keeps new (records ++ line ∷ [])
-single_added keeps old new records line number over is fields begins counted same_header place made = record {
-  place = between_units;
-  at = place_over _ old _ line _ over is fields begins;
-  header_is = same_header ∙ over.header_is ∙ sym (header_stays records _ over.some);
-  kept_are = search (rules, changes_anew);
-}
+  -- if all units read so far are whole, the reader can take a trailer
+  pub trailer_added : HasKind trailer line → new.stage ≡ AfterEnd → new.keeper ≡ old.keeper → HasRecords keeps new (records ++ line ∷ [])
+  trailer_added kind place made = added after_end (ap (λ k. unit_by_kind k line) kind) (search (rules, changes_anew))
 
--- if all units read so far are whole, the reader can take a basic schedule. It is then inside this
--- schedule
-pub basic_added : {K : Type 0} (keeps : Keeps K) (old new : Front K) (opened : Opened) (records : Lines) (line : List ℕ) → IsOver keeps old records
-    → IsRecord line → HasKind basic_schedule line
-    → HasGoodFields line
-    → opened.number ≡ length records + 1 → key_meant (key.Schedule opened.key) ≡ schedule_named line → HasLines (progress_meant opened.progress) (line ∷ [])
-    → new.header ≡ old.header → new.stage ≡ InSchedule opened → Begins keeps old.keeper line new.keeper
-    → HasRecords keeps new (records ++ line ∷ [])
-basic_added keeps old new opened records line over is kind fields number named has same_header place added = record {
-  place = in_schedule after_basic (line ∷ []);
-  at = place_over _ _ _ _ _ over is fields (ap (λ k. unit_by_kind k line) kind);
-  header_is = same_header ∙ over.header_is ∙ sym (header_stays _ _ over.some);
-  kept_are = search (rules, first_line_iff_test);
-}
+  -- if all units read so far are whole, the reader can take a record that is a unit by itself. The
+  -- keeper then makes the record's changes
+  pub single_added : (number : ℕ) → unit_by_kind (kind_of line) line ≡ Some between_units → number ≡ length records + 1 → new.stage ≡ BetweenUnits
+      → AddsSingle keeps old.keeper number line new.keeper → HasRecords keeps new (records ++ line ∷ [])
+  single_added number begins counted place made = added between_units begins (search (rules, changes_anew))
+
+  -- if all units read so far are whole, the reader can take a basic schedule. It is then inside this
+  -- schedule
+  pub basic_added : (opened : Opened) → HasKind basic_schedule line → opened.number ≡ length records + 1
+      → key_meant (key.Schedule opened.key) ≡ schedule_named line → HasLines (progress_meant opened.progress) (line ∷ []) → new.stage ≡ InSchedule opened
+      → Begins keeps old.keeper line new.keeper → HasRecords keeps new (records ++ line ∷ [])
+  basic_added opened kind number named has place begun =
+      added (in_schedule after_basic (line ∷ [])) (ap (λ k. unit_by_kind k line) kind) (search (rules, first_line_iff_test))
 
 -- ---- whole units
 
@@ -218,50 +189,30 @@ over_of_closed = search (rules, opened_of, some_lines, length-append, changes_cl
 -- ---- taking a further line of a schedule
 
 -- Says that the reader is still in the same schedule, and that this line was added to the schedule's lines.
-pub record IsFollowed (opened : Opened) (line : List ℕ) (stage : FileStage) : Type 0 where
-  pub later : Opened
-  pub place : stage ≡ InSchedule later
-  pub number : later.number ≡ opened.number
-  pub named : later.key ≡ opened.key
-  pub read : Advances opened.progress line later.progress
+abbrev pub IsFollowed : Opened → List ℕ → FileStage → Type 0
+IsFollowed opened line stage = (later : Opened) × (stage ≡ InSchedule later) × GoesOnTo opened line (InSchedule later)
 
 pub followed : (opened : Opened) (line : List ℕ) (stage : FileStage) → GoesOnTo opened line stage → IsFollowed opened line stage
-followed opened line BeforeHeader gone = absurd gone
-followed opened line BetweenUnits gone = absurd gone
-followed opened line (InSchedule later) gone = record { later = later; place = refl; number = gone.0; named = gone.1; read = gone.2 }
-followed opened line AfterEnd gone = absurd gone
+followed opened line (InSchedule later) gone = (later, refl, gone)
+followed opened line _ gone = absurd gone
 
 -- a line with which the schedule can continue may come directly after the lines already taken
 pub stands_before : {K : Type 0} (keeps : Keeps K) (front new : Front K) (opened : Opened) (records : Lines) (line : List ℕ) → HasRecords keeps front records
     → front.stage ≡ InSchedule opened → new.header ≡ front.header → new.keeper ≡ front.keeper → IsRecord line
     → follows_basic (kind_of line) ≡ true → (after : IsFollowed opened line new.stage)
     → ((lines : Lines) → HasLines (progress_meant opened.progress) lines → BeginsSchedule (lines ++ line ∷ []))
-    → StandsBefore keeps new after.later line records
+    → StandsBefore keeps new after.0 line records
 stands_before = search (rules, opened_of)
 
 stage_begun : (lines : Lines) (line : List ℕ) → BeginsSchedule (lines ++ line ∷ []) → (next : Stage) × (stage_of (lines ++ line ∷ []) ≡ Some next)
 stage_begun [] line begins = (begins_iff_stage line []).0 begins
 stage_begun (basic ∷ others) line begins = (begins_iff_stage basic (others ++ line ∷ [])).0 begins
 
--- after the records and this line, the reader is inside the schedule, at the schedule's next stage
-place_followed : {K : Type 0} (keeps : Keeps K) (front : Front K) (opened : Opened) (line : List ℕ) (records : Lines)
-    (before : StandsBefore keeps front opened line records) (next : Stage)
-    → stage_of (before.lines ++ line ∷ []) ≡ Some next → IsPlaceOf (records ++ line ∷ []) (place_in next (before.lines ++ line ∷ []))
-place_followed keeps front opened line records before next at =
-    place_of_more records (in_schedule before.stage before.lines) line before.at
-    ∙ next_place_of_stage before.stage before.lines line (inr (no_unit_by_kind (kind_of line) line before.follows))
-    ∙ ap (option_map (λ n. place_in n (before.lines ++ line ∷ []))) (sym (stage_of_more before.lines before.stage line before.stage_is) ∙ at)
-
 stays_inside : (next : Stage) (lines : Lines) → is_over_by (Some next) ≡ false → place_in next lines ≡ in_schedule next lines
 stays_inside = search rules
 
 goes_out : (next : Stage) (lines : Lines) → is_over_by (Some next) ≡ true → (next ≡ after_journey) × (place_in next lines ≡ between_units)
 goes_out = search rules
-
-header_followed : {K : Type 0} (keeps : Keeps K) (front : Front K) (opened : Opened) (line : List ℕ) (records : Lines)
-    → StandsBefore keeps front opened line records
-    → front.header ≡ header_of (records ++ line ∷ [])
-header_followed = search (rules, some_lines, length-append, header_stays)
 
 -- if a keeper that has received lines of a schedule adds one more line, it then holds these lines
 -- followed by the new line
@@ -270,209 +221,118 @@ pub added_to : {K : Type 0} (keeps : Keeps K) (old new : K) (lines : Lines) (lin
 added_to keeps old new [] line made some added kept = absurd (omega arith)
 added_to keeps old new (basic ∷ others) line made some added kept = added basic others made kept
 
--- the reader can take a line after which the schedule may continue
-pub line_added : {K : Type 0} (keeps : Keeps K) (old new : Front K) (opened : Opened) (line : List ℕ) (records : Lines)
-    → StandsBefore keeps old opened line records
-    → is_over_by (progress_meant opened.progress).stage ≡ false
-    → new.header ≡ old.header → new.stage ≡ InSchedule opened → AddsLine keeps old.keeper line new.keeper
-    → HasRecords keeps new (records ++ line ∷ [])
-line_added keeps old new opened line records before inside same_header place added =
-    let next = stage_begun before.lines line before.goes_on in
-    let some = some_lines before.lines before.stage before.stage_is in
-    let here : is_over_by (Some next.0) ≡ false = ap is_over_by (sym next.1) ∙ ap is_over_by (sym before.progress_is.stage_is) ∙ inside in
-    record {
-      place = in_schedule next.0 (before.lines ++ line ∷ []);
-      at = place_followed keeps old opened line records before next.0 next.1 ∙ ap Some (stays_inside next.0 (before.lines ++ line ∷ []) here);
-      header_is = same_header ∙ header_followed keeps old opened line records before;
-      kept_are =
-          subst (λ p. IsKept keeps p new.keeper (in_schedule next.0 (before.lines ++ line ∷ [])) (records ++ line ∷ []))
-          (sym place) (record {
-            stage = next.0;
-            lines = before.lines ++ line ∷ [];
-            before = before.before;
-            place_is = refl;
-            stage_is = next.1;
-            whole = (λ i. before.whole i ++ line ∷ []) ∙ append_assoc before.before before.lines (line ∷ []);
-            number_is = before.number_is;
-            key_is = before.key_is ∙ ap schedule_named (sym (first_stays before.lines line some));
-            progress_is = before.progress_is;
-            kept = added_to keeps old.keeper new.keeper before.lines line (changes before.before) some added before.kept;
-          });
-    }
+module _ {K : Type 0} (keeps : Keeps K) (front : Front K) (opened : Opened) (line : List ℕ) (records : Lines)
+    (before : StandsBefore keeps front opened line records) where
+  -- after the records and this line, the reader is inside the schedule, at the schedule's next stage
+  place_followed : (next : Stage) → stage_of (before.lines ++ line ∷ []) ≡ Some next
+      → IsPlaceOf (records ++ line ∷ []) (place_in next (before.lines ++ line ∷ []))
+  place_followed next at =
+      place_of_more records (in_schedule before.stage before.lines) line before.at
+      ∙ next_place_of_stage before.stage before.lines line (inr (no_unit_by_kind (kind_of line) line before.follows))
+      ∙ ap (option_map (λ n. place_in n (before.lines ++ line ∷ []))) (sym (stage_of_more before.lines before.stage line before.stage_is) ∙ at)
 
--- the reader can take a line that ends the schedule, and the keeper then makes the schedule's
--- change
-pub line_closed : {K : Type 0} (keeps : Keeps K) (old new : Front K) (opened : Opened) (line : List ℕ) (records : Lines)
-    → StandsBefore keeps old opened line records
-    → is_over_by (progress_meant opened.progress).stage ≡ true
-    → new.header ≡ old.header → new.stage ≡ BetweenUnits
-    → ((lines : Lines) (made : List Change) → 0 < length lines → HasLines (progress_meant opened.progress) (lines ++ line ∷ [])
-    → IsSchedule (lines ++ line ∷ []) → keeps old.keeper lines made → keeps new.keeper [] (made ++ change_opened opened (lines ++ line ∷ []) ∷ []))
-    → HasRecords keeps new (records ++ line ∷ [])
-line_closed keeps old new opened line records before outside same_header place closed =
-    let next = stage_begun before.lines line before.goes_on in
-    let some = some_lines before.lines before.stage before.stage_is in
-    let out = goes_out next.0 (before.lines ++ line ∷ []) (ap is_over_by (sym next.1) ∙ ap is_over_by (sym before.progress_is.stage_is) ∙ outside) in
-    let is = (whole_iff (before.lines ++ line ∷ []) after_journey (next.1 ∙ ap Some out.0)).1 refl in
-    record {
-      place = between_units;
-      at = place_followed keeps old opened line records before next.0 next.1 ∙ ap Some out.1;
-      header_is = same_header ∙ header_followed keeps old opened line records before;
-      kept_are = search (rules, changes_closed, append_assoc);
-    }
+  header_followed : front.header ≡ header_of (records ++ line ∷ [])
+  header_followed = search (rules, some_lines, length-append, header_stays)
+
+  -- a line with which the schedule continues may come next
+  pub line_goes_on : GoesOnWith records line
+  line_goes_on =
+      let next = stage_begun before.lines line before.goes_on in
+      (place_in next.0 (before.lines ++ line ∷ []), place_followed next.0 next.1)
+
+  -- the reader can take a line after which the schedule may continue
+  pub line_added : (new : Front K) → is_over_by (progress_meant opened.progress).stage ≡ false → new.header ≡ front.header
+      → new.stage ≡ InSchedule opened → AddsLine keeps front.keeper line new.keeper → HasRecords keeps new (records ++ line ∷ [])
+  line_added new inside same_header place more =
+      let next = stage_begun before.lines line before.goes_on in
+      let some = some_lines before.lines before.stage before.stage_is in
+      let here : is_over_by (Some next.0) ≡ false = ap is_over_by (sym next.1) ∙ ap is_over_by (sym before.progress_is.stage_is) ∙ inside in
+      record {
+        place = in_schedule next.0 (before.lines ++ line ∷ []);
+        at = place_followed next.0 next.1 ∙ ap Some (stays_inside next.0 (before.lines ++ line ∷ []) here);
+        header_is = same_header ∙ header_followed;
+        kept_are =
+            subst (λ p. IsKept keeps p new.keeper (in_schedule next.0 (before.lines ++ line ∷ [])) (records ++ line ∷ []))
+            (sym place) (record {
+              stage = next.0;
+              lines = before.lines ++ line ∷ [];
+              before = before.before;
+              place_is = refl;
+              stage_is = next.1;
+              whole = (λ i. before.whole i ++ line ∷ []) ∙ append_assoc before.before before.lines (line ∷ []);
+              number_is = before.number_is;
+              key_is = before.key_is ∙ ap schedule_named (sym (first_stays before.lines line some));
+              progress_is = before.progress_is;
+              kept = added_to keeps front.keeper new.keeper before.lines line (changes before.before) some more before.kept;
+            });
+      }
+
+  -- the reader can take a line that ends the schedule, and the keeper then makes the schedule's
+  -- change
+  pub line_closed : (new : Front K) → is_over_by (progress_meant opened.progress).stage ≡ true → new.header ≡ front.header → new.stage ≡ BetweenUnits
+      → ((lines : Lines) (made : List Change) → 0 < length lines → HasLines (progress_meant opened.progress) (lines ++ line ∷ [])
+      → IsSchedule (lines ++ line ∷ []) → keeps front.keeper lines made → keeps new.keeper [] (made ++ change_opened opened (lines ++ line ∷ []) ∷ []))
+      → HasRecords keeps new (records ++ line ∷ [])
+  line_closed new outside same_header place closed =
+      let next = stage_begun before.lines line before.goes_on in
+      let some = some_lines before.lines before.stage before.stage_is in
+      let out = goes_out next.0 (before.lines ++ line ∷ []) (ap is_over_by (sym next.1) ∙ ap is_over_by (sym before.progress_is.stage_is) ∙ outside) in
+      let is = (whole_iff (before.lines ++ line ∷ []) after_journey (next.1 ∙ ap Some out.0)).1 refl in
+      record {
+        place = between_units;
+        at = place_followed next.0 next.1 ∙ ap Some out.1;
+        header_is = same_header ∙ header_followed;
+        kept_are = search (rules, changes_closed, append_assoc);
+      }
+
+-- ---- the end of the file
+
+-- whether the reader is after the trailer at this stage
+abbrev pub is_end : FileStage → Bool
+is_end AfterEnd = true
+is_end _ = false
+
+tells_end : {K : Type 0} (keeps : Keeps K) (stage : FileStage) (keeper : K) (place : Place) (records : Lines) → IsKept keeps stage keeper place records
+    → is_after_end place ≡ is_end stage
+tells_end = search rules
+
+end_by_test : (place : Place) → is_after_end place ≡ true → place ≡ after_end
+end_by_test = search rules
+
+-- the records are a file if and only if they lead the reader to the end of the file
+pub file_by_place : (records : Lines) (place : Place) → IsPlaceOf records place → IsTrue (is_after_end place) ↔ IsFile records
+file_by_place records place at = (
+  λ is. (file_iff_place records).1 (at ∙ ap Some (end_by_test place is)),
+  λ file. ap is_after_end (sym (one_place records after_end place ((file_iff_place records).0 file) at)),
+)
+
+-- the records are a file if and only if the reader is after the trailer
+pub ended_iff : {K : Type 0} (keeps : Keeps K) (front : Front K) (records : Lines) (stage : FileStage) → front.stage ≡ stage → HasRecords keeps front records
+    → IsTrue (is_end stage) ↔ IsFile records
+ended_iff keeps front records stage here has =
+    let tells : is_after_end has.place ≡ is_end stage = tells_end keeps front.stage front.keeper has.place records has.kept_are ∙ ap is_end here in
+    let by_place = file_by_place records has.place has.at in
+    (λ is. by_place.0 (tells ∙ is), λ file. sym tells ∙ by_place.1 file)
 
 -- ---- which lines may come next
 
 next_of_unit : (line : List ℕ) → is_some (unit_by_kind (kind_of line) line) ≡ true → (next : Place) × (unit_by_kind (kind_of line) line ≡ Some next)
 next_of_unit = search rules
 
--- if all units read so far are whole, a record with good fields that begins a unit may come next
-pub unit_goes_on : {K : Type 0} (keeps : Keeps K) (front : Front K) (records : Lines) (line : List ℕ) → HasRecords keeps front records
-    → front.stage ≡ BetweenUnits → IsRecord line
-    → HasGoodFields line
-    → is_some (unit_by_kind (kind_of line) line) ≡ true → GoesOnWith records line
-unit_goes_on keeps front records line has place is fields begins =
-    let next = next_of_unit line begins in
-    (next.0, place_over keeps front records line next.0 (over_of_between keeps front records has place) is fields next.1)
-
--- after a complete schedule, a record with good fields that begins a unit may come next
-pub anew_goes_on : {K : Type 0} (keeps : Keeps K) (front : Front K) (opened : Opened) (records : Lines) (line : List ℕ) → HasRecords keeps front records
-    → front.stage ≡ InSchedule opened
-    → IsWholeBy opened → IsRecord line → HasGoodFields line
-    → is_some (unit_by_kind (kind_of line) line) ≡ true → GoesOnWith records line
-anew_goes_on keeps front opened records line has place whole is fields begins =
-    let told = opened_of keeps front opened records has place in
-    let next = next_of_unit line begins in (
-      next.0,
-      place_of_more records has.place line has.at
-          ∙ ap (λ p. next_place p line) told.place_is
-          ∙ next_behind told.stage told.lines line ((whole_iff told.lines told.stage told.stage_is).0 (whole told.lines told.progress_is))
-          (anew_by_unit line begins)
-          ∙ test_by_next between_units line next.0 (record { is = is; sound = test_by_none (leftmost_bad_field line) fields; place_is = next.1 }),
-    )
-
--- a line with which the schedule continues may come next
-pub line_goes_on : {K : Type 0} (keeps : Keeps K) (front : Front K) (opened : Opened) (line : List ℕ) (records : Lines)
-    → StandsBefore keeps front opened line records → GoesOnWith records line
-line_goes_on keeps front opened line records before =
-    let next = stage_begun before.lines line before.goes_on in
-    (place_in next.0 (before.lines ++ line ∷ []), place_followed keeps front opened line records before next.0 next.1)
-
--- ---- the end of the file
-
-end_by_test : (place : Place) → is_after_end place ≡ true → place ≡ after_end
-end_by_test = search rules
-
--- if `ended` says whether the reader is after the trailer, it also says whether the records are a
--- file
-pub ended_iff : {K : Type 0} (keeps : Keeps K) (front : Front K) (records : Lines) (ended : Bool) → HasRecords keeps front records
-    → ((place : Place) → IsKept keeps front.stage front.keeper place records → is_after_end place ≡ ended)
-    → IsTrue ended ↔ IsFile records
-ended_iff keeps front records ended has tells = (
-  λ is. (file_iff_place records).1 (has.at ∙ ap Some (end_by_test _ (tells has.place has.kept_are ∙ is))),
-  λ file. let same = one_place records _ has.place ((file_iff_place _).0 file) has.at in sym (tells has.place has.kept_are) ∙ ap is_after_end (sym same),
-)
-
--- at the stage `BeforeHeader`, the reader isn't after the trailer
-pub tells_before : {K : Type 0} (keeps : Keeps K) (front : Front K) (records : Lines) (place : Place) → front.stage ≡ BeforeHeader
-    → IsKept keeps front.stage front.keeper place records → is_after_end place ≡ false
-tells_before = search rules
-
--- at the stage `BetweenUnits`, the reader isn't after the trailer
-pub tells_between : {K : Type 0} (keeps : Keeps K) (front : Front K) (records : Lines) (place : Place) → front.stage ≡ BetweenUnits
-    → IsKept keeps front.stage front.keeper place records → is_after_end place ≡ false
-tells_between = search rules
-
--- at the stage `InSchedule`, the reader isn't after the trailer
-pub tells_inside : {K : Type 0} (keeps : Keeps K) (front : Front K) (opened : Opened) (records : Lines) (place : Place) → front.stage ≡ InSchedule opened
-    → IsKept keeps front.stage front.keeper place records → is_after_end place ≡ false
-tells_inside = search rules
-
--- at the stage `AfterEnd`, the reader is after the trailer
-pub tells_ended : {K : Type 0} (keeps : Keeps K) (front : Front K) (records : Lines) (place : Place) → front.stage ≡ AfterEnd
-    → IsKept keeps front.stage front.keeper place records → is_after_end place ≡ true
-tells_ended = search rules
-
--- ---- why a record can't come next
-
 none_of : (b : Bool) (o : Option Place) → o ≡ None → cond b o None ≡ None
 none_of = search rules
-
--- for a record that is within the limit and isn't after the trailer, `cause_of` returns the result
--- of `kind_cause`
-told_cause : (records : Lines) (line : List ℕ) (place : Place) (cause : fault.FileCause) → IsRecord line → is_after_end place ≡ false
-    → kind_cause place line ≡ cause
-    → (limit : ℕ) → length records < limit → cause_of limit (length records) place line ≡ cause
-told_cause records line place cause is open_end same limit under = cause_of_record limit (length records) place line under open_end is ∙ same
 
 no_place : (place : Place) (line : List ℕ) → place_by_kind place None line ≡ None
 no_place = search (rules, no_stage_of_none, none_of)
 
--- a line that doesn't begin with the identity of a kind of record can't come next
-pub no_kind : {K : Type 0} (keeps : Keeps K) (front : Front K) (records : Lines) (line : List ℕ) → HasRecords keeps front records → ¬ IsFile records
-    → IsRecord line → kind_of line ≡ None
-    → IsNoNext records line bad_kind
-no_kind keeps front records line has unended is none = record {
-  place = has.place;
-  at = has.at;
-  nowhere = none_of (is_record line && is_sound_at has.place line) _ (ap (λ k. place_by_kind has.place k line) none ∙ no_place has.place _);
-  is = told_cause records _ has.place _ is (by (is_after_end has.place) refl) (λ i. cond (is_none (none i)) bad_kind (place_cause has.place line));
-}
-  where
-    by : (b : Bool) → is_after_end has.place ≡ b → is_after_end has.place ≡ false
-    by false h = h
-    by true h = absurd (unended ((file_iff_place records).1 (has.at ∙ ap Some (end_by_test _ h))))
-
--- before the header, a record that isn't a header can't come next
-pub no_header : {K : Type 0} (keeps : Keeps K) (front : Front K) (records : Lines) (line : List ℕ) (kind : Kind) → HasRecords keeps front records
-    → front.stage ≡ BeforeHeader → IsRecord line
-    → HasKind kind line → is_header_kind (Some kind) ≡ false
-    → IsNoNext records line bad_place
-no_header keeps front records line kind has at is known other =
-    let here = (subst (λ p. IsKept keeps p front.keeper has.place records) at has.kept_are).0 in
-    let none : place_by_kind before_header (kind_of line) line ≡ None = search rules in
-    record {
-      place = before_header;
-      at = has.at ∙ ap Some here;
-      nowhere = none_of (is_record line && has_good_fields line) _ none;
-      is = told_cause records _ before_header _ is refl (search rules);
-    }
+not_end : (place : Place) → ¬ (place ≡ after_end) → is_after_end place ≡ false
+not_end = search rules
 
 unsound : (line : List ℕ) (at : ℕ) → leftmost_bad_field line ≡ Some at → has_good_fields line ≡ false
 unsound line at bad = ap is_none bad
 
 both_false : (b c : Bool) → c ≡ false → (b && c) ≡ false
 both_false = search rules
-
--- before the header, a header with a bad field can't come next
-pub bad_header : {K : Type 0} (keeps : Keeps K) (front : Front K) (records : Lines) (line : List ℕ) (column : ℕ) → HasRecords keeps front records
-    → front.stage ≡ BeforeHeader → IsRecord line
-    → HasKind header line → leftmost_bad_field line ≡ Some column
-    → IsNoNext records line (bad_field column)
-bad_header keeps front records line column has at is known bad =
-    let here = (subst (λ p. IsKept keeps p front.keeper has.place records) at has.kept_are).0 in
-    record {
-      place = before_header;
-      at = has.at ∙ ap Some here;
-      nowhere = λ i. cond (both_false (is_record line) _ (unsound line _ bad) i) (place_by_kind before_header (kind_of line) line) None;
-      is = told_cause records _ before_header _ is refl (search (rules, fault.third_midnight));
-    }
-
--- the reader can take a header with good fields as the first record
-pub header_added : {K : Type 0} (keeps : Keeps K) (old new : Front K) (records : Lines) (line : List ℕ) → HasRecords keeps old records
-    → old.stage ≡ BeforeHeader → IsRecord line
-    → HasKind header line → HasGoodFields line
-    → new.header ≡ Some line → new.stage ≡ BetweenUnits → new.keeper ≡ old.keeper → HasRecords keeps new (records ++ line ∷ [])
-header_added keeps old new records line has at is kind fields same_header place made =
-    let told = subst (λ p. IsKept keeps p old.keeper has.place records) at has.kept_are in
-    let none : records ≡ [] = at_of_place records before_header (has.at ∙ ap Some told.0) in
-    record {
-      place = between_units;
-      at = place_of_more records before_header line (has.at ∙ ap Some told.0)
-          ∙ test_by_next before_header line between_units (search (rules, test_by_none));
-      header_is = same_header ∙ ap (λ r. header_of (r ++ line ∷ [])) (sym none);
-      kept_are = search rules;
-    }
 
 -- between units, no file can continue with a record that begins no unit or has a bad field
 pub no_unit : (line : List ℕ) → ¬ ((is_some (unit_by_kind (kind_of line) line) ≡ true) × HasGoodFields line) → next_place between_units line ≡ None
@@ -485,69 +345,124 @@ no_unit line bad = (elim (next_place between_units line) as (λ next. next_place
 cause_between : (line : List ℕ) (kind : Kind) → HasKind kind line → kind_cause between_units line ≡ place_cause between_units line
 cause_between line kind known = λ i. cond (is_none (known i)) bad_kind (place_cause between_units line)
 
--- between units, a record that begins no unit or has a bad field can't come next
-pub bad_between : {K : Type 0} (keeps : Keeps K) (front : Front K) (records : Lines) (line : List ℕ) (kind : Kind) → HasRecords keeps front records
-    → front.stage ≡ BetweenUnits → IsRecord line
-    → HasKind kind line
-    → ¬ ((is_some (unit_by_kind (kind_of line) line) ≡ true) × HasGoodFields line) → IsNoNext records line (place_cause between_units line)
-bad_between keeps front records line kind has at is known bad =
-    let here = (subst (λ p. IsKept keeps p front.keeper has.place records) at has.kept_are).0 in
-    record {
-      place = between_units;
-      at = has.at ∙ ap Some here;
-      nowhere = no_unit line bad;
-      is = told_cause records line between_units (place_cause between_units line) is refl (cause_between line kind known);
-    }
-
--- after a complete schedule, a record can't come next if it has a bad field, or if it neither begins a unit nor is the trailer
-pub bad_behind : {K : Type 0} (keeps : Keeps K) (front : Front K) (opened : Opened) (records : Lines) (line : List ℕ) (kind : Kind)
-    → HasRecords keeps front records
-    → front.stage ≡ InSchedule opened → IsWholeBy opened → IsRecord line → HasKind kind line
-    → follows_basic (kind_of line) ≡ false → ¬ ((is_some (unit_by_kind (kind_of line) line) ≡ true) × HasGoodFields line)
-    → IsNoNext records line (place_cause between_units line)
-bad_behind keeps front opened records line kind has at whole is known stops bad =
-    let told = opened_of keeps front opened records has at in
-    let may = (whole_iff told.lines told.stage told.stage_is).0 (whole told.lines told.progress_is) in
-    search (rules, next_behind, no_unit, cause_behind_schedule, cause_of_record, cause_between, told.place_is)
-
 not_may : (stage : Stage) (lines : Lines) → ¬ (may_end stage lines ≡ true) → may_end stage lines ≡ false
 not_may = search rules
 
--- after lines that aren't a whole schedule, a record that begins a unit can't come next
-pub not_whole : {K : Type 0} (keeps : Keeps K) (front : Front K) (opened : Opened) (records : Lines) (line : List ℕ) (kind : Kind)
-    → HasRecords keeps front records → front.stage ≡ InSchedule opened
-    → ((lines : Lines) → HasLines (progress_meant opened.progress) lines → ¬ IsSchedule lines) → IsRecord line → HasKind kind line
-    → follows_basic (kind_of line) ≡ false → IsNoNext records line bad_place
-not_whole keeps front opened records line kind has at open_end is known stops =
-    let told = opened_of keeps front opened records has at in
-    let may = not_may told.stage told.lines (λ m. open_end told.lines told.progress_is ((whole_iff told.lines told.stage told.stage_is).1 m)) in
-    let none = stage_stops told.stage (kind_of line) stops in
-    let nowhere : next_stage told.stage told.lines line ≡ None = none_stage (is_record line && is_sound_next told.lines line)
-    (stage_after told.stage (kind_of line)) none in
-    search (rules, next_place_of_stage, cause_in_schedule)
-  where
-    none_stage : (b : Bool) (o : Option Stage) → o ≡ None → cond b o None ≡ None
-    none_stage true o h = h
-    none_stage false o h = refl
+none_stage : (b : Bool) (o : Option Stage) → o ≡ None → cond b o None ≡ None
+none_stage = search rules
 
--- if a record is of a kind that comes within a schedule, and the schedule that is being read can't continue with it, the record can't come next
-pub bad_line : {K : Type 0} (keeps : Keeps K) (wants : Type 0) (front : Front K) (opened : Opened) (records : Lines) (line : List ℕ)
-    (cause : Option fault.FileCause) → HasRecords keeps front records
-    → front.stage ≡ InSchedule opened → IsRecord line
-    → follows_basic (kind_of line) ≡ true → ((lines : Lines) → HasLines (progress_meant opened.progress) lines → IsScheduleCause lines line cause)
-    → IsNoNextCause wants records line cause
-bad_line keeps wants front opened records line None has at is follow told = search (rules, opened_of)
-bad_line keeps wants front opened records line (Some cause) has at is follow told =
-    let here = opened_of keeps front opened records has at in
-    let found : IsPlaceOf records (in_schedule here.stage here.lines) = has.at ∙ ap Some here.place_is in
-    let of = inr (no_unit_by_kind (kind_of line) line follow) in
-    record {
-      place = in_schedule here.stage here.lines;
-      at = found;
-      nowhere =
-          (fault_of_schedule (length records + 1) records here.stage here.lines line cause found (omega arith) is of (told here.lines here.progress_is)).0;
-      is = λ limit under. (fault_of_schedule limit records here.stage here.lines line cause found under is of (told here.lines here.progress_is)).1;
-    }
+module _ {K : Type 0} (keeps : Keeps K) (front : Front K) (records : Lines) (line : List ℕ) (has : HasRecords keeps front records) (is : IsRecord line) where
+  kept_at : (stage : FileStage) → front.stage ≡ stage → IsKept keeps stage front.keeper has.place records
+  kept_at stage here = subst (λ p. IsKept keeps p front.keeper has.place records) here has.kept_are
+
+  -- if all units read so far are whole, a record with good fields that begins a unit may come next
+  pub unit_goes_on : front.stage ≡ BetweenUnits → HasGoodFields line → is_some (unit_by_kind (kind_of line) line) ≡ true → GoesOnWith records line
+  unit_goes_on place fields begins =
+      let next = next_of_unit line begins in
+      (next.0, place_over keeps front records line next.0 (over_of_between keeps front records has place) is fields next.1)
+
+  -- after a complete schedule, a record with good fields that begins a unit may come next
+  pub anew_goes_on : (opened : Opened) → front.stage ≡ InSchedule opened → IsWholeBy opened → HasGoodFields line
+      → is_some (unit_by_kind (kind_of line) line) ≡ true → GoesOnWith records line
+  anew_goes_on opened place whole fields begins =
+      let told = kept_at (InSchedule opened) place in
+      let next = next_of_unit line begins in (
+        next.0,
+        place_of_more records has.place line has.at
+            ∙ ap (λ p. next_place p line) told.place_is
+            ∙ next_behind told.stage told.lines line ((whole_iff told.lines told.stage told.stage_is).0 (whole told.lines told.progress_is))
+            (anew_by_unit line begins)
+            ∙ test_by_next between_units line next.0 (record { is = is; sound = test_by_none (leftmost_bad_field line) fields; place_is = next.1 }),
+      )
+
+  -- the reader can take a header with good fields as the first record
+  pub header_added : (new : Front K) → front.stage ≡ BeforeHeader → HasKind header line → HasGoodFields line → new.header ≡ Some line
+      → new.stage ≡ BetweenUnits → new.keeper ≡ front.keeper → HasRecords keeps new (records ++ line ∷ [])
+  header_added new at kind fields same_header place made =
+      let told = kept_at BeforeHeader at in
+      let none : records ≡ [] = at_of_place records before_header (has.at ∙ ap Some told.0) in
+      record {
+        place = between_units;
+        at = place_of_more records before_header line (has.at ∙ ap Some told.0)
+            ∙ test_by_next before_header line between_units (search (rules, test_by_none));
+        header_is = same_header ∙ ap (λ r. header_of (r ++ line ∷ [])) (sym none);
+        kept_are = search rules;
+      }
+
+  -- ---- why a record can't come next
+
+  -- a record that leads nowhere can't come next. If it isn't after the trailer, `kind_cause` gives the cause
+  leads_nowhere : (place : Place) (cause : fault.FileCause) → has.place ≡ place → is_after_end place ≡ false → next_place place line ≡ None
+      → kind_cause place line ≡ cause → IsNoNext records line cause
+  leads_nowhere place cause here open_end nowhere same = record {
+    place = place;
+    at = has.at ∙ ap Some here;
+    nowhere = nowhere;
+    is = λ limit under. cause_of_record limit (length records) place line under open_end is ∙ same;
+  }
+
+  -- a line that doesn't begin with the identity of a kind of record can't come next
+  pub no_kind : ¬ IsFile records → kind_of line ≡ None → IsNoNext records line bad_kind
+  no_kind unended none = leads_nowhere has.place bad_kind refl (not_end has.place (λ end. unended ((file_iff_place records).1 (has.at ∙ ap Some end))))
+      (none_of (is_record line && is_sound_at has.place line) _ (ap (λ k. place_by_kind has.place k line) none ∙ no_place has.place _))
+      (λ i. cond (is_none (none i)) bad_kind (place_cause has.place line))
+
+  -- before the header, a record that isn't a header can't come next
+  pub no_header : (kind : Kind) → front.stage ≡ BeforeHeader → HasKind kind line → is_header_kind (Some kind) ≡ false → IsNoNext records line bad_place
+  no_header kind at known other =
+      let none : place_by_kind before_header (kind_of line) line ≡ None = search rules in
+      leads_nowhere before_header bad_place (kept_at BeforeHeader at).0 refl (none_of (is_record line && has_good_fields line) _ none) (search rules)
+
+  -- before the header, a header with a bad field can't come next
+  pub bad_header : (column : ℕ) → front.stage ≡ BeforeHeader → HasKind header line → leftmost_bad_field line ≡ Some column
+      → IsNoNext records line (bad_field column)
+  bad_header column at known bad = leads_nowhere before_header (bad_field column) (kept_at BeforeHeader at).0 refl
+      (λ i. cond (both_false (is_record line) _ (unsound line _ bad) i) (place_by_kind before_header (kind_of line) line) None)
+      (search (rules, fault.third_midnight))
+
+  -- between units, a record that begins no unit or has a bad field can't come next
+  pub bad_between : (kind : Kind) → front.stage ≡ BetweenUnits → HasKind kind line
+      → ¬ ((is_some (unit_by_kind (kind_of line) line) ≡ true) × HasGoodFields line) → IsNoNext records line (place_cause between_units line)
+  bad_between kind at known bad =
+      leads_nowhere between_units (place_cause between_units line) (kept_at BetweenUnits at).0 refl (no_unit line bad) (cause_between line kind known)
+
+  -- after a complete schedule, a record can't come next if it has a bad field, or if it neither begins a unit nor is the trailer
+  pub bad_behind : (opened : Opened) (kind : Kind) → front.stage ≡ InSchedule opened → IsWholeBy opened → HasKind kind line
+      → follows_basic (kind_of line) ≡ false → ¬ ((is_some (unit_by_kind (kind_of line) line) ≡ true) × HasGoodFields line)
+      → IsNoNext records line (place_cause between_units line)
+  bad_behind opened kind at whole known stops bad =
+      let told = kept_at (InSchedule opened) at in
+      let may = (whole_iff told.lines told.stage told.stage_is).0 (whole told.lines told.progress_is) in
+      search (rules, next_behind, no_unit, cause_behind_schedule, cause_of_record, cause_between, told.place_is)
+
+  -- after lines that aren't a whole schedule, a record that begins a unit can't come next
+  pub not_whole : (opened : Opened) (kind : Kind) → front.stage ≡ InSchedule opened
+      → ((lines : Lines) → HasLines (progress_meant opened.progress) lines → ¬ IsSchedule lines) → HasKind kind line
+      → follows_basic (kind_of line) ≡ false → IsNoNext records line bad_place
+  not_whole opened kind at open_end known stops =
+      let told = kept_at (InSchedule opened) at in
+      let may = not_may told.stage told.lines (λ m. open_end told.lines told.progress_is ((whole_iff told.lines told.stage told.stage_is).1 m)) in
+      let none = stage_stops told.stage (kind_of line) stops in
+      let nowhere : next_stage told.stage told.lines line ≡ None = none_stage (is_record line && is_sound_next told.lines line)
+      (stage_after told.stage (kind_of line)) none in
+      search (rules, next_place_of_stage, cause_in_schedule)
+
+  -- if a record is of a kind that comes within a schedule, and the schedule that is being read can't continue with it, the record can't come next
+  pub bad_line : (wants : Type 0) (opened : Opened) (cause : Option fault.FileCause) → front.stage ≡ InSchedule opened
+      → follows_basic (kind_of line) ≡ true → ((lines : Lines) → HasLines (progress_meant opened.progress) lines → IsScheduleCause lines line cause)
+      → IsNoNextCause wants records line cause
+  bad_line wants opened None at follow told = search (rules, opened_of)
+  bad_line wants opened (Some cause) at follow told =
+      let here = kept_at (InSchedule opened) at in
+      let found : IsPlaceOf records (in_schedule here.stage here.lines) = has.at ∙ ap Some here.place_is in
+      let of = inr (no_unit_by_kind (kind_of line) line follow) in
+      record {
+        place = in_schedule here.stage here.lines;
+        at = found;
+        nowhere =
+            (fault_of_schedule (length records + 1) records here.stage here.lines line cause found (omega arith) is of (told here.lines here.progress_is)).0;
+        is = λ limit under. (fault_of_schedule limit records here.stage here.lines line cause found under is of (told here.lines here.progress_is)).1;
+      }
 
 -- ---- results that are `Ok` or `Err`
 
@@ -565,10 +480,6 @@ on_ok_one = search rules
 pub other_kind : (kind : code.Kind) → ¬ (kind ≡ Header) → is_header_kind (Some (meaning kind)) ≡ false
 other_kind = search rules
 
--- at the stage `AfterEnd`, the records are a file
-pub file_at_end : {K : Type 0} (keeps : Keeps K) (front : Front K) (records : Lines) → HasRecords keeps front records → front.stage ≡ AfterEnd → IsFile records
-file_at_end = search (rules, file_iff_place)
-
 -- ---- the whole file
 
 -- at the stage `AfterEnd`, the records are a file. The reader returns the header, the number of records and the keeper of this file
@@ -576,6 +487,6 @@ pub file_ended : {K : Type 0} (keeps : Keeps K) (front : Front K) (records : Lin
     → front.stage ≡ AfterEnd → front.header ≡ Some ended.header → ended.records ≡ length records → ended.keeper ≡ front.keeper
     → IsFile records × IsEnded keeps records ended
 file_ended keeps front records ended has at head counted same = (
-  file_at_end _ _ _ has at,
+  (ended_iff keeps front records AfterEnd at has).0 refl,
   search rules,
 )

@@ -1,18 +1,13 @@
 -- Lemmas on the last line of a text. If memory runs out at this line, the text is a CIF file if the
 -- line is the trailer, and otherwise the text lacks its trailer.
-use Rattle.std.proofs.Common.{◌≡◌, ℕ, ◌+◌, ◌<◌, ◌≢◌, ◌⊎◌, inl, inr, Bool, true, false, List, [], ◌∷◌, ◌++◌, length, subst, refl, ap, sym}
-use Rattle.std.proofs.Common.{◌∙◌, Some, arith, rules}
-use Rattle.std.specs.List.{flat_map}
-use Rattle.std.specs.Str.Lines.{strip_carriage_return}
-use Rattle.docker_model.specs.records.Record.{HasKind, IsRecord, Lines, trailer}
-use Rattle.docker_model.specs.file.Text.{lines_of, complete_lines}
-use Rattle.docker_model.specs.file.FaultSoFar.{sure_lines}
-use Rattle.docker_model.specs.file.File.{IsFile}
+use Rattle.cif_laws.proofs.Common.{◌≡◌, ℕ, ◌+◌, ◌<◌, ◌≢◌, ◌⊎◌, inl, inr, true, false, List, [], ◌∷◌, ◌++◌, length, subst, refl, ap, sym, ◌∙◌, Some, arith}
+use Rattle.cif_laws.proofs.Common.{rules, ◌==◌, ◌↔◌, Err, Option, strip_carriage_return, HasKind, IsRecord, Lines, trailer, Kind, kind_of, lines_of}
+use Rattle.cif_laws.proofs.Common.{complete_lines, sure_lines, IsFile}
 use Rattle.cif_laws.specs.CompleteLines.{open_line}
-use Rattle.cif_laws.specs.FileStage.{Place, after_end, place_by_kind, IsPlaceOf}
+use Rattle.cif_laws.specs.FileStage.{Place, place_by_kind, IsPlaceOf}
 use Rattle.cif_laws.specs.RecordCause.{is_after_end}
 use Rattle.cif_laws.proofs.files.CompleteLines.{lines_of_open}
-use Rattle.cif_laws.proofs.files.FileStages.{begins_iff_place, file_iff_place, place_of_more, next_by_test, one_place, stage_stops}
+use Rattle.cif_laws.proofs.files.FileStages.{begins_iff_place, place_of_more, next_by_test, stage_stops}
 use Rattle.cif_laws.proofs.files.ReportedFaults.{length_at_end}
 use Rattle.cif_change.specs.declared.cause.FileCause.TheVariants.{Memory, NoEnd}
 use Rattle.cif_change.specs.Cause.{cause_meant}
@@ -20,41 +15,15 @@ use Rattle.cif_file.specs.declared.fault.FileFault.{FileFault}
 use Rattle.cif_file.specs.declared.read.parser.FileReading.{FileReading}
 use Rattle.cif_file.specs.KeeperRead.{Keeps}
 use Rattle.cif_file.specs.RecordsRead.{GoesOnWith}
-use Rattle.cif_file.specs.ParserRead.{IsCauseAfter, IsFaultNext, IsLastOfFile, IsReading, IsRefused}
-use Rattle.cif_file.proofs.ParserLemmas.{end_by_test, end_fault, later_than}
+use Rattle.cif_file.specs.ParserRead.{IsCauseAfter, IsFaultNext, IsLastOfFile, IsReading, IsRefused, FaultsNext}
+use Rattle.cif_file.proofs.FrontLemmas.{file_by_place}
+use Rattle.cif_file.proofs.ParserLemmas.{end_fault, later_than, some_is_open, Ends}
 use Rattle.cif_file.proofs.ReadLemmas.{memory_or_not}
 
--- ---- a file ends with a trailer, and nothing else does
-
--- the last of some lines
-last_of : Lines → List ℕ
-last_of [] = []
-last_of (line ∷ []) = line
-last_of (line ∷ next ∷ rest) = last_of (next ∷ rest)
-
-last_appended : (records : Lines) (line : List ℕ) → last_of (records ++ line ∷ []) ≡ line
-unfolding last_of
-last_appended [] line = refl
-last_appended (first ∷ []) line = refl
-last_appended (first ∷ next ∷ rest) line = last_appended (next ∷ rest) line
-
--- the last record of a file is its trailer
-ends_with_trailer : (records : Lines) (line : List ℕ) → IsFile (records ++ line ∷ []) → HasKind trailer line
-ends_with_trailer records line is =
-    let same : last_of (records ++ line ∷ []) ≡ last_of ((is.first ∷ flat_map (λ unit. unit) is.units) ++ is.last ∷ []) = ap last_of is.whole in
-    let last : line ≡ is.last = sym (last_appended records _) ∙ same ∙ last_appended (is.first ∷ flat_map (λ unit. unit) is.units) _ in
-    subst (HasKind trailer) (sym last) is.trailer_kind
-
--- a trailer leads the reader to `after_end`, or nowhere
-place_of_trailer : (place next : Place) (line : List ℕ) → place_by_kind place (Some trailer) line ≡ Some next → next ≡ after_end
-place_of_trailer = search (rules, stage_stops)
-
--- if the reader goes on with a trailer, the reader is then at the end of the file
-trailer_ends : (records : Lines) (place next : Place) (line : List ℕ) → IsPlaceOf records place → IsPlaceOf (records ++ line ∷ []) next
-    → HasKind trailer line → next ≡ after_end
-trailer_ends records place next line at reached kind =
-    let told = next_by_test place line next (sym (place_of_more records place line at) ∙ reached) in
-    place_of_trailer place next line (subst (λ k. place_by_kind place k line ≡ Some next) kind told.place_is)
+-- a record leads the reader to the end of the file if and only if it is a trailer
+trailer_iff : (place next : Place) (kind : Option Kind) (line : List ℕ) → place_by_kind place kind line ≡ Some next
+    → (is_after_end next ≡ true) ↔ (kind ≡ Some trailer)
+trailer_iff = search (rules, stage_stops)
 
 -- ---- the fault that is returned for the last line
 
@@ -84,57 +53,71 @@ told_last keeps wants reading limit text line fault told is some strip next othe
     size = length_at_end text some
 
     refused : IsRefused limit text fault
-    refused = end_fault keeps wants reading limit text fault is some (subst (λ l. IsFaultNext wants limit records l fault) strip next)
+    refused = end_fault keeps reading limit text is wants fault some (subst (λ l. IsFaultNext wants limit records l fault) strip next)
 
     later : sure_lines text < fault.number
-    later = later_than keeps reading limit text fault is next.number
+    later = later_than keeps reading limit text is fault next.number
 
     wanting : fault.cause ≡ Memory → wants × (length records < limit) × GoesOnWith records line
     wanting memory = subst (λ cause. IsCauseAfter wants limit records line (cause_meant cause)) memory next.cause
 
-    at_end : (memory : fault.cause ≡ Memory) → (next : Place) → IsPlaceOf (records ++ line ∷ []) next → (b : Bool) → is_after_end next ≡ b
-        → wants → length records < limit → IsToldLast wants limit text told
-    at_end memory reached at true end want under =
-        let is_file : IsFile (records ++ line ∷ []) = (file_iff_place (records ++ line ∷ [])).1 (at ∙ ap Some (end_by_test reached end)) in
-        let record_is = next_by_test is.counted.has.place line reached (sym (place_of_more records is.counted.has.place line is.counted.has.at) ∙ at) in
-        let same : told ≡ fault = trailing (ends_with_trailer records line is_file) record_is.is in
-        subst (IsToldLast wants limit text) (sym same) (record {
-          refused = refused;
-          later = later;
-          wanted = λ _. want;
-          last = λ _. (
-            next.number ∙ sym size,
-            record { lines = refl; is = subst IsFile (sym whole) is_file; within = omega (arith, size, under) },
-          );
-        })
-    at_end memory reached at false end want under =
-        let record_is = next_by_test is.counted.has.place line reached (sym (place_of_more records is.counted.has.place line is.counted.has.at) ∙ at) in
-        let unended : ¬ IsFile (records ++ line ∷ []) =
-        λ is_file. let same = one_place (records ++ line ∷ []) after_end reached ((file_iff_place (records ++ line ∷ [])).0 is_file) at in
-        let bad : true ≡ false = ap is_after_end same ∙ end in cc in
-        let no_trailer : ¬ HasKind trailer line =
-        λ kind. let same = trailer_ends records is.counted.has.place reached line is.counted.has.at at kind in
-        let bad : true ≡ false = sym (ap is_after_end same) ∙ end in cc in
-        let room = reading.records.room in
-        let limit_is = is.counted.limit_is in
-        let number = next.number in
-        let same : told ≡ record { number = fault.number + 1; cause = NoEnd } =
-        cut memory record_is.is no_trailer (omega (arith, room, limit_is, number, under)) in
-        subst (IsToldLast wants limit text) (sym same) (record {
-          refused = inr (record {
-            within = omega (arith, size, under);
-            begin = (begins_iff_place (lines_of text)).1 (reached, subst (λ (l : Lines). IsPlaceOf l reached) (sym whole) at);
-            unended = λ is_file. unended (subst IsFile whole is_file);
-            number = omega (arith, size, number);
-            cause = refl;
-          });
-          later = omega (arith, later);
-          wanted = λ memory. absurd cc;
-          last = λ memory. absurd cc;
-        })
+    at_end : fault.cause ≡ Memory → IsToldLast wants limit text told
+    at_end memory =
+        let want = wanting memory in
+        let reached = want.2.0 in
+        let step = next_by_test is.counted.has.place line reached (sym (place_of_more records is.counted.has.place line is.counted.has.at) ∙ want.2.1) in
+        let by_trailer = trailer_iff is.counted.has.place reached (kind_of line) line step.place_is in
+        let by_place = file_by_place (records ++ line ∷ []) reached want.2.1 in
+        let under = want.1 in
+        (elim (is_after_end reached) as (λ b. is_after_end reached ≡ b → IsToldLast wants limit text told) [
+          | true ↦ λ end.
+              subst (IsToldLast wants limit text) (sym (trailing (by_trailer.0 end) step.is)) (record {
+                refused = refused;
+                later = later;
+                wanted = λ _. want.0;
+                last = λ _. (
+                  next.number ∙ sym size,
+                  record { lines = refl; is = subst IsFile (sym whole) (by_place.0 end); within = omega (arith, size, under) },
+                );
+              })
+          | false ↦ λ end.
+              let no_trailer : ¬ HasKind trailer line = λ kind. let bad : true ≡ false = sym (by_trailer.1 kind) ∙ end in cc in
+              let room = reading.records.room in
+              let limit_is = is.counted.limit_is in
+              let number = next.number in
+              subst (IsToldLast wants limit text) (sym (cut memory step.is no_trailer (omega (arith, room, limit_is, number, under)))) (record {
+                refused = inr (record {
+                  within = omega (arith, size, under);
+                  begin = (begins_iff_place (lines_of text)).1 (reached, subst (λ (l : Lines). IsPlaceOf l reached) (sym whole) want.2.1);
+                  unended = λ is_file. let bad : true ≡ false = sym (by_place.1 (subst IsFile whole is_file)) ∙ end in cc;
+                  number = omega (arith, size, number);
+                  cause = refl;
+                });
+                later = omega (arith, later);
+                wanted = λ memory. absurd cc;
+                last = λ memory. absurd cc;
+              })
+        ]) refl
 
     by : (fault.cause ≡ Memory) ⊎ (fault.cause ≢ Memory) → IsToldLast wants limit text told
-    by (inl memory) =
-        let want = wanting memory in at_end memory want.2.0 want.2.1 (is_after_end want.2.0) refl want.0 want.1
+    by (inl memory) = at_end memory
     by (inr good) = subst (IsToldLast wants limit text) (sym (other good))
         (record { refused = refused; later = later; wanted = λ memory. absurd (good memory); last = λ memory. absurd (good memory) })
+
+-- the fault of the last line means for the text what it means for the line
+pub last_line : {K : Type 0} (keeps : Keeps K) (wants : Type 0) (reading : FileReading K) (raw line : List ℕ) (fault told : FileFault)
+    → false ≡ (length reading.partial.items == 0) → raw ≡ reading.partial.items → line ≡ strip_carriage_return raw
+    → FaultsNext keeps wants reading.records line fault
+    → (fault.cause ≢ Memory → told ≡ fault) → (HasKind trailer line → IsRecord line → told ≡ fault)
+    → (fault.cause ≡ Memory → IsRecord line → ¬ HasKind trailer line → fault.number < 4294967295 → told ≡ record { number = fault.number + 1; cause = NoEnd })
+    → Ends keeps wants reading (Err told)
+last_line keeps wants reading raw line fault told some same strip next other trailing cut =
+    let at : (limit : ℕ) (text : List ℕ) → IsReading keeps reading limit text → IsToldLast wants limit text told =
+    λ limit text is. told_last keeps wants reading limit text line fault told is (some_is_open keeps reading limit text is some)
+    (strip ∙ ap strip_carriage_return (same ∙ is.partial_is)) (next limit (complete_lines text) is.counted) other trailing cut in
+    record {
+      ok = tt;
+      err = λ limit text is. (at limit text is).refused;
+      later = λ limit text is. ((at limit text is).later, (at limit text is).wanted);
+      last = λ memory limit text is. (at limit text is).last memory;
+    }

@@ -1,8 +1,7 @@
 -- Pieces of a text that are fed one after another.
-use Rattle.std.proofs.Common.{◌≡◌, ℕ, ◌+◌, ◌<◌, ◌≤◌, List, ◌++◌, length, map, take, drop, get_or, subst, ap, sym, ◌∙◌, append-nil, arith}
-use Rattle.std.proofs.lemmas.Grind.{common_steps}
-use Rattle.std.specs.List.{concat}
-use Rattle.std.proofs.lemmas.List.{map_more, map-append, take-append-drop, take_all}
+use Rattle.cif_laws.proofs.Common.{◌≡◌, ℕ, ◌+◌, ◌<◌, ◌≤◌, List, ◌++◌, length, map, take, drop, get_or, subst, ap, sym, ◌∙◌, append-nil, arith, common_steps}
+use Rattle.cif_laws.proofs.Common.{concat, map-append, take-append-drop, take_all}
+use Rattle.std.proofs.lemmas.List.{map_more}
 use Rattle.std.proofs.lemmas.List.Folds.{concat-append}
 use Rattle.cif_file.specs.declared.fault.FileFault.{FileFault}
 use Rattle.cif_file.specs.ParserRead.{ParserState, HasRead, IsFaultReported, IsRefused}

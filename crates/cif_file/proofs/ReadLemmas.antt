@@ -1,15 +1,10 @@
 -- Reading a source: the text that is fed to the parser is exactly the text that was read from the source.
-use Rattle.std.proofs.Common.{◌≡◌, ℕ, ◌≤◌, ◌≢◌, ◌⊎◌, List, [], ◌++◌, length, Some, None, Err, Result, refl, sym, ◌∙◌, ap, subst, arith, append-nil}
-use Rattle.std.proofs.Common.{rules}
-use Rattle.std.specs.Prelude.{Option, Ok, OnOk, IfOk, IfErr}
-use Rattle.docker_model.specs.file.Text.{lines_of}
-use Rattle.docker_model.specs.file.FaultSoFar.{IsFaultSoFar}
-use Rattle.docker_model.specs.file.FileFault.{IsFileText}
+use Rattle.cif_laws.proofs.Common.{◌≡◌, ℕ, ◌≤◌, ◌≢◌, ◌⊎◌, List, [], ◌++◌, length, true, Some, None, Err, Result, refl, subst, arith, append-nil, rules, Option}
+use Rattle.cif_laws.proofs.Common.{Ok, OnOk, IfOk, IfErr, is_some, lines_of, IsFaultSoFar, IsFileText}
 use Rattle.docker_model.specs.file.FileFault as model
 use Rattle.cif_laws.proofs.files.ReportedFaults.{fault_in_the_end}
-use Rattle.cif_device.specs.Device.{CountsFailure, Reads, IsEnd, Held}
-use Rattle.cif_device.specs.declared.feed.FeedFault.{FeedFault}
-use Rattle.cif_device.specs.declared.feed.FeedFault.TheVariants as feed
+use Rattle.cif_laws.proofs.lists.BoolsAndOptions.{some_by_test}
+use Rattle.cif_device.specs.Device.{Reads, IsEnd, Held}
 use Rattle.cif_device.specs.Taken.{AfterEach, HasFed, HasRefused, LosesOnePieceMore}
 use Rattle.cif_change.specs.declared.cause.FileCause.{FileCause}
 use Rattle.cif_change.specs.declared.cause.FileCause.TheVariants.{Memory}
@@ -66,33 +61,25 @@ no_further = search rules
 
 -- a text that was read to the end of a source is the text that the source held
 held_all : (initial now : Option (List ℕ)) (text : List ℕ) → Reads initial text now → IsEnd now → Held initial text
-held_all None now text lost end = tt
-held_all (Some told) None text lost end = cc
-held_all (Some told) (Some rest) text lost end =
-    let same : told ≡ text ++ rest = cc in
-    same ∙ ap (λ r. text ++ r) end ∙ append-nil text
+held_all = search (rules, append-nil)
 
 -- ---- causes of the code and of the definitions
 
 -- the only cause of the code that the definitions don't have is `Memory`
-memory_meant : (cause : FileCause) → cause_meant cause ≡ None → cause ≡ Memory
-memory_meant = search rules
+meant : (cause : FileCause) → cause ≢ Memory → is_some (cause_meant cause) ≡ true
+meant = search rules
 
 -- a fault of the complete lines of a text is a fault of any longer text that begins with this one, unless the cause is `Memory`
 fault_of_reported : (limit : ℕ) (text more : List ℕ) (fault : FileFault) → IsFaultReported limit text fault → fault.cause ≢ Memory
     → IsFaultOf limit (text ++ more) fault
-fault_of_reported limit text more fault told other = by (cause_meant fault.cause) refl told
-  where
-    by : (cause : Option model.FileCause) → cause_meant fault.cause ≡ cause → IsCauseSoFar limit text fault.number cause → IsFaultOf limit (text ++ more) fault
-    by None h so_far = absurd (other (memory_meant fault.cause h))
-    by (Some cause) h so_far = search (rules, fault_in_the_end)
+fault_of_reported limit text more fault told other =
+    let cause = some_by_test (cause_meant fault.cause) (meant fault.cause other) in
+    record { cause = cause.0; cause_is = cause.1; is = fault_in_the_end limit text more _ (subst (IsCauseSoFar limit text fault.number) cause.1 told) }
 
 refused_of : (limit : ℕ) (text : List ℕ) (fault : FileFault) → IsRefused limit text fault → fault.cause ≢ Memory → IsFaultOf limit text fault
-refused_of limit text fault refused other = by (cause_meant fault.cause) refl refused
-  where
-    by : (cause : Option model.FileCause) → cause_meant fault.cause ≡ cause → IsCauseOf limit text fault.number cause → IsFaultOf limit text fault
-    by None h of = absurd (other (memory_meant fault.cause h))
-    by (Some cause) h of = record { cause = cause; cause_is = h; is = of }
+refused_of limit text fault refused other =
+    let cause = some_by_test (cause_meant fault.cause) (meant fault.cause other) in
+    record { cause = cause.0; cause_is = cause.1; is = subst (IsCauseOf limit text fault.number) cause.1 refused }
 
 -- if reading a source returns a fault of the file, the parser returned this fault, and its cause isn't `Memory`
 returned_as_file : (fault told : FileFault) (result : FileReadFault) → (fault.cause ≡ Memory → result ≡ read.Memory)
@@ -182,20 +169,6 @@ wants_before = search (rules, returned_as_memory)
 -- if no bytes are lost, no byte was read
 pub unread : (initial next : Option (List ℕ)) → next ≡ initial → Reads initial [] next
 unread = search rules
-
--- if feeding ended with a fault other than a failure of the source, the number of failures is
--- unchanged
-uncounted : {Fault : Type 0} (fault other : FeedFault Fault) (failed failed_now : ℕ) → fault ≡ other → other ≢ feed.Source
-    → CountsFailure (◌≡◌ {A = Result ℕ (FeedFault Fault)} (Err fault) (Err feed.Source)) failed failed_now → failed_now ≡ failed
-uncounted fault other failed failed_now is unlike counted = counted.1 (λ failing. unlike (let same : fault ≡ feed.Source = cc in sym is ∙ same))
-
-pub uncounted_memory : {Fault : Type 0} (fault : FeedFault Fault) (failed failed_now : ℕ) → fault ≡ feed.Memory
-    → CountsFailure (◌≡◌ {A = Result ℕ (FeedFault Fault)} (Err fault) (Err feed.Source)) failed failed_now → failed_now ≡ failed
-uncounted_memory fault failed failed_now is counted = uncounted fault feed.Memory failed failed_now is (λ same. cc) counted
-
-pub uncounted_refused : {Fault : Type 0} (fault : FeedFault Fault) (told : Fault) (failed failed_now : ℕ) → fault ≡ feed.Refused told
-    → CountsFailure (◌≡◌ {A = Result ℕ (FeedFault Fault)} (Err fault) (Err feed.Source)) failed failed_now → failed_now ≡ failed
-uncounted_refused fault told failed failed_now is counted = uncounted fault (feed.Refused told) failed failed_now is (λ same. cc) counted
 
 -- if all bytes of a source were read, reading ends with the result that the parser returns for
 -- these bytes

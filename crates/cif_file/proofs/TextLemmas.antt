@@ -1,31 +1,17 @@
 -- Lemmas on a record at the start of a text, and on its line end.
-use Rattle.std.proofs.Common.{◌≡◌, ℕ, ◌≤◌, inl, inr, true, false, List, [], ◌∷◌, ◌++◌, length, take, rules}
-use Rattle.std.proofs.Common.{drop, get_or, refl, sym, ap, ◌∙◌, subst, arith, length-append, append_assoc}
-use Rattle.std.proofs.lemmas.Grind.{common_steps}
-use Rattle.std.specs.Prelude.{◌==◌}
-use Rattle.std.specs.Str.Lines.{strip_carriage_return}
-use Rattle.std.proofs.lemmas.Bool.{eq-eqb}
-use Rattle.std.proofs.lemmas.Bool.Decides.{nat_tests}
-use Rattle.std.proofs.lemmas.List.{take-append-drop, length-take-le}
-use Rattle.std.proofs.lemmas.List.Elements.{All-append, All-from_recursion}
+use Rattle.cif_laws.proofs.Common.{◌≡◌, ℕ, ◌≤◌, inl, inr, true, false, List, [], ◌∷◌, ◌++◌, length, take, rules, drop, get_or, refl, sym, ap, ◌∙◌, subst, arith}
+use Rattle.cif_laws.proofs.Common.{length-append, append_assoc, common_steps, ◌==◌, strip_carriage_return, eq-eqb, nat_tests, take-append-drop, length-take-le}
+use Rattle.cif_laws.proofs.Common.{All-append, All-from_recursion, IsRecord, is_printable}
 use Rattle.std.proofs.Math.Seq.{drop-append_seam}
-use Rattle.docker_model.specs.records.Record.{IsRecord, is_printable}
 use Rattle.cif_laws.specs.CompleteLines.{HasNoFeed}
 use Rattle.cif_file.specs.Cut.{IsCut, BeginsWithEnd, BeginsWithEighty}
 
 no_feed : (b : ℕ) → is_printable b ≡ true → (b == 10) ≡ false
 no_feed b printable = grind (arith, nat_tests)
 
-no_return : (b : ℕ) → is_printable b ≡ true → (b == 13) ≡ false
-no_return b printable = grind (arith, nat_tests)
-
 -- a record contains no line feed
 record_plain : (line : List ℕ) → IsRecord line → HasNoFeed line
 record_plain line is = λ k d below. no_feed (get_or line k d) (is.1 k d below)
-
--- a record doesn't end in a carriage return, so stripping one changes nothing
-strip_record : (line : List ℕ) → IsRecord line → strip_carriage_return line ≡ line
-strip_record = search (rules, no_return)
 
 -- stripping the carriage return after a line leaves the line
 strip_return : (line : List ℕ) → strip_carriage_return (line ++ 13 ∷ []) ≡ line

@@ -1,7 +1,5 @@
 -- Lemmas on which unit a record begins, by its kind.
-use Rattle.std.proofs.Common.{◌≡◌, List, ℕ, true, Some, rules}
-use Rattle.std.specs.Prelude.{is_some}
-use Rattle.docker_model.specs.records.Record.{HasKind, kind_of}
+use Rattle.cif_laws.proofs.Common.{◌≡◌, List, ℕ, true, Some, rules, is_some, HasKind, kind_of}
 use Rattle.cif_laws.specs.FileStage.{unit_by_kind, between_units}
 use Rattle.cif_laws.specs.ScheduleStage.{is_first_line}
 use Rattle.cif_file.specs.declared.keeper.single.Single.{Single}

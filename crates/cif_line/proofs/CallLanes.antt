@@ -1,14 +1,10 @@
 -- The five times of an intermediate location, each read in its own lane of a vector. The lemmas
 -- show that each lane tests and reads its field as the definitions say.
-use Rattle.std.proofs.Common.{◌≡◌, ℕ, zero, suc, ◌+◌, ◌-◌, ◌*◌, ◌%◌, ◌^◌, ◌<◌, ◌≤◌, nat_eq, nat_lt, Bool, true, false, cond, ◌&&◌, List, rules}
-use Rattle.std.proofs.lemmas.Grind.{common_steps}
-use Rattle.std.proofs.Common.{[], ◌∷◌, ◌++◌, length, get_or, bit_and, bit_or, Fits, w8, refl, sym, ap, subst, ◌∙◌, arith}
-use Rattle.std.specs.Prelude.{◌==◌, ◌||◌, nat_le}
-use Rattle.std.specs.Char.{is_ascii_digit}
-use Rattle.std.proofs.lemmas.Bool.{agree_below_at, leb-true, ltb-true}
-use lib.Lanes.{chunk, top, mask_l}
-use Rattle.docker_model.specs.records.Record.{columns}
-use Rattle.docker_model.specs.records.Clock.{is_present_time, is_scheduled_time, is_public_time, half_minutes}
+use Rattle.cif_laws.proofs.Common.{◌≡◌, ℕ, zero, suc, ◌+◌, ◌-◌, ◌*◌, ◌%◌, ◌^◌, ◌<◌, ◌≤◌, nat_eq, nat_lt, Bool, true, false, cond, ◌&&◌, List, rules}
+use Rattle.cif_laws.proofs.Common.{common_steps, [], ◌∷◌, ◌++◌, length, get_or, w8, refl, sym, ap, subst, ◌∙◌, arith, ◌==◌, ◌||◌, nat_le, is_ascii_digit}
+use Rattle.cif_laws.proofs.Common.{leb-true, ltb-true, chunk, top, mask_l, columns, is_present_time, is_scheduled_time, is_public_time, half_minutes}
+use Rattle.std.proofs.Common.{bit_and, bit_or, Fits}
+use Rattle.std.proofs.lemmas.Bool.{agree_below_at}
 use Rattle.cif_laws.proofs.lists.BoolsAndOptions.{both}
 use Rattle.cif_line.specs.CallRead.{half_minutes_or_none}
 
@@ -211,9 +207,8 @@ cells (suc n) xs = head_of xs ∷ cells n (tail_of xs)
 
 cells_are : (n : ℕ) (xs : List ℕ) → length xs ≡ n → cells n xs ≡ xs
 cells_are zero [] size = refl
-cells_are zero (x ∷ xs) size = absurd (omega arith)
-cells_are (suc n) [] size = absurd (omega arith)
 cells_are (suc n) (x ∷ xs) size = ap (λ rest. x ∷ rest) (cells_are n xs (omega arith))
+cells_are _ _ size = absurd (omega arith)
 
 -- the byte at an index of the first two blocks of a line, which are columns 1 to 32
 abbrev pub picked : List ℕ → ℕ → ℕ
@@ -251,41 +246,33 @@ departure_lane line = lane_is_set (picked line 29) (picked line 30) (picked line
 abbrev pub AreBytes : List ℕ → Type 0
 AreBytes line = (k : ℕ) → Fits w8 (get_or line k 0)
 
+-- Says that the lanes of a line hold the five times of the line, and test whether they are good.
+abbrev pub LanesTold : List ℕ → Type 0
+LanesTold line = record {
+  arrival_told : tells line 10 11 12 13 14 ≡ half_minutes_or_none (columns 11 15 line);
+  departure_told : tells line 15 16 17 18 19 ≡ half_minutes_or_none (columns 16 20 line);
+  pass_told : tells line 20 21 22 23 24 ≡ half_minutes_or_none (columns 21 25 line);
+  arrival_good : set_lane line 10 11 12 13 14 ≡ is_scheduled_time (columns 11 15 line);
+  departure_good : set_lane line 15 16 17 18 19 ≡ is_scheduled_time (columns 16 20 line);
+  pass_good : set_lane line 20 21 22 23 24 ≡ is_scheduled_time (columns 21 25 line);
+  public_arrival_good : arrival_lane line ≡ is_public_time (columns 26 29 line);
+  public_departure_good : departure_lane line ≡ is_public_time (columns 30 33 line);
+}
+
 module _ (line : List ℕ) (size : length line ≡ 80) (bytes : AreBytes line) where
-  in_cells : AreBytes (cells 80 line)
-  in_cells = subst AreBytes (sym (cells_are 80 line size)) bytes
-
-  pub arrival_told : tells line 10 11 12 13 14 ≡ half_minutes_or_none (columns 11 15 line)
-  arrival_told = subst (λ l. tells l 10 11 12 13 14 ≡ half_minutes_or_none (columns 11 15 l)) (cells_are _ _ size)
-      (lane_told _ _ _ _ _ (in_cells 10).fits (in_cells 11).fits (in_cells 12).fits (in_cells 13).fits (in_cells 14).fits)
-
-  pub departure_told : tells line 15 16 17 18 19 ≡ half_minutes_or_none (columns 16 20 line)
-  departure_told = subst (λ l. tells l 15 16 17 18 19 ≡ half_minutes_or_none (columns 16 20 l)) (cells_are _ _ size)
-      (lane_told _ _ _ _ _ (in_cells 15).fits (in_cells 16).fits (in_cells 17).fits (in_cells 18).fits (in_cells 19).fits)
-
-  pub pass_told : tells line 20 21 22 23 24 ≡ half_minutes_or_none (columns 21 25 line)
-  pass_told = subst (λ l. tells l 20 21 22 23 24 ≡ half_minutes_or_none (columns 21 25 l)) (cells_are _ _ size)
-      (lane_told _ _ _ _ _ (in_cells 20).fits (in_cells 21).fits (in_cells 22).fits (in_cells 23).fits (in_cells 24).fits)
-
-  arrival_good : set_lane line 10 11 12 13 14 ≡ is_scheduled_time (columns 11 15 line)
-  arrival_good = subst (λ l. set_lane l 10 11 12 13 14 ≡ is_scheduled_time (columns 11 15 l)) (cells_are _ _ size)
-      (lane_good _ _ _ _ _ (in_cells 10).fits (in_cells 11).fits (in_cells 12).fits (in_cells 13).fits (in_cells 14).fits)
-
-  departure_good : set_lane line 15 16 17 18 19 ≡ is_scheduled_time (columns 16 20 line)
-  departure_good = subst (λ l. set_lane l 15 16 17 18 19 ≡ is_scheduled_time (columns 16 20 l)) (cells_are _ _ size)
-      (lane_good _ _ _ _ _ (in_cells 15).fits (in_cells 16).fits (in_cells 17).fits (in_cells 18).fits (in_cells 19).fits)
-
-  pass_good : set_lane line 20 21 22 23 24 ≡ is_scheduled_time (columns 21 25 line)
-  pass_good = subst (λ l. set_lane l 20 21 22 23 24 ≡ is_scheduled_time (columns 21 25 l)) (cells_are _ _ size)
-      (lane_good _ _ _ _ _ (in_cells 20).fits (in_cells 21).fits (in_cells 22).fits (in_cells 23).fits (in_cells 24).fits)
-
-  public_arrival_good : arrival_lane line ≡ is_public_time (columns 26 29 line)
-  public_arrival_good = subst (λ l. arrival_lane l ≡ is_public_time (columns 26 29 l)) (cells_are 80 _ size)
-      (public_good _ _ _ _ (get_or (cells 80 line) 14 0) (in_cells 25).fits (in_cells 26).fits (in_cells 27).fits (in_cells 28).fits)
-
-  public_departure_good : departure_lane line ≡ is_public_time (columns 30 33 line)
-  public_departure_good = subst (λ l. departure_lane l ≡ is_public_time (columns 30 33 l)) (cells_are 80 _ size)
-      (public_good _ _ _ _ (get_or (cells 80 line) 14 0) (in_cells 29).fits (in_cells 30).fits (in_cells 31).fits (in_cells 32).fits)
+  pub lanes_told : LanesTold line
+  lanes_told =
+      let fits : AreBytes (cells 80 line) = subst AreBytes (sym (cells_are 80 line size)) bytes in
+      subst LanesTold (cells_are 80 line size) (record {
+        arrival_told = lane_told _ _ _ _ _ (fits 10).fits (fits 11).fits (fits 12).fits (fits 13).fits (fits 14).fits;
+        departure_told = lane_told _ _ _ _ _ (fits 15).fits (fits 16).fits (fits 17).fits (fits 18).fits (fits 19).fits;
+        pass_told = lane_told _ _ _ _ _ (fits 20).fits (fits 21).fits (fits 22).fits (fits 23).fits (fits 24).fits;
+        arrival_good = lane_good _ _ _ _ _ (fits 10).fits (fits 11).fits (fits 12).fits (fits 13).fits (fits 14).fits;
+        departure_good = lane_good _ _ _ _ _ (fits 15).fits (fits 16).fits (fits 17).fits (fits 18).fits (fits 19).fits;
+        pass_good = lane_good _ _ _ _ _ (fits 20).fits (fits 21).fits (fits 22).fits (fits 23).fits (fits 24).fits;
+        public_arrival_good = public_good _ _ _ _ (get_or (cells 80 line) 14 0) (fits 25).fits (fits 26).fits (fits 27).fits (fits 28).fits;
+        public_departure_good = public_good _ _ _ _ (get_or (cells 80 line) 14 0) (fits 29).fits (fits 30).fits (fits 31).fits (fits 32).fits;
+      })
 
   -- all eight lanes are set if and only if the five time fields are good
   pub all_set :
@@ -298,4 +285,6 @@ module _ (line : List ℕ) (size : length line ≡ 80) (bytes : AreBytes line) w
       ≡ ((((is_scheduled_time (columns 11 15 line) && is_scheduled_time (columns 16 20 line)) && is_scheduled_time (columns 21 25 line))
       && is_public_time (columns 26 29 line))
       && is_public_time (columns 30 33 line))
-  all_set = search (rules, eight, arrival_good, departure_good, pass_good, public_arrival_good, public_departure_good)
+  all_set =
+      let told = lanes_told in
+      search (rules, eight, told.arrival_good, told.departure_good, told.pass_good, told.public_arrival_good, told.public_departure_good)

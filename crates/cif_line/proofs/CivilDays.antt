@@ -1,7 +1,7 @@
 -- Each day number up to the last is the number of exactly one day of the calendar.
-use Rattle.std.proofs.Common.{◌≡◌, ℕ, ℤ, zero, suc, ◌+◌, ◌<◌, ◌≤◌, refl, subst, pos, negsuc, ◌+ℤ◌, arith, inl, inr, rules}
-use Rattle.std.specs.Prelude.{unsigned_abs}
-use Rattle.std.proofs.lemmas.Bool.{cases_order}
+use Rattle.cif_laws.proofs.Common.{◌≡◌, ℕ, zero, suc, ◌+◌, ◌<◌, ◌≤◌, refl, subst, pos, arith, inl, inr, rules, unsigned_abs, cases_order, day_number, last_day}
+use Rattle.cif_laws.proofs.Common.{day_text, date_text}
+use Rattle.std.proofs.Common.{ℤ, negsuc, ◌+ℤ◌}
 use Rattle.std.proofs.lemmas.Int.{by_lt_z}
 use Rattle.jiff.specs.Words.{IsBetween, epoch_day}
 use Rattle.jiff_core.specs.declared.civil.date.Date.{Date}
@@ -10,8 +10,6 @@ use Rattle.jiff_core.proofs.SignedLemmas.{signed_arith}
 use Rattle.jiff_core.proofs.DateLemmas.{civil}
 use Rattle.jiff_core.proofs.CalendarLemmas.{days_from_civil-day_count, day_count-lt_year, day_count-day, day_count-next_month}
 use Rattle.jiff_core.proofs.CalendarLemmas.{day_count-next_year, day_count-last_of_year, days_in_month_bounds}
-use Rattle.docker_model.specs.records.Date.{day_number, last_day}
-use Rattle.docker_model.specs.records.PrintedTime.{day_text, date_text}
 use Rattle.cif_laws.proofs.records.Dates.{day_number-day_count, day_text-day_number}
 
 -- `number` is the number of days from 1 January 1960 to this date, which is in the years 1960 to

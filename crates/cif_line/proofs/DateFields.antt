@@ -1,14 +1,10 @@
 -- The digits YYMMDD in a day's text YYYY-MM-DD are read back as the same day.
-use Rattle.std.proofs.Common.{◌≡◌, ℕ, ◌+◌, ◌-◌, ◌*◌, ◌/◌, ◌%◌, ◌<◌, ◌≤◌, List, [], ◌∷◌, ◌++◌, true, ap, sym, subst, slice_index, ◌∙◌, pos, arith}
-use Rattle.std.proofs.lemmas.Grind.{common_steps}
-use Rattle.std.proofs.Common.{rules}
-use Rattle.std.specs.List.{list_all}
-use Rattle.std.specs.Char.{is_ascii_digit}
-use Rattle.std.proofs.lemmas.Bool.Decides.{nat_tests}
+use Rattle.cif_laws.proofs.Common.{◌≡◌, ℕ, ◌+◌, ◌-◌, ◌*◌, ◌/◌, ◌%◌, ◌<◌, ◌≤◌, List, [], ◌∷◌, ◌++◌, true, ap, sym, subst, slice_index, ◌∙◌, pos, arith}
+use Rattle.cif_laws.proofs.Common.{common_steps, rules, list_all, is_ascii_digit, nat_tests, is_calendar_day, day_number, is_date, date_number, two_digits}
+use Rattle.cif_laws.proofs.Common.{full_year, last_day, day_text}
 use Rattle.jiff_core.proofs.SignedLemmas.{signed_arith}
 use Rattle.jiff_core.proofs.CalendarLemmas.{days_in_month_bounds}
-use Rattle.docker_model.specs.records.Date.{is_calendar_day, day_number, is_date, date_number, two_digits, full_year, last_day}
-use Rattle.docker_model.specs.records.PrintedTime.{two_digit_text, day_text}
+use Rattle.docker_model.specs.records.PrintedTime.{two_digit_text}
 use Rattle.cif_laws.proofs.records.Dates.{is_calendar_day-IsDate}
 use Rattle.cif_line.proofs.CivilDays.{IsDayOf, number_is, text_is, day_at}
 

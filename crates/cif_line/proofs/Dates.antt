@@ -1,29 +1,20 @@
 -- The code tests dates and computes their day numbers with tables of the months. The results equal
 -- the tests and the day numbers in the definitions.
-use Rattle.std.proofs.Common.{◌≡◌, ℕ, suc, ◌+◌, ◌-◌, ◌*◌, ◌/◌, ◌<◌, ◌≤◌, nat_lt, Bool, true, cond, ◌&&◌, List, rules}
-use Rattle.std.proofs.Common.{[], ◌∷◌, length, slice_index_or, take, refl, sym, pos, ◌∙◌, arith}
-use Rattle.std.specs.Prelude.{◌==◌, ◌||◌, slice_index}
-use Rattle.std.specs.List.{list_all}
-use Rattle.std.specs.Char.{is_ascii_digit}
+use Rattle.cif_laws.proofs.Common.{◌≡◌, ℕ, suc, ◌+◌, ◌-◌, ◌*◌, ◌/◌, ◌<◌, ◌≤◌, nat_lt, Bool, true, cond, ◌&&◌, List, rules, [], ◌∷◌, length, slice_index_or}
+use Rattle.cif_laws.proofs.Common.{take, refl, sym, pos, ◌∙◌, arith, ◌==◌, ◌||◌, slice_index, list_all, is_ascii_digit, is_calendar_day, day_number, last_day}
+use Rattle.cif_laws.proofs.Common.{is_days}
 use Rattle.jiff_core.specs.Calendar.{is_leap_year, days_of_months, day_count, days_of_years, IsCivilDate}
 use Rattle.jiff_core.proofs.SignedLemmas.{signed_arith}
 use Rattle.jiff_core.proofs.MarchLemmas.{day_count-early}
 use Rattle.jiff_core.proofs.CalendarLemmas.{days_of_months_table, day_count-day_of_year, day_count-lt_year}
-use Rattle.docker_model.specs.records.Date.{is_calendar_day, day_number, last_day, is_days}
 use Rattle.cif_laws.proofs.records.Dates.{is_calendar_day-IsDate, day_number-day_count}
 
 -- six bytes are digits if and only if the first four are digits and the other two are digits
 pub six_digits : (field : List ℕ) → length field ≡ 6
     → ((list_all is_ascii_digit (take 4 field) && is_ascii_digit (slice_index field 4)) && is_ascii_digit (slice_index field 5))
     ≡ list_all is_ascii_digit field
-six_digits [] size = absurd (omega arith)
-six_digits (a ∷ []) size = absurd (omega arith)
-six_digits (a ∷ b ∷ []) size = absurd (omega arith)
-six_digits (a ∷ b ∷ c ∷ []) size = absurd (omega arith)
-six_digits (a ∷ b ∷ c ∷ d ∷ []) size = absurd (omega arith)
-six_digits (a ∷ b ∷ c ∷ d ∷ e ∷ []) size = absurd (omega arith)
 six_digits (a ∷ b ∷ c ∷ d ∷ e ∷ f ∷ []) size = search rules
-six_digits (a ∷ b ∷ c ∷ d ∷ e ∷ f ∷ g ∷ field) size = absurd (omega arith)
+six_digits _ size = absurd (omega arith)
 
 -- whether a byte is the code of `0` or of `1`
 abbrev is_flag : ℕ → Bool
@@ -32,15 +23,8 @@ is_flag b = (b == 48) || (b == 49)
 -- seven bytes are flags if and only if the first four are flags and the other three are flags
 pub seven_flags : (field : List ℕ) → length field ≡ 7
     → (((is_days (take 4 field) && is_flag (slice_index field 4)) && is_flag (slice_index field 5)) && is_flag (slice_index field 6)) ≡ is_days field
-seven_flags [] size = absurd (omega arith)
-seven_flags (a ∷ []) size = absurd (omega arith)
-seven_flags (a ∷ b ∷ []) size = absurd (omega arith)
-seven_flags (a ∷ b ∷ c ∷ []) size = absurd (omega arith)
-seven_flags (a ∷ b ∷ c ∷ d ∷ []) size = absurd (omega arith)
-seven_flags (a ∷ b ∷ c ∷ d ∷ e ∷ []) size = absurd (omega arith)
-seven_flags (a ∷ b ∷ c ∷ d ∷ e ∷ f ∷ []) size = absurd (omega arith)
 seven_flags (a ∷ b ∷ c ∷ d ∷ e ∷ f ∷ g ∷ []) size = grind arith
-seven_flags (a ∷ b ∷ c ∷ d ∷ e ∷ f ∷ g ∷ h ∷ field) size = absurd (omega arith)
+seven_flags _ size = absurd (omega arith)
 
 -- how many days of a year come before this month, if the year isn't a leap year. Months are from 1
 -- to 12

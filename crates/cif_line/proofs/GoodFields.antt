@@ -1,14 +1,9 @@
 -- If a record is good, each of its checked fields is good. There is one lemma for each checked field of each kind of record.
-use Rattle.std.proofs.Common.{◌≡◌, ℕ, List, true, false, cond, [], ◌∷◌, ◌++◌, Bool, None, refl, subst, arith}
-use Rattle.std.proofs.Common.{rules}
-use Rattle.std.specs.List.{AllByRecursion}
-use Rattle.docker_model.specs.records.Record.{Kind, header, tiploc_amend, association}
-use Rattle.docker_model.specs.records.Record.{basic_schedule, origin_location, intermediate_location}
-use Rattle.docker_model.specs.records.Record.{terminating_location, HasKind, kind_of, columns, column}
-use Rattle.docker_model.specs.records.Date.{is_date, is_date_day_first, is_end_date, is_days}
-use Rattle.docker_model.specs.records.Clock.{is_clock, is_public_time}
-use Rattle.docker_model.specs.records.Field.{CheckedField, checked, checked_fields, HasGoodFields, is_tiploc, is_new_tiploc}
-use Rattle.docker_model.specs.records.Field.{is_update_indicator, is_transaction, is_stp_indicator, is_stp_letter, is_deletion}
+use Rattle.cif_laws.proofs.Common.{◌≡◌, ℕ, List, true, false, [], ◌∷◌, None, refl, subst, arith, rules, AllByRecursion, Kind, header, tiploc_amend, association}
+use Rattle.cif_laws.proofs.Common.{basic_schedule, origin_location, intermediate_location, terminating_location, HasKind, kind_of, columns, column, is_date}
+use Rattle.cif_laws.proofs.Common.{is_date_day_first, is_end_date, is_days, is_clock, is_public_time, checked_fields, HasGoodFields, is_tiploc, is_new_tiploc}
+use Rattle.cif_laws.proofs.Common.{is_transaction, is_stp_indicator, is_stp_letter, is_deletion}
+use Rattle.docker_model.specs.records.Field.{is_update_indicator}
 use Rattle.cif_laws.proofs.records.Columns.{good_fields, IsGoodIn, one_column}
 use Rattle.cif_line.specs.View.{IsGood, IsGoodTiploc, IsTiplocRecord, new_code_of}
 
@@ -61,34 +56,21 @@ basic_transaction line good = subst (λ b. is_transaction (b ∷ []) ≡ true) (
 pub basic_runs_from : (line : List ℕ) → IsGood basic_schedule line → is_date (columns 10 15 line) ≡ true
 basic_runs_from line good = (each_good basic_schedule line good).1.0
 
--- the checked fields of a basic schedule to the right of its runs-from date. The argument says whether the record is a deletion
-later_fields : Bool → List CheckedField
-later_fields deletion = cond deletion [] (checked 16 21 is_end_date ∷ checked 22 28 is_days ∷ []) ++ checked 80 80 is_stp_indicator ∷ []
-
--- in a good basic schedule the checked fields to the right of the runs-from date are good
-later_good : (line : List ℕ) → IsGood basic_schedule line → (deletion : Bool) → is_deletion line ≡ deletion
-    → AllByRecursion (IsGoodIn line) (later_fields deletion)
-unfolding later_fields
-later_good line good deletion is = subst (λ b. AllByRecursion (IsGoodIn line) (later_fields b)) is (each_good basic_schedule line good).1.1
-
 -- columns 16 to 21 of a good basic schedule, the runs-to date, are an end date unless the record is a deletion
 pub basic_runs_to : (line : List ℕ) → IsGood basic_schedule line → is_deletion line ≡ false → is_end_date (columns 16 21 line) ≡ true
-unfolding later_fields
-basic_runs_to line good kept = (later_good line good false kept).0
+basic_runs_to line good kept = (rw kept at (each_good basic_schedule line good)).1.1.0
 
 -- columns 22 to 28 of a good basic schedule are the days-run field. Each of these bytes is `0` or `1`, unless the record is a deletion
 pub basic_days : (line : List ℕ) → IsGood basic_schedule line → is_deletion line ≡ false → is_days (columns 22 28 line) ≡ true
-unfolding later_fields
-basic_days line good kept = (later_good line good false kept).1.0
+basic_days line good kept = (rw kept at (each_good basic_schedule line good)).1.1.1.0
 
 -- column 80 of a good basic schedule, the STP indicator, is P, N, O or C
 pub basic_stp : (line : List ℕ) → IsGood basic_schedule line → is_stp_letter (column 80 line) ≡ true
-unfolding later_fields
-basic_stp line good = subst (λ b. is_stp_letter b ≡ true) (one_column line 80 (omega arith)) (by (is_deletion line) (later_good line good))
-  where
-    by : (deletion : Bool) → ((b : Bool) → deletion ≡ b → AllByRecursion (IsGoodIn line) (later_fields b)) → is_stp_indicator (columns 80 80 line) ≡ true
-    by true all = (all true refl).0
-    by false all = (all false refl).1.1.0
+basic_stp line good = subst (λ b. is_stp_letter b ≡ true) (one_column line 80 (omega arith))
+    ((elim (is_deletion line) as (λ deletion. is_deletion line ≡ deletion → is_stp_indicator (columns 80 80 line) ≡ true) [
+      | true ↦ λ is. (rw is at (each_good basic_schedule line good)).1.1.0
+      | false ↦ λ is. (rw is at (each_good basic_schedule line good)).1.1.1.1.0
+    ]) refl)
 
 -- the lemmas on the checked fields of a good basic schedule
 pub ruleset basic_fields = (basic_transaction, basic_runs_from, basic_runs_to, basic_days, basic_stp)
@@ -101,36 +83,22 @@ assoc_transaction line good = subst (λ b. is_transaction (b ∷ []) ≡ true) (
 pub assoc_start : (line : List ℕ) → IsGood association line → is_date (columns 16 21 line) ≡ true
 assoc_start line good = (each_good association line good).1.0
 
--- the checked fields of an association to the right of its first date. The argument says whether the record is a deletion
-assoc_fields_behind : Bool → List CheckedField
-assoc_fields_behind deletion =
-    cond deletion [] (checked 22 27 is_end_date ∷ checked 28 34 is_days ∷ []) ++ checked 38 44 is_tiploc ∷ checked 80 80 is_stp_indicator ∷ []
-
--- in a good association the checked fields to the right of the first date are good
-assoc_behind_good : (line : List ℕ) → IsGood association line → (deletion : Bool) → is_deletion line ≡ deletion
-    → AllByRecursion (IsGoodIn line) (assoc_fields_behind deletion)
-unfolding assoc_fields_behind
-assoc_behind_good line good deletion is = subst (λ b. AllByRecursion (IsGoodIn line) (assoc_fields_behind b)) is (each_good association line good).1.1
-
 -- columns 22 to 27 of a good association are an end date unless the record is a deletion
 pub assoc_end : (line : List ℕ) → IsGood association line → is_deletion line ≡ false → is_end_date (columns 22 27 line) ≡ true
-unfolding assoc_fields_behind
-assoc_end line good kept = (assoc_behind_good line good false kept).0
+assoc_end line good kept = (rw kept at (each_good association line good)).1.1.0
 
 -- columns 28 to 34 of a good association are the days-run field. Each of these bytes is `0` or `1`, unless the record is a deletion
 pub assoc_days : (line : List ℕ) → IsGood association line → is_deletion line ≡ false → is_days (columns 28 34 line) ≡ true
-unfolding assoc_fields_behind
-assoc_days line good kept = (assoc_behind_good line good false kept).1.0
+assoc_days line good kept = (rw kept at (each_good association line good)).1.1.1.0
 
 -- the TIPLOC and the STP indicator of a good association are good, even in a deletion
 assoc_last : (line : List ℕ) → IsGood association line → (is_tiploc (columns 38 44 line) ≡ true) × (is_stp_indicator (columns 80 80 line) ≡ true)
-unfolding assoc_fields_behind
-assoc_last line good = by (is_deletion line) (assoc_behind_good line good)
-  where
-    by : (deletion : Bool) → ((b : Bool) → deletion ≡ b → AllByRecursion (IsGoodIn line) (assoc_fields_behind b))
-        → (is_tiploc (columns 38 44 line) ≡ true) × (is_stp_indicator (columns 80 80 line) ≡ true)
-    by true all = ((all true refl).0, (all true refl).1.0)
-    by false all = ((all false refl).1.1.0, (all false refl).1.1.1.0)
+assoc_last line good =
+    (elim (is_deletion line) as (λ deletion. is_deletion line ≡ deletion
+    → (is_tiploc (columns 38 44 line) ≡ true) × (is_stp_indicator (columns 80 80 line) ≡ true)) [
+      | true ↦ λ is. let all = rw is at (each_good association line good) in (all.1.1.0, all.1.1.1.0)
+      | false ↦ λ is. let all = rw is at (each_good association line good) in (all.1.1.1.1.0, all.1.1.1.1.1.0)
+    ]) refl
 
 -- columns 38 to 44 of a good association are a TIPLOC
 pub assoc_location : (line : List ℕ) → IsGood association line → is_tiploc (columns 38 44 line) ≡ true

@@ -1,9 +1,7 @@
 -- The tests of a record's checked fields, joined by AND into a single test.
-use Rattle.std.proofs.Common.{◌≡◌, ℕ, List, Bool, true, false, cond, [], ◌∷◌, Some, None, refl, sym, ◌∙◌, ◌&&◌, arith, rules}
-use Rattle.std.specs.Prelude.{not, option_map, find, Option, ◌↔◌}
-use Rattle.docker_model.specs.records.Record.{columns, origin_location, intermediate_location}
-use Rattle.docker_model.specs.records.Clock.{is_present_time, is_scheduled_time, is_public_time}
-use Rattle.docker_model.specs.records.Field.{CheckedField, checked, checked_fields, is_tiploc}
+use Rattle.cif_laws.proofs.Common.{◌≡◌, ℕ, List, Bool, true, false, cond, [], ◌∷◌, Some, None, refl, sym, ◌∙◌, ◌&&◌, arith, rules, not, option_map, find}
+use Rattle.cif_laws.proofs.Common.{Option, ◌↔◌, columns, origin_location, intermediate_location, is_present_time, is_scheduled_time, is_public_time}
+use Rattle.cif_laws.proofs.Common.{CheckedField, checked, checked_fields, is_tiploc}
 use Rattle.cif_laws.proofs.lists.BoolsAndOptions.{both, and_true}
 use Rattle.cif_line.specs.View.{bad_field_of}
 use Rattle.cif_line.proofs.Leftmost.{first_bad, behind_good}
@@ -45,6 +43,9 @@ passes_if_none : (line : List ℕ) (fields : List CheckedField) (test : Bool) �
     → test ≡ true ↔ (first_bad_of line fields ≡ None)
 passes_if_none line fields test is = (λ pass. (none_if_joined line true fields (sym is ∙ pass)).1, λ none. is ∙ joined_if_none line true fields none refl)
 
+regrouped : (t a d p m n : Bool) → (t && ((((a && d) && p) && m) && n)) ≡ (((((t && a) && d) && p) && m) && n)
+regrouped = search rules
+
 -- the tests of all five times of an intermediate location, joined by AND from the left
 abbrev pub times_joined : List ℕ → Bool
 times_joined line =
@@ -56,14 +57,8 @@ times_joined line =
 pub call_tests : (line : List ℕ) (tiploc times test : Bool) → (tiploc && times) ≡ test → tiploc ≡ is_tiploc (columns 3 9 line)
     → times ≡ times_joined line → test ≡ true ↔ (bad_field_of intermediate_location line ≡ None)
 call_tests line t s test joins tiploc times =
-    passes_if_none line (checked_fields intermediate_location line) test
-    (sym joins ∙ (λ i. tiploc i && times i)
-    ∙ regrouped (is_tiploc (columns 3 9 line)) (is_scheduled_time (columns 11 15 line)) (is_scheduled_time (columns 16 20 line))
-    (is_scheduled_time (columns 21 25 line)) (is_public_time (columns 26 29 line)) (is_public_time (columns 30 33 line)))
-  where
-    regrouped : (t a d p m n : Bool) → (t && ((((a && d) && p) && m) && n)) ≡ (((((t && a) && d) && p) && m) && n)
-    regrouped true a d p m n = refl
-    regrouped false a d p m n = refl
+    passes_if_none line (checked_fields intermediate_location line) test (sym joins ∙ (λ i. tiploc i && times i)
+    ∙ regrouped (is_tiploc (columns 3 9 line)) _ _ _ _ _)
 
 -- the joined test of an origin or a terminus passes if and only if no field is bad
 pub end_tests : (line : List ℕ) (tiploc time public test : Bool) → ((tiploc && time) && public) ≡ test → tiploc ≡ is_tiploc (columns 3 9 line)

@@ -1,14 +1,12 @@
 -- A block of bytes is tested at once, with one lane for each byte. The lemmas show that the result
 -- is the same as if each byte were tested by itself.
-use Rattle.std.proofs.Common.{◌≡◌, ℕ, ◌+◌, ◌*◌, ◌%◌, ◌^◌, ◌≤◌, nat_eq, Bool, true, false, not, ◌&&◌, List, rules}
-use Rattle.std.proofs.Common.{[], ◌∷◌, map, length, take, drop, replicate, Fits, w8, refl, sym, ap, ◌∙◌, arith}
+use Rattle.cif_laws.proofs.Common.{◌≡◌, ℕ, ◌+◌, ◌*◌, ◌%◌, ◌^◌, ◌≤◌, nat_eq, nat_lt, Bool, true, false, cond, not, ◌&&◌, List, rules, [], ◌∷◌, map, length, take}
+use Rattle.cif_laws.proofs.Common.{drop, replicate, w8, refl, sym, ap, ◌∙◌, arith, nat_tests, list_all, length-map, drop_all, mask_l, top}
+use Rattle.std.proofs.Common.{Fits}
 use Rattle.std.proofs.lemmas.Bool.{agree_below, agree_below_at}
-use Rattle.std.proofs.lemmas.Bool.Decides.{nat_tests}
-use Rattle.std.specs.List.{list_all}
 use Rattle.std.proofs.lemmas.Simd.{map-map, mask_l-mod, chunk-drop, zip2_of_maps, splat_is_map, zip2_splat}
-use Rattle.std.proofs.lemmas.List.{length-map, drop_all}
 use Rattle.std.proofs.lemmas.List.Folds.{list_all-append}
-use lib.Lanes.{Each1, mask_l, top, zip2}
+use lib.Lanes.{Each1, zip2}
 
 -- a binary number whose lowest digit is 1 isn't 0
 one_set : (m : ℕ) → nat_eq (1 + 2 * m) 0 ≡ false
@@ -27,6 +25,11 @@ mask_zero p (x ∷ xs) = grind (arith, nat_eq, not, one_set, twice, (mask_zero p
 agree_all : (f g : ℕ → Bool) → agree_below f g 256 ≡ true → (xs : List ℕ) → Each1 (Fits w8) xs → list_all f xs ≡ list_all g xs
 agree_all f g agree [] fits = refl
 agree_all f g agree (x ∷ xs) fits = λ i. agree_below_at f g 256 x agree fits.0.fits i && agree_all f g agree xs fits.1 i
+
+-- the lane of a byte `x`: all bits of the lane are set if the byte is above the limit, and
+-- otherwise the lane is 0
+unfoldable pub above : ℕ → ℕ → ℕ
+above limit x = cond (nat_lt limit x) 255 0
 
 -- Suppose that two operations, each with a constant, compute the value of a lane from the lane's
 -- byte. Suppose also that the lane is clear if and only if the byte passes a test. Then no lane is

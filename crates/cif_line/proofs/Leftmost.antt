@@ -1,13 +1,11 @@
 -- The leftmost bad field of a header, a TIPLOC record, an association or a basic schedule. A field
 -- is the leftmost bad field if it is bad and all checked fields to its left are good.
-use Rattle.std.proofs.Common.{◌≡◌, ℕ, List, true, false, cond, [], ◌∷◌, ◌++◌, Bool, Some, None, ap, ◌∙◌, rules}
-use Rattle.std.specs.Prelude.{not, option_map, find, Option}
-use Rattle.std.specs.List.{AllByRecursion}
-use Rattle.docker_model.specs.records.Record.{Kind, HasKind, header, tiploc_amend, association, basic_schedule, columns}
-use Rattle.docker_model.specs.records.Date.{is_date, is_date_day_first, is_end_date, is_days}
-use Rattle.docker_model.specs.records.Clock.{is_clock}
-use Rattle.docker_model.specs.records.Field.{CheckedField, checked, checked_fields, fields_of, leftmost_bad_field, is_tiploc}
-use Rattle.docker_model.specs.records.Field.{is_new_tiploc, is_update_indicator, is_transaction, is_stp_indicator, is_deletion}
+use Rattle.cif_laws.proofs.Common.{◌≡◌, ℕ, List, true, false, cond, [], ◌∷◌, ◌++◌, Some, None, ap, ◌∙◌, rules, not, option_map, find, Option, AllByRecursion}
+use Rattle.cif_laws.proofs.Common.{Kind, HasKind, header, tiploc_amend, association, basic_schedule, columns, is_date, is_date_day_first, is_end_date, is_days}
+use Rattle.cif_laws.proofs.Common.{is_clock, CheckedField, checked, checked_fields, leftmost_bad_field, is_tiploc, is_new_tiploc, is_transaction}
+use Rattle.cif_laws.proofs.Common.{is_stp_indicator, is_deletion}
+use Rattle.docker_model.specs.records.Field.{fields_of}
+use Rattle.docker_model.specs.records.Field.{is_update_indicator}
 use Rattle.cif_laws.proofs.records.Columns.{IsGoodIn, fields_good}
 use Rattle.cif_line.specs.View.{IsTiplocRecord}
 
@@ -50,107 +48,71 @@ header_bad_indicator = search (rules, by_kind, behind_good)
 -- the lemmas on the leftmost bad field of a header
 pub ruleset header_faults = (header_bad_day, header_bad_minute, header_bad_indicator)
 
--- the checked fields of a basic schedule. The argument says whether the record is a deletion
-basic_checked : Bool → List CheckedField
-basic_checked deletion =
-    checked 3 3 is_transaction ∷ checked 10 15 is_date
-    ∷ cond deletion [] (checked 16 21 is_end_date ∷ checked 22 28 is_days ∷ [])
-    ++ checked 80 80 is_stp_indicator ∷ []
-
--- the leftmost bad field of a basic schedule is the first bad field in the list of its checked fields
-of_basic : (line : List ℕ) (deletion : Bool) → HasKind basic_schedule line → is_deletion line ≡ deletion
-    → leftmost_bad_field line ≡ first_bad line (basic_checked deletion)
-unfolding basic_checked
-of_basic line deletion is deletes = by_kind basic_schedule line is ∙ ap (λ b. first_bad line (basic_checked b)) deletes
-
 -- suppose that a basic schedule isn't a deletion. If its runs-to date is bad, and the fields to the
 -- left are good, the leftmost bad field is at column 16
 pub basic_bad_end : (line : List ℕ) → HasKind basic_schedule line → is_transaction (columns 3 3 line) ≡ true → is_date (columns 10 15 line) ≡ true
     → is_deletion line ≡ false → is_end_date (columns 16 21 line) ≡ false → leftmost_bad_field line ≡ Some 16
-unfolding basic_checked
-basic_bad_end = search (rules, of_basic, behind_good)
+basic_bad_end = search (rules, by_kind, behind_good)
 
 -- suppose that a basic schedule isn't a deletion. If its days-run field is bad, and the fields to
 -- the left are good, the leftmost bad field is at column 22
 pub basic_bad_days : (line : List ℕ) → HasKind basic_schedule line → is_transaction (columns 3 3 line) ≡ true → is_date (columns 10 15 line) ≡ true
     → is_deletion line ≡ false → is_end_date (columns 16 21 line) ≡ true → is_days (columns 22 28 line) ≡ false → leftmost_bad_field line ≡ Some 22
-unfolding basic_checked
-basic_bad_days = search (rules, of_basic, behind_good)
+basic_bad_days = search (rules, by_kind, behind_good)
 
 -- suppose that a basic schedule isn't a deletion. If its STP indicator is bad, and the fields to
 -- the left are good, the leftmost bad field is at column 80
 pub basic_bad_stp_kept : (line : List ℕ) → HasKind basic_schedule line → is_transaction (columns 3 3 line) ≡ true → is_date (columns 10 15 line) ≡ true
     → is_deletion line ≡ false → is_end_date (columns 16 21 line) ≡ true → is_days (columns 22 28 line) ≡ true
     → is_stp_indicator (columns 80 80 line) ≡ false → leftmost_bad_field line ≡ Some 80
-unfolding basic_checked
-basic_bad_stp_kept = search (rules, of_basic, behind_good)
+basic_bad_stp_kept = search (rules, by_kind, behind_good)
 
 -- suppose that a basic schedule is a deletion. If its STP indicator is bad, and its transaction and
 -- its runs-from date are good, the leftmost bad field is at column 80
 pub basic_bad_stp_deleted : (line : List ℕ) → HasKind basic_schedule line → is_transaction (columns 3 3 line) ≡ true → is_date (columns 10 15 line) ≡ true
     → is_deletion line ≡ true → is_stp_indicator (columns 80 80 line) ≡ false → leftmost_bad_field line ≡ Some 80
-unfolding basic_checked
-basic_bad_stp_deleted = search (rules, of_basic, behind_good)
+basic_bad_stp_deleted = search (rules, by_kind, behind_good)
 
 -- the lemmas on the leftmost bad field of a basic schedule
 pub ruleset basic_faults = (basic_bad_end, basic_bad_days, basic_bad_stp_kept, basic_bad_stp_deleted)
-
--- the checked fields of an association. The argument says whether the record is a deletion
-assoc_checked : Bool → List CheckedField
-assoc_checked deletion =
-    checked 3 3 is_transaction ∷ checked 16 21 is_date
-    ∷ cond deletion [] (checked 22 27 is_end_date ∷ checked 28 34 is_days ∷ [])
-    ++ checked 38 44 is_tiploc ∷ checked 80 80 is_stp_indicator ∷ []
-
--- the leftmost bad field of an association is the first bad field in the list of its checked fields
-of_assoc : (line : List ℕ) (deletion : Bool) → HasKind association line → is_deletion line ≡ deletion
-    → leftmost_bad_field line ≡ first_bad line (assoc_checked deletion)
-unfolding assoc_checked
-of_assoc line deletion is deletes = by_kind association line is ∙ ap (λ b. first_bad line (assoc_checked b)) deletes
 
 -- suppose that an association isn't a deletion. If its end date is bad, and the fields to the left
 -- are good, the leftmost bad field is at column 22
 pub assoc_bad_end : (line : List ℕ) → HasKind association line → is_transaction (columns 3 3 line) ≡ true → is_date (columns 16 21 line) ≡ true
     → is_deletion line ≡ false → is_end_date (columns 22 27 line) ≡ false → leftmost_bad_field line ≡ Some 22
-unfolding assoc_checked
-assoc_bad_end = search (rules, of_assoc, behind_good)
+assoc_bad_end = search (rules, by_kind, behind_good)
 
 -- suppose that an association isn't a deletion. If its days-run field is bad, and the fields to the
 -- left are good, the leftmost bad field is at column 28
 pub assoc_bad_days : (line : List ℕ) → HasKind association line → is_transaction (columns 3 3 line) ≡ true → is_date (columns 16 21 line) ≡ true
     → is_deletion line ≡ false → is_end_date (columns 22 27 line) ≡ true → is_days (columns 28 34 line) ≡ false → leftmost_bad_field line ≡ Some 28
-unfolding assoc_checked
-assoc_bad_days = search (rules, of_assoc, behind_good)
+assoc_bad_days = search (rules, by_kind, behind_good)
 
 -- suppose that an association isn't a deletion. If its TIPLOC is bad, and the fields to the left
 -- are good, the leftmost bad field is at column 38
 pub assoc_bad_place_kept : (line : List ℕ) → HasKind association line → is_transaction (columns 3 3 line) ≡ true → is_date (columns 16 21 line) ≡ true
     → is_deletion line ≡ false → is_end_date (columns 22 27 line) ≡ true → is_days (columns 28 34 line) ≡ true → is_tiploc (columns 38 44 line) ≡ false
     → leftmost_bad_field line ≡ Some 38
-unfolding assoc_checked
-assoc_bad_place_kept = search (rules, of_assoc, behind_good)
+assoc_bad_place_kept = search (rules, by_kind, behind_good)
 
 -- suppose that an association is a deletion. If its TIPLOC is bad, and its transaction and its
 -- first date are good, the leftmost bad field is at column 38
 pub assoc_bad_place_deleted : (line : List ℕ) → HasKind association line → is_transaction (columns 3 3 line) ≡ true → is_date (columns 16 21 line) ≡ true
     → is_deletion line ≡ true → is_tiploc (columns 38 44 line) ≡ false → leftmost_bad_field line ≡ Some 38
-unfolding assoc_checked
-assoc_bad_place_deleted = search (rules, of_assoc, behind_good)
+assoc_bad_place_deleted = search (rules, by_kind, behind_good)
 
 -- suppose that an association isn't a deletion. If its STP indicator is bad, and the fields to the
 -- left are good, the leftmost bad field is at column 80
 pub assoc_bad_stp_kept : (line : List ℕ) → HasKind association line → is_transaction (columns 3 3 line) ≡ true → is_date (columns 16 21 line) ≡ true
     → is_deletion line ≡ false → is_end_date (columns 22 27 line) ≡ true → is_days (columns 28 34 line) ≡ true → is_tiploc (columns 38 44 line) ≡ true
     → is_stp_indicator (columns 80 80 line) ≡ false → leftmost_bad_field line ≡ Some 80
-unfolding assoc_checked
-assoc_bad_stp_kept = search (rules, of_assoc, behind_good)
+assoc_bad_stp_kept = search (rules, by_kind, behind_good)
 
 -- suppose that an association is a deletion. If its STP indicator is bad, and the checked fields to
 -- the left are good, the leftmost bad field is at column 80
 pub assoc_bad_stp_deleted : (line : List ℕ) → HasKind association line → is_transaction (columns 3 3 line) ≡ true → is_date (columns 16 21 line) ≡ true
     → is_deletion line ≡ true → is_tiploc (columns 38 44 line) ≡ true → is_stp_indicator (columns 80 80 line) ≡ false → leftmost_bad_field line ≡ Some 80
-unfolding assoc_checked
-assoc_bad_stp_deleted = search (rules, of_assoc, behind_good)
+assoc_bad_stp_deleted = search (rules, by_kind, behind_good)
 
 -- the lemmas on the leftmost bad field of an association
 pub ruleset assoc_faults = (assoc_bad_end, assoc_bad_days, assoc_bad_place_kept, assoc_bad_place_deleted, assoc_bad_stp_kept, assoc_bad_stp_deleted)

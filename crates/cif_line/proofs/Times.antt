@@ -1,12 +1,7 @@
 -- Lemmas on times of day and on the fields from which times are read.
-use Rattle.std.proofs.Common.{◌≡◌, ℕ, List, [], ◌∷◌, true, false, cond, Bool, Some, rules}
-use Rattle.std.proofs.lemmas.Grind.{common_steps}
-use Rattle.std.proofs.Common.{None, Option, refl, length, ◌<◌, arith}
-use Rattle.std.specs.Prelude.{codes, ◌==◌, ◌||◌, slice_index, IfSome}
-use Rattle.std.specs.Str.{bytes_eq}
-use Rattle.std.proofs.lemmas.Bool.{ltb-true, lt-ltb}
-use Rattle.docker_model.specs.records.Date.{two_digits}
-use Rattle.docker_model.specs.records.Clock.{is_blank, is_clock, is_present_time, half_minutes, is_scheduled_time, scheduled_time}
+use Rattle.cif_laws.proofs.Common.{◌≡◌, ℕ, List, [], ◌∷◌, true, false, cond, Bool, Some, rules, common_steps, None, Option, refl, length, ◌<◌, arith, codes}
+use Rattle.cif_laws.proofs.Common.{◌==◌, ◌||◌, slice_index, IfSome, bytes_eq, ltb-true, lt-ltb, two_digits, is_blank, is_clock, is_present_time, half_minutes}
+use Rattle.cif_laws.proofs.Common.{is_scheduled_time, scheduled_time}
 use Rattle.cif_laws.proofs.lists.BoolsAndOptions.{both}
 use Rattle.cif_laws.proofs.records.ScheduledTimes.{present_not_blank}
 use Rattle.cif_line.specs.declared.time_field.TimeField.{TimeField}
@@ -15,22 +10,13 @@ use Rattle.cif_line.specs.CallRead.{half_minutes_or_none, number_meant}
 
 -- a field of four bytes is blank if and only if it is four spaces
 pub four_spaces : (field : List ℕ) → length field ≡ 4 → bytes_eq field (codes "    ") ≡ is_blank field
-four_spaces [] size = absurd (omega arith)
-four_spaces (a ∷ []) size = absurd (omega arith)
-four_spaces (a ∷ b ∷ []) size = absurd (omega arith)
-four_spaces (a ∷ b ∷ c ∷ []) size = absurd (omega arith)
 four_spaces (a ∷ b ∷ c ∷ d ∷ []) size = refl
-four_spaces (a ∷ b ∷ c ∷ d ∷ e ∷ field) size = absurd (omega arith)
+four_spaces _ size = absurd (omega arith)
 
 -- a field of five bytes is blank if and only if it is five spaces
 pub five_spaces : (field : List ℕ) → length field ≡ 5 → bytes_eq field (codes "     ") ≡ is_blank field
-five_spaces [] size = absurd (omega arith)
-five_spaces (a ∷ []) size = absurd (omega arith)
-five_spaces (a ∷ b ∷ []) size = absurd (omega arith)
-five_spaces (a ∷ b ∷ c ∷ []) size = absurd (omega arith)
-five_spaces (a ∷ b ∷ c ∷ d ∷ []) size = absurd (omega arith)
 five_spaces (a ∷ b ∷ c ∷ d ∷ e ∷ []) size = refl
-five_spaces (a ∷ b ∷ c ∷ d ∷ e ∷ f ∷ field) size = absurd (omega arith)
+five_spaces _ size = absurd (omega arith)
 
 -- the hour of a time HHMM is below 24
 pub hour_bound : (field : List ℕ) → is_clock field ≡ true → two_digits field 0 < 24

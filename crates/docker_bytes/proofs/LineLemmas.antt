@@ -1,7 +1,6 @@
 -- Reading a line that isn't its schedule's last line leaves the stage unchanged.
-use Rattle.std.proofs.Common.{◌≡◌, ℕ, ◌+◌, ◌*◌, ◌/◌, ◌<◌, ◌≤◌, List, [], ◌∷◌, ◌++◌, length, ap, sym, subst, arith, length-append, refl, false}
-use Rattle.std.proofs.Common.{rules}
-use Rattle.std.specs.Prelude.{Option, min}
+use Rattle.std.proofs.Common.{◌≡◌, ℕ, ◌+◌, ◌*◌, ◌/◌, ◌<◌, ◌≤◌, List, [], ◌∷◌, ◌++◌, length, ap, sym, subst, arith, length-append, refl, false, rules, Option}
+use Rattle.std.proofs.Common.{min}
 use Rattle.docker_model.specs.file.Change.{ScheduleKey}
 use Rattle.docker_model.specs.state.Stamp.{Stamp}
 use Rattle.docker_model.specs.state.State.{State}
@@ -39,11 +38,9 @@ pub line_leads : (format : Format) (at : Stage) (entries : ℕ) (key : code.Sche
     → AreLinesUpToIn state (schedule_key_meant key) n (lines ++ line ∷ [])
     → LeadsTo format (stage_meant at state lines) line at state taken × (begins_item (stage_meant at state taken) ≡ false)
 line_leads format at entries key stamp n is state lines taken line good taken_is below up_to =
-    let here : AreGood format (in_entry entries state (before_line (schedule_key_meant key) (stamp_meant stamp) n lines)) = subst
-    (λ (p : Stage). AreGood format (stage_meant p state lines)) is good in
     let size = length-append lines (line ∷ []) in
     let same : length taken ≡ length (lines ++ line ∷ []) = ap (λ (ls : List (List ℕ)). length ls) taken_is in
-    subst (λ (p : Stage). LeadsTo format (stage_meant p state lines) line p state taken × (begins_item (stage_meant p state taken) ≡ false)) (sym is) (
+    rw is (
       record {
         is = more_to_come format entries state (schedule_key_meant key) (stamp_meant stamp) n lines line taken taken_is (omega arith);
         not_bad = λ cause bad. bad.1 up_to;

@@ -1,7 +1,6 @@
 -- Reading a source: the bytes that the parser was fed are exactly the bytes that the source held.
-use Rattle.std.proofs.Common.{◌≡◌, ◌≢◌, ℕ, ◌<◌, List, [], ◌∷◌, ◌++◌, length, take, drop, refl, ap, sym, ◌∙◌, subst, inl, inr, rules}
-use Rattle.std.proofs.Common.{◌⊎◌, arith, append_assoc, append-nil, length-drop, Some, None, Err, Result}
-use Rattle.std.specs.Prelude.{Option, Ok, IfErr, IsOk, OnOk, ◌^◌}
+use Rattle.std.proofs.Common.{◌≡◌, ◌≢◌, ℕ, ◌<◌, List, [], ◌∷◌, ◌++◌, length, take, drop, refl, ap, sym, ◌∙◌, subst, inr, rules, ◌⊎◌, arith, append_assoc}
+use Rattle.std.proofs.Common.{append-nil, length-drop, Some, None, Err, Result, Option, Ok, IfErr, IsOk, OnOk, ◌^◌}
 use Rattle.std.proofs.lemmas.List.{take-append-drop}
 use Rattle.cif_device.specs.Device.{Reads, IsEnd, Held}
 use Rattle.cif_device.specs.Taken.{AfterEach, HasFed, HasRefused, LosesOnePieceMore}
@@ -40,15 +39,10 @@ not_memory : {A : Type 0} (found told : StateFault) (result : ReadFault) → (fo
     → ◌≡◌ {A = Result A ReadFault} (Err result) (Err (fault.State told)) → (found ≡ told) × (found.cause ≢ cause.Memory)
 not_memory = search (rules, memory_or_not)
 
-told_so_far : (format : Format) (limit : ℕ) (text piece rest : List ℕ) (at : ℕ) (c : StateCause) → c ≢ cause.Memory
-    → IsCauseSoFar format limit text piece at (cause_meant c)
-    → IsCauseOf format limit ((text ++ piece) ++ rest) at (cause_meant c)
-told_so_far format limit text piece rest at c other = by (cause_meant c) refl
-  where
-    by : (o : Option model.StateCause) → cause_meant c ≡ o → IsCauseSoFar format limit text piece at o → IsCauseOf format limit ((text ++ piece) ++ rest) at o
-    by None is told = other (none_is_memory c is)
-    by (Some k) is (inl bad) = inl (bad_part_stays format limit (text ++ piece) rest (record { at = at; cause = k }) bad)
-    by (Some k) is (inr long) = inr (inl (long_stays format limit (text ++ piece) rest (record { at = at; cause = k }) long))
+told_so_far : (format : Format) (limit : ℕ) (text piece rest : List ℕ) (at : ℕ) (c : Option model.StateCause) → c ≢ None
+    → IsCauseSoFar format limit text piece at c → IsCauseOf format limit ((text ++ piece) ++ rest) at c
+told_so_far format limit text piece rest at None other told = other refl
+told_so_far format limit text piece rest at (Some c) other told = search (rules, bad_part_stays, long_stays)
 
 told_at_end : (format : Format) (limit : ℕ) (text : List ℕ) (at : ℕ) (c : StateCause) → c ≢ cause.Memory → IsCauseAtEnd format limit text at (cause_meant c)
     → IsCauseOf format limit text at (cause_meant c)
@@ -62,7 +56,7 @@ pub told_as_state : {A : Type 0} (format : Format) (limit : ℕ) (text piece res
     → IsFaultOf format limit ((text ++ piece) ++ rest) told
 told_as_state format limit text piece rest found told result so_far memory state is =
     let same = not_memory found told result memory state is in
-    subst (IsFaultOf format limit ((text ++ piece) ++ rest)) same.0 (told_so_far format limit text piece rest found.at found.cause same.1 so_far)
+    rw (← same.0) (told_so_far format limit text piece rest found.at _ (λ none. same.1 (none_is_memory _ none)) so_far)
 
 -- at the end of a text, a parser's fault becomes a fault of the text or, if the text is complete, the read fault `Memory`
 pub ended_for : {A : Type 0} (format : Format) (limit : ℕ) (text : List ℕ) (IsMade : A → Type 0) (found : StateFault) (result : ReadFault)
@@ -152,11 +146,7 @@ refuses_more before after piece (Err told) state memory source = λ settings tex
 
 -- the text that was read up to the end of a source is the text that the source held
 held_all : (initial now : Option (List ℕ)) (text : List ℕ) → Reads initial text now → IsEnd now → Held initial text
-held_all None now text lost end = tt
-held_all (Some told) None text lost end = cc
-held_all (Some told) (Some rest) text lost end =
-    let same : told ≡ text ++ rest = cc in
-    same ∙ ap (λ r. text ++ r) end ∙ append-nil text
+held_all = search (rules, append-nil)
 
 -- if a parser was fed from a source until the source ended, it has read all bytes that the source
 -- held
@@ -174,35 +164,25 @@ unread = search rules
 -- which the parser was made
 pub as_asked : {K : Type 0} (parser : ParserState K) (format : Format) (limit : ℕ) (text : List ℕ) (P : Format → ℕ → Type 0) → HasRead parser format limit text
     → P (format_of parser.reading) parser.reading.limit → P format limit
-as_asked parser format limit text P has told = subst (λ n. P format n) has.limit_is (subst (λ f. P f parser.reading.limit) has.format_is told)
+as_asked = search rules
 
 -- a fault that is returned for a piece is a fault of the text that the source held
 refused_within : {K : Type 0} (settings : StateSettings) (initial next : Option (List ℕ)) (parser : ParserState K) (found : StateFault)
     → HasRefused TakesState RefusesPart 65536 settings [] initial next parser (fault.State found) → RefusesState settings.format settings.limit initial found
-refused_within settings initial next parser found has = by initial next has.more.lost
-  where
-    text : List ℕ
-    text = has.more.bytes ++ has.more.piece
-
-    of : (rest : List ℕ) → IsFaultOf settings.format settings.limit (text ++ rest) found
-    of = has.refused.state found refl
-
-    by : (initial next : Option (List ℕ)) → Reads initial text next → RefusesState settings.format settings.limit initial found
-    by None next lost = record { text = text ++ []; held = tt; is = of [] }
-    by (Some left) None lost = cc
-    by (Some left) (Some rest) lost = record { text = text ++ rest; held = cc; is = of rest }
+refused_within settings None None parser found has = record { text = _; held = tt; is = has.refused.state found refl [] }
+refused_within settings (Some left) None parser found has = let never : ⊥ = let lost = has.more.lost in cc in absurd never
+refused_within settings None (Some rest) parser found has = let never : ⊥ = let lost = has.more.lost in cc in absurd never
+refused_within settings (Some left) (Some rest) parser found has = record {
+  text = (has.more.bytes ++ has.more.piece) ++ rest;
+  held = (let lost = has.more.lost in cc);
+  is = has.refused.state found refl rest;
+}
 
 -- the bytes read from the source are the text that the parser took, which has no fault, followed by
 -- at most one piece
 pub loses_few : {K : Type 0} (settings : StateSettings) (initial next : Option (List ℕ)) → LosesOnePieceMore (TakesState {K = K}) 65536 settings [] initial next
     → ReadsOnePieceMore settings.format 65536 settings.limit initial next
-loses_few settings initial next more = record {
-  text = more.bytes;
-  piece = more.piece;
-  lost = more.lost;
-  few = more.few;
-  sound = sound_text more.taker settings.format settings.limit more.bytes more.taken.read;
-}
+loses_few settings initial next more = search (rules, (sound_text more.taker settings.format settings.limit more.bytes more.taken.read))
 
 -- if a parser refuses a piece because memory ran out, there was no memory for a part that ends in the piece
 wants_part : {K : Type 0} (settings : StateSettings) (initial next : Option (List ℕ)) (parser : ParserState K)
@@ -240,20 +220,12 @@ pub ends_whole : {K A : Type 0} (format : Format) (limit : ℕ) (initial next : 
     → ((text : List ℕ) (made : A) → Held initial text → IsMade text made → IsRead made)
     → StopsReading format limit initial next (IsOutcome WantsMemory as_it_is format limit IsRead initial next result)
     (CountsOutcome as_it_is failed failed_now result)
-ends_whole {A = A} format limit initial next parser failed failed_now IsMade IsRead result read ends of = by result (ends all.text all.read)
-  where
-    all : ReadsAll format limit initial parser
-    all = read.outcome
-
-    by : (result : Result A ReadFault) → EndsText format limit all.text (IsMade all.text) result
-        → StopsReading format limit initial next (IsOutcome WantsMemory as_it_is format limit IsRead initial next result)
-        (CountsOutcome as_it_is failed failed_now result)
-    by (Ok made) is = record { few = read.few; outcome = of all.text made all.held is; failures = read.failures }
-    by (Err fault.Source) is = absurd is
-    by (Err (fault.State found)) is =
-        record { few = read.few; outcome = record { text = all.text; held = all.held; is = is }; failures = read.failures }
-    by (Err fault.Memory) is =
-        record { few = read.few; outcome = inr (inr (is.0, record { text = all.text; held = all.held; is = is.1 })); failures = read.failures }
+ends_whole format limit initial next parser failed failed_now IsMade IsRead (Ok made) read ends of = search rules
+ends_whole format limit initial next parser failed failed_now IsMade IsRead (Err fault.Source) read ends of = absurd (ends _ read.outcome.read)
+ends_whole format limit initial next parser failed failed_now IsMade IsRead (Err (fault.State found)) read ends of = search rules
+ends_whole format limit initial next parser failed failed_now IsMade IsRead (Err fault.Memory) read ends of =
+    let is = ends _ read.outcome.read in
+    record { few = read.few; outcome = inr (inr (is.0, record { text = _; held = read.outcome.held; is = is.1 })); failures = read.failures }
 
 -- if `IsMade` implies `IsRead`, and reading ends with a value for which `IsMade` holds, then reading ends with a value for which `IsRead` holds
 pub ends_with : {S A E : Type 0} (wants : Wanting) (why : E → Option ReadFault) (left : S → Option (List ℕ)) (failures : S → ℕ) (format : Format) (limit : ℕ)
@@ -266,7 +238,7 @@ ends_with = search rules
 -- that was read is the text of this state
 pub made_itself : (format : Format) (limit : ℕ) (text : List ℕ) (made : State) → IsMadeOf (λ made state. made ≡ state) format limit text made
     → IsStateText format limit text made
-made_itself format limit text made of = subst (IsStateText format limit text) (sym of.made_of) of.is
+made_itself = search rules
 
 -- if the value that a keeper makes is the state itself, it is the state whose text the source held
 pub read_itself : (format : Format) (limit : ℕ) (initial : Option (List ℕ)) (made : State) → ReadsMade (λ made state. made ≡ state) format limit initial made

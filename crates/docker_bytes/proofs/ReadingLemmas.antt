@@ -1,12 +1,11 @@
 -- Reading the text of a state part by part.
-use Rattle.std.proofs.Common.{◌≡◌, ℕ, suc, ◌+◌, ◌-◌, ◌<◌, ◌≤◌, List, [], ◌∷◌, ◌++◌, length, take, get_or, refl, ap, sym, ◌∙◌, subst, inl, inr}
-use Rattle.std.proofs.Common.{◌⊎◌, arith, true, false, nat_le, append_assoc, append-nil, length-append, Some, None, rules}
-use Rattle.std.specs.Prelude.{Option}
+use Rattle.std.proofs.Common.{◌≡◌, ℕ, suc, ◌+◌, ◌-◌, ◌<◌, ◌≤◌, List, [], ◌∷◌, ◌++◌, length, take, get_or, ap, sym, ◌∙◌, ◌⊎◌, arith, true, false, nat_le}
+use Rattle.std.proofs.Common.{append_assoc, append-nil, length-append, Some, None, rules, Option}
 use Rattle.docker_model.specs.file.Change.{ScheduleKey}
 use Rattle.docker_model.specs.state.Stamp.{Stamp, LedgerItem}
 use Rattle.docker_model.specs.state.State.{State}
 use Rattle.docker_model.specs.state.StateText.{Format}
-use Rattle.docker_model.specs.state.StateFault.{StateCause, too_short, IsBadPart, HasBadPart, IsLong}
+use Rattle.docker_model.specs.state.StateFault.{StateCause, too_short, IsBadPart}
 use Rattle.docker_model.specs.state.StatePart.{EntryPart, Before}
 use Rattle.docker_model.specs.state.StatePart.{in_entry}
 use Rattle.docker_model.specs.state.StatePart.{items_before, parts_before, text_before, width, AreGood}
@@ -88,29 +87,13 @@ part_refused = search (rules, append_assoc, append-nil, length-append)
 pub told_stays : (format : Format) (limit : ℕ) (text read front behind : List ℕ) (at : ℕ) (cause : Option StateCause)
     → IsCauseSoFar format limit (text ++ read) front at cause
     → IsCauseSoFar format limit text ((read ++ front) ++ behind) at cause
-told_stays format limit text read front behind at cause = by cause
-  where
-    whole : text ++ ((read ++ front) ++ behind) ≡ ((text ++ read) ++ front) ++ behind
-    whole = sym (append_assoc text (read ++ front) behind) ∙ ap (λ xs. xs ++ behind) (sym (append_assoc text read front))
-
-    by : (cause : Option StateCause) → IsCauseSoFar format limit (text ++ read) front at cause
-        → IsCauseSoFar format limit text ((read ++ front) ++ behind) at cause
-    by None wanting = record {
-      before = wanting.before;
-      good = wanting.good;
-      bytes = wanting.bytes;
-      rest = wanting.rest ++ behind;
-      whole = whole ∙ ap (λ xs. xs ++ behind) wanting.whole ∙ append_assoc (text_before format wanting.before ++ wanting.bytes) wanting.rest behind;
-      size = wanting.size;
-      below_limit = wanting.below_limit;
-      here = wanting.here;
-      ends_in_piece = (let size = length-append text read in let ends = wanting.ends_in_piece in omega arith);
-      item_at = wanting.item_at;
-    }
-    by (Some told) (inl bad) =
-        inl (subst (λ xs. HasBadPart format limit xs (record { at = at; cause = told })) (sym whole) (bad_part_stays _ _ _ _ _ bad))
-    by (Some told) (inr long) =
-        inr (subst (λ xs. IsLong format limit xs (record { at = at; cause = told })) (sym whole) (long_stays _ _ _ _ _ long))
+told_stays format limit text read front behind at None = λ wanting.
+    let whole = append_assoc (text_before format wanting.before ++ wanting.bytes) wanting.rest behind in
+    let all : text ++ ((read ++ front) ++ behind) ≡ ((text ++ read) ++ front) ++ behind = search (rules, append_assoc) in
+    search (rules, length-append, (all ∙ ap (λ xs. xs ++ behind) wanting.whole ∙ whole))
+told_stays format limit text read front behind at (Some told) =
+    let all : text ++ ((read ++ front) ++ behind) ≡ ((text ++ read) ++ front) ++ behind = search (rules, append_assoc) in
+    rw all (search (rules, bad_part_stays, long_stays))
 
 -- if bytes are taken from the front of the rest, they are appended to the bytes before the rest
 pub rest_more : (piece rest front behind : List ℕ) → before_rest piece rest ++ rest ≡ piece → rest ≡ front ++ behind
@@ -150,10 +133,7 @@ module _ {K : Type 0} (initial now : StateReading K) (piece rest : List ℕ) (wh
   told_of_piece front behind at cause split told =
       let all = rest_more _ _ _ _ whole split in
       let parted : (before_rest piece rest ++ front) ++ behind ≡ piece = ap (λ xs. xs ++ behind) (sym all.0) ∙ all.1 in
-      subst (λ xs. IsCauseSoFar (format_of initial) initial.limit (text_of initial) xs at cause) parted (told_stays _ _ _ _ _ _ _ _
-      (subst (λ f. IsCauseSoFar f initial.limit (text_of initial ++ before_rest piece rest) front at cause) on.format
-      (subst (λ n. IsCauseSoFar (format_of now) n (text_of initial ++ before_rest piece rest) front at cause) on.limit
-      (subst (λ xs. IsCauseSoFar (format_of now) now.limit xs front at cause) on.text told))))
+      rw (← parted) (told_stays _ _ _ _ _ _ _ _ (rw (on.text, on.format, on.limit) at told))
 
   -- if the first bytes of the rest were read, the piece was read up to the end of these bytes
   pub reads_further : (next : StateReading K) (front behind : List ℕ) → rest ≡ front ++ behind → ReadsOn now next front
@@ -163,24 +143,7 @@ module _ {K : Type 0} (initial now : StateReading K) (piece rest : List ℕ) (wh
   -- if the rest ends before the next part ends, the state needs more bytes after the piece
   pub open_text : (next : StateReading K) → length now.partial.items + length rest < width (before_of now) → ReadsOn now next rest
       → IsOpen (format_of initial) initial.limit (text_of initial ++ piece)
-  open_text next short further =
-      subst (λ f. IsOpen f initial.limit (text_of initial ++ piece)) on.format
-      (subst (λ n. IsOpen (format_of now) n (text_of initial ++ piece)) on.limit
-      (subst (IsOpen (format_of now) now.limit) all_text (
-        record { at = length (items_before (format_of now) (before_of now)); cause = too_short },
-        record {
-          before = before_of now;
-          good = on.reading.ready.good;
-          rest = now.partial.items ++ rest;
-          whole = append_assoc (text_before (format_of now) (before_of now)) now.partial.items rest;
-          ends = (let size = length-append now.partial.items rest in omega arith);
-          within =
-              (let sizes = sym (ap length further.text) ∙ length-append (text_before (format_of next) (before_of next)) next.partial.items in
-              let reached = further.reading.reached_is in
-              let within = further.reading.within in
-              let same = further.limit in
-              omega arith);
-          cause = refl;
-          item_at = refl;
-        },
-      )))
+  open_text next short further = rw (← all_text, ← on.format, ← on.limit) (
+    record { at = length (items_before (format_of now) (before_of now)); cause = too_short },
+    search (rules, append_assoc, length-append),
+  )

@@ -1,11 +1,10 @@
 -- If a reading has no next part, the text that was read is the text of a whole state. Otherwise it
 -- isn't.
-use Rattle.std.proofs.Common.{◌≡◌, ℕ, ◌<◌, ◌≤◌, List, length, refl, ap, sym, ◌∙◌, subst, inl, inr, ◌⊎◌, arith, append-nil, length-append, None}
+use Rattle.std.proofs.Common.{◌≡◌, ℕ, ◌<◌, List, length, ap, sym, ◌∙◌, inl, inr, ◌⊎◌, arith, append-nil, length-append, None, rules}
 use Rattle.std.proofs.lemmas.Grind.{common_steps}
-use Rattle.std.proofs.Common.{rules}
 use Rattle.docker_model.specs.state.State.{State}
 use Rattle.docker_model.specs.state.StateText.{Format}
-use Rattle.docker_model.specs.state.StatePart.{at_end, items_before, text_before, width}
+use Rattle.docker_model.specs.state.StatePart.{at_end, items_before, width}
 use Rattle.docker_model.specs.state.StateFault.{too_short, IsShort, IsStateText}
 use Rattle.state_laws.proofs.texts.TextOrFault.{end_or_part}
 use Rattle.state_laws.proofs.texts.OneStateFault.{no_fault_of_state}
@@ -43,20 +42,8 @@ short_at_end = search (rules, length-append)
 -- if there is a next part, the state needs more bytes
 pub open_reading : {K : Type 0} (reading : StateReading K) → IsReading reading → 0 < width (before_of reading)
     → IsOpen (format_of reading) reading.limit (text_of reading)
-open_reading reading is some = (
-  record { at = length (items_before (format_of reading) (before_of reading)); cause = too_short },
-  record {
-    before = before_of reading;
-    good = is.ready.good;
-    rest = reading.partial.items;
-    whole = refl;
-    ends = (let short = is.short in omega arith);
-    within = (let size = length-append (text_before (format_of reading) (before_of reading)) reading.partial.items in let reached = is.reached_is in
-        let within = is.within in omega arith);
-    cause = refl;
-    item_at = refl;
-  },
-)
+open_reading reading is some =
+    (record { at = length (items_before (format_of reading) (before_of reading)); cause = too_short }, search (rules, length-append))
 
 -- if the state needs more bytes after a text, the text isn't the text of a whole state
 pub not_both : (format : Format) (limit : ℕ) (text : List ℕ) → IsOpen format limit text → ¬ IsWhole format limit text
@@ -66,29 +53,14 @@ not_both format limit text open_one whole = no_fault_of_state format limit text 
 -- text of a whole state
 pub sound_text : {K : Type 0} (parser : ParserState K) (format : Format) (limit : ℕ) (text : List ℕ) → HasRead parser format limit text
     → IsOpen format limit text ⊎ IsWhole format limit text
-sound_text parser format limit text has = subst (λ f. IsOpen f limit text ⊎ IsWhole f limit text) has.format_is
-    (subst (λ n. IsOpen (format_of parser.reading) n text ⊎ IsWhole (format_of parser.reading) n text) has.limit_is
-    (subst (λ xs. IsOpen (format_of parser.reading) parser.reading.limit xs ⊎ IsWhole (format_of parser.reading) parser.reading.limit xs) has.text_is
-    (by (cases_lt 0 (width (before_of parser.reading))))))
-  where
-    by : (0 < width (before_of parser.reading)) ⊎ (width (before_of parser.reading) ≤ 0)
-        → IsOpen (format_of parser.reading) parser.reading.limit (text_of parser.reading) ⊎ IsWhole (format_of parser.reading) parser.reading.limit
-        (text_of parser.reading)
-    by (inl some) = inl (open_reading _ has.sound some)
-    by (inr none) = inr (parser.reading.parts, whole_text _ has.sound (omega arith))
+sound_text parser format limit text has = rw (← has.text_is, ← has.limit_is, ← has.format_is) (elim (cases_lt 0 (width (before_of parser.reading))) [
+  | inl some ↦ inl (open_reading _ has.sound some)
+  | inr none ↦ inr (parser.reading.parts, whole_text _ has.sound (omega arith))
+])
 
 -- if there is a next part, the text that a parser has read isn't whole
 pub not_whole_yet : {K : Type 0} (parser : ParserState K) (reading : StateReading K) (format : Format) (limit : ℕ) (text : List ℕ) → parser.reading ≡ reading
     → HasRead parser format limit text → ¬ (width (before_of reading) ≡ 0) → ¬ IsWhole format limit text
-not_whole_yet parser reading format limit text same has some whole =
-    let read = open_reading _ has.sound (above_none (width (before_of parser.reading)) (λ none. some (sym (ap (λ r. width (before_of r)) same) ∙ none))) in
-    not_both _ _ _ (subst (λ f. IsOpen f limit text) has.format_is
-    (subst (λ n. IsOpen (format_of parser.reading) n text) has.limit_is (subst (IsOpen (format_of parser.reading) parser.reading.limit) has.text_is read)))
-    whole
-  where
-    above_none : (n : ℕ) → ¬ (n ≡ 0) → 0 < n
-    above_none n not_none = by (cases_lt 0 n)
-      where
-        by : (0 < n) ⊎ (n ≤ 0) → 0 < n
-        by (inl some) = some
-        by (inr few) = absurd (not_none (omega arith))
+not_whole_yet parser reading format limit text same has some =
+    let none : ¬ (width (before_of parser.reading) ≡ 0) = λ none. some (sym (ap (λ r. width (before_of r)) same) ∙ none) in
+    not_both _ _ _ (rw (← has.text_is, ← has.limit_is, ← has.format_is) (open_reading _ has.sound (omega arith)))

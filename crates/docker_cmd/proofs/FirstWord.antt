@@ -1,10 +1,9 @@
 -- How `clap` reads a command whose first word is the name of a subcommand. The definitions of
 -- `clap` say that it walks over the words and stops at the subcommand's name.
-use Rattle.std.proofs.Common.{◌≡◌, ◌∙◌, ◌++◌, true, false, refl, sym, ap, ap₂, List, [], ◌∷◌, Some, None, is_some, codes, option_map, rules}
-use Rattle.std.specs.List.{find, fold}
+use Rattle.cif_laws.proofs.Common.{◌≡◌, ◌∙◌, ◌++◌, true, false, refl, sym, ap, ap₂, List, [], ◌∷◌, Some, None, is_some, codes, option_map, rules, find, fold}
 use Rattle.std.proofs.Math.Bool.{and-false}
-use Rattle.clap.specs.Walk.{Held, Names, Step, Text, Walk, after_step, answers_to, idle, nothing_held}
-use Rattle.clap.specs.Walk.{subcommand, subcommand_met, subcommand_or_other, walk, walk_from, walked, word_met}
+use Rattle.clap.specs.Walk.{Names, Text, Walk, answers_to, idle, nothing_held}
+use Rattle.clap.specs.Walk.{subcommand, subcommand_met, walk, walk_from, walked, word_met}
 use Rattle.clap.specs.Simple.{App, Shape, entered, label_of, names_of, rows_at}
 use Rattle.clap.specs.Faults.{built_fault, defaults_fault, level_fault}
 use Rattle.clap.specs.Faults.{turn_fault, walk_fault}
@@ -55,12 +54,12 @@ module _ (subs : List Shape) (s : Shape) (name : Text) (words : List Text)
 
   -- `clap`'s walk over the words recognises the first word as a subcommand's name
   named_met : word_met [] names false idle 1 name nothing_held ≡ (nothing_held, subcommand name)
-  named_met = ap (λ o. subcommand_or_other [] o idle 1 name nothing_held) met
+  named_met = search rules
 
   -- `clap`'s walk over the words stops at the subcommand's name
   named_walked : walked [] names (walk_from nothing_held) name ≡ after_name name []
   unfolding walked
-  named_walked = ap (λ (p : Held × Step). after_step [] name (walk_from nothing_held) p.0 p.1) named_met
+  named_walked = search (rules, named_met)
 
   -- `clap`'s walk leaves the words after the name to the subcommand
   named_walk : walk [] names nothing_held (name ∷ words) ≡ after_name name words
@@ -73,7 +72,7 @@ module _ (subs : List Shape) (s : Shape) (name : Text) (words : List Text)
   -- `clap`'s walk over the name and the words after it finds no fault
   named_walk_fault : walk_fault built_top names (walk_from nothing_held) (name ∷ words) ≡ []
   unfolding walk_fault
-  named_walk_fault = ap₂ or_else named_turn (ap (λ w. walk_fault built_top names w words) named_walked ∙ no_later_fault names name [] words)
+  named_walk_fault = search (rules, named_turn, named_walked, no_later_fault)
 
   -- the faults of the command are the faults that the subcommand finds in the words after its name
   pub named_fault : built_fault (built_with subs) nothing_held (name ∷ words) ≡ level_fault s [] nothing_held words false []

@@ -1,8 +1,6 @@
 -- Looking up the words of several arguments by their ids, one id after another.
-use Rattle.std.proofs.Common.{◌≡◌, ◌∙◌, ◌<◌, ◌+◌, ℕ, List, [], ◌∷◌, ◌++◌, length, drop, None, option_map, ap, slice_index_or}
-use Rattle.std.proofs.Common.{rules}
-use Rattle.std.specs.Prelude.{Option, option_and_then}
-use Rattle.std.specs.Borrow.{Bor}
+use Rattle.cif_laws.proofs.Common.{◌≡◌, ◌∙◌, ◌<◌, ◌+◌, ℕ, List, [], ◌∷◌, ◌++◌, length, drop, None, option_map, ap, slice_index_or, rules, Option}
+use Rattle.cif_laws.proofs.Common.{option_and_then, Bor}
 use Rattle.std.proofs.lemmas.List.{drop_more}
 use Rattle.clap.specs.Walk.{Row, first_of}
 use Rattle.docker_cmd.specs.Words.{Text, texts}

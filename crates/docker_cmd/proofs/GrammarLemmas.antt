@@ -1,6 +1,5 @@
 -- What `clap` returns for the words of a command.
-use Rattle.std.proofs.Common.{◌≡◌, true, refl, subst, List, IfOk, Result}
-use Rattle.std.proofs.lemmas.Result.{IfOk-weaker}
+use Rattle.cif_laws.proofs.Common.{◌≡◌, true, refl, subst, List, IfOk, Result, IfOk-weaker}
 use Rattle.clap.specs.Words.{App, FailsBy, Text, fault_of, is_simple_and_free, subcommand_of, subcommand_rows_of}
 use Rattle.clap.specs.Simple.{HasMatchesOf, is_simple}
 use Rattle.clap.specs.declared.error.Error.{Error}

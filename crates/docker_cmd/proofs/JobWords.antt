@@ -1,11 +1,8 @@
 -- `clap` accepts words if and only if they name a subcommand. If `clap` accepts the words, it finds
 -- the subcommand that they name, and the words after its name.
-use Rattle.std.proofs.Common.{◌≡◌, ◌∙◌, ◌⊎◌, ◌||◌, inl, inr, Bool, cond, true, false, refl, sym, ap, subst, rules}
-use Rattle.std.proofs.lemmas.Grind.{common_steps}
-use Rattle.std.proofs.Common.{List, [], ◌∷◌, length, map, Some, None, option_map, true≢false, arith}
-use Rattle.std.specs.List.{find, list_all}
-use Rattle.std.specs.Str.{bytes_eq}
-use Rattle.std.proofs.lemmas.Slice.Eq.{bytes_eq-Decides}
+use Rattle.cif_laws.proofs.Common.{◌≡◌, ◌∙◌, ◌⊎◌, inl, inr, true, false, refl, ap, rules, common_steps, List, [], ◌∷◌, length, map, Some, None, option_map}
+use Rattle.cif_laws.proofs.Common.{true≢false, arith, find, list_all, bytes_eq, bytes_eq-Decides}
+use Rattle.std.proofs.lemmas.Bool.{cases_Bool}
 use Rattle.clap.specs.Walk.{Text, answers_to, is_empty}
 use Rattle.clap.specs.Simple.{label_of, subcommand_of}
 use Rattle.clap.specs.Faults.{fault_of}
@@ -87,10 +84,8 @@ module _ (s : Subcommand) (words : List Text) (plain : list_all is_plain_word wo
       found = found_at_name ∙ words_at_name is.0;
     })
     | inr never ↦ inr (record {
-      fault = λ empty. true≢false (sym (ap is_empty (sym fault_at_name ∙ empty)) ∙ never.1);
-      names_none = λ t behind are.
-          let same = same_subcommand s t (ap first_word are.whole) in
-          never.0 (ap length (ap other_words are.whole) ∙ are.count ∙ ap (λ (u : Subcommand). length (ids_of u)) (sym same));
+      fault = search (rules, fault_at_name, true≢false);
+      names_none = search (rules, same_subcommand, first_word, other_words);
     })
   ]
 
@@ -104,14 +99,13 @@ IsNoneOf word (s ∷ ss) = (bytes_eq (name_of s) word ≡ false) × IsNoneOf wor
 -- if the word isn't the name of any subcommand in a list, `clap` doesn't recognise the word
 none_answers : (word : Text) (ss : List Subcommand) → IsNoneOf word ss → find (answers_to word) (map label_of (map leaf_of ss)) ≡ None
 none_answers word [] none = refl
-none_answers word (s ∷ ss) none = ap (λ b. cond (b || false) (Some (name_of s, [])) (find (answers_to word) (map label_of (map leaf_of ss)))) none.0
-    ∙ none_answers _ ss none.1
+none_answers word (s ∷ ss) none = search (rules, (none_answers word ss))
 
 -- if the word isn't the name of any subcommand in a list, a search of the list by name returns
 -- `None`
 none_found : (word : Text) (ss : List Subcommand) → IsNoneOf word ss → find (λ s. bytes_eq (name_of s) word) ss ≡ None
 none_found word [] none = refl
-none_found word (s ∷ ss) none = ap (λ b. cond b (Some s) (find (λ t. bytes_eq (name_of t) word) ss)) none.0 ∙ none_found word ss none.1
+none_found word (s ∷ ss) none = search (rules, (none_found word ss))
 
 -- the table has every subcommand: a word that isn't the name of any subcommand in the table isn't
 -- the name of `s`
@@ -128,11 +122,10 @@ unnamed_judged = search (rules, unnamed_fault, leaves, both, option_map, none_an
 by_name : (word : Text) (words : List Text) → list_all is_plain_word words ≡ true → (ss : List Subcommand) → (IsNoneOf word ss → Judged (word ∷ words))
     → Judged (word ∷ words)
 by_name word words plain [] unnamed = unnamed tt
-by_name word words plain (s ∷ ss) unnamed = by (bytes_eq (name_of s) word) refl (λ differ. by_name word words plain ss (λ none. unnamed (differ, none)))
-  where
-    by : (b : Bool) → bytes_eq (name_of s) word ≡ b → (bytes_eq (name_of s) word ≡ false → Judged (word ∷ words)) → Judged (word ∷ words)
-    by true same rest = subst (λ w. Judged (w ∷ words)) ((bytes_eq-Decides (name_of s) word).0 same) (named_judged s words plain)
-    by false differ rest = rest differ
+by_name word words plain (s ∷ ss) unnamed = elim (cases_Bool (bytes_eq (name_of s) word)) [
+  | inl same ↦ rw (← (bytes_eq-Decides (name_of s) word).0 same) (named_judged s words plain)
+  | inr differ ↦ by_name word words plain ss (λ none. unnamed (differ, none))
+]
 
 -- `clap` either accepts or refuses plain words
 pub judged : (words : List Text) → list_all is_plain_word words ≡ true → Judged words

@@ -1,10 +1,8 @@
 -- Splitting a line into words, piece by piece.
-use Rattle.std.proofs.Common.{◌≡◌, ℕ, ◌<◌, List, [], ◌∷◌, ◌++◌, length, ap, ◌∙◌, false, arith, append-nil}
-use Rattle.std.proofs.Common.{rules}
-use Rattle.std.specs.Prelude.{◌==◌, not, filter}
-use Rattle.std.specs.List.{position_or_len, before_first, after_first, AllByRecursion}
-use Rattle.std.proofs.lemmas.List.Elements.{All-from_recursion}
-use Rattle.std.proofs.lemmas.List.Splits.{slice_split_first, slice_split_none}
+use Rattle.cif_laws.proofs.Common.{◌≡◌, ℕ, ◌<◌, List, [], ◌∷◌, ◌++◌, length, false, arith, append-nil, rules, ◌==◌, not, filter, position_or_len}
+use Rattle.cif_laws.proofs.Common.{AllByRecursion, All-from_recursion, slice_split_none}
+use Rattle.std.specs.List.{before_first, after_first}
+use Rattle.std.proofs.lemmas.List.Splits.{slice_split_first}
 use Rattle.docker_cmd.specs.JobLine.{is_space, word_or_none, words_in}
 
 -- the words in a list of pieces are the first piece, if it isn't empty, followed by the words in
@@ -26,5 +24,4 @@ no_space (b ∷ text) none = grind (arith, (no_space text))
 
 -- if a line has no space, the whole line is one word, unless the line is empty and has no words
 pub words_without_space : (text : List ℕ) → position_or_len is_space text ≡ length text → words_in text ≡ word_or_none text
-words_without_space text none = ap (filter (λ word. not (length word == 0))) (slice_split_none is_space text (All-from_recursion _ text (no_space text none)))
-    ∙ first_apart _ [] ∙ append-nil (word_or_none text)
+words_without_space = search (rules, slice_split_none, All-from_recursion, no_space, first_apart, append-nil)

@@ -1,8 +1,5 @@
 -- Lemmas on writing a docker, given the contract of the office that prints it.
-use Rattle.std.proofs.Common.{◌≡◌, ◌≢◌, ◌+◌, ◌⊎◌, ℕ, List, Err, rules}
-use Rattle.std.specs.Prelude.{IfErr, IsOk, Result, ⊤}
-use Rattle.docker_model.specs.state.Lapse.{IsDayRefused}
-use Rattle.docker_model.specs.state.State.{State}
+use Rattle.cif_laws.proofs.Common.{◌≡◌, ◌≢◌, ◌+◌, ◌⊎◌, ℕ, List, Err, rules, IfErr, IsOk, Result, ⊤, IsDayRefused, State}
 use Rattle.docker_office.specs.Faults.{IsOfDocker}
 use Rattle.docker_office.specs.Office.{PrintsDocker, PrintsPart}
 use Rattle.docker_office.specs.declared.fault.OfficeFault.{OfficeFault}

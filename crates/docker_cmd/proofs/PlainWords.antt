@@ -1,9 +1,7 @@
 -- How `clap` reads a plain word: as a value, or as a subcommand's name. A plain word isn't empty
 -- and doesn't begin with a hyphen.
-use Rattle.std.proofs.Common.{◌≡◌, ℕ, true, false, ap, List, [], ◌∷◌, None, rules}
-use Rattle.std.specs.Option.{option_and_then}
-use Rattle.std.specs.Str.{bytes_eq}
-use Rattle.clap.specs.Lexer.{long_of, long_of_rest, short_of, short_of_rest, strip_byte}
+use Rattle.cif_laws.proofs.Common.{◌≡◌, ℕ, true, false, List, [], ◌∷◌, None, rules, bytes_eq}
+use Rattle.clap.specs.Lexer.{long_of, short_of, strip_byte}
 use Rattle.clap.specs.Walk.{Held, Names, Rule, Text, Walk, arg_by_index, idle}
 use Rattle.clap.specs.Walk.{subcommand_met, to_positional, value, walk_from, walked, word_met}
 use Rattle.clap.specs.Simple.{Shape}
@@ -23,11 +21,11 @@ no_hyphen = search (rules, is_false)
 
 -- a plain word isn't a long option
 no_long : (word : Text) → is_plain_word word ≡ true → long_of word ≡ None
-no_long word plain = ap (λ rest. option_and_then long_of_rest (option_and_then (strip_byte 45) rest)) (no_hyphen word plain)
+no_long = search (rules, no_hyphen)
 
 -- a plain word isn't a bundle of short options
 no_short : (word : Text) → is_plain_word word ≡ true → short_of word ≡ None
-no_short word plain = ap (option_and_then short_of_rest) (no_hyphen word plain)
+no_short = search (rules, no_hyphen)
 
 -- a plain word isn't a double hyphen
 no_double_hyphen : (word : Text) → is_plain_word word ≡ true → bytes_eq word (45 ∷ 45 ∷ []) ≡ false

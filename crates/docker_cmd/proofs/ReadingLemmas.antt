@@ -1,11 +1,8 @@
 -- The result of reading two sources follows from the results of reading each source.
-use Rattle.std.proofs.Common.{◌≡◌, ℕ, Err, rules}
-use Rattle.std.specs.Prelude.{Result}
+use Rattle.cif_laws.proofs.Common.{◌≡◌, ℕ, Err, rules, Result, most_records, Format, dks_2}
 use Rattle.cif_file.specs.FileEnds.{CountsWhyNoFile, IsWhyNoFile, StopsReadingFile}
 use Rattle.cif_file.specs.SourceRead.{WantsAtStart}
 use Rattle.cif_file.specs.declared.fault.FileReadFault as files
-use Rattle.docker_model.specs.file.File.{most_records}
-use Rattle.docker_model.specs.state.StateText.{Format, dks_2}
 use Rattle.docker_bytes.specs.ReadEnds.{CountsWhy, IsWhyUnread, StopsReading}
 use Rattle.docker_bytes.specs.SourceRead.{WantsMemory}
 use Rattle.docker_office.specs.Faults.{office_fault_of_file}

@@ -1,25 +1,21 @@
 -- How `clap` reads the words after a subcommand's name, if the subcommand requires words.
-use Rattle.std.proofs.Common.{◌≡◌, ◌∙◌, ◌+◌, ◌&&◌, ◌||◌, ℕ, Bool, cond, true, false, not, min, map, refl, sym, ap, rules}
-use Rattle.std.proofs.Common.{subst, true≢false, List, [], ◌∷◌, ◌++◌, Some, None, append_assoc, append-nil}
-use Rattle.std.specs.List.{find, fold, list_all, list_any}
-use Rattle.std.specs.Str.{bytes_eq}
-use Rattle.std.proofs.lemmas.Slice.Eq.{bytes_eq-Decides}
-use Rattle.clap.specs.Facts.{explicit_source}
-use Rattle.std.specs.Option.{option_map_or}
+use Rattle.cif_laws.proofs.Common.{◌≡◌, ◌∙◌, ◌+◌, ◌&&◌, ◌||◌, ℕ, Bool, cond, true, false, not, map, refl, rules, true≢false, List, [], ◌∷◌, ◌++◌, Some, None}
+use Rattle.cif_laws.proofs.Common.{append_assoc, append-nil, fold, list_all, list_any, bytes_eq-Decides}
+use Rattle.std.proofs.Common.{min}
 use Rattle.std.proofs.Math.Bool.{and-false, or-true}
 use Rattle.clap.specs.Lexer.{usize_max}
-use Rattle.clap.specs.Walk.{Held, Row, Rule, Text, arg_by_id, arg_by_index, at_row, has_row, is_pending, nothing_held, reading_by}
-use Rattle.clap.specs.Walk.{rows_after, settled, settled_rows, to_positional, used, used_by_id, walk, walked, with_default}
+use Rattle.clap.specs.Walk.{Held, Row, Rule, Text, arg_by_id, arg_by_index, at_row, has_row, nothing_held, reading_by}
+use Rattle.clap.specs.Walk.{rows_after, settled, settled_rows, to_positional, used, walk, walked, with_default}
 use Rattle.clap.specs.Simple.{Shape, built_leaf, filled, filled_from, inherited, new_rule, with_index}
 use Rattle.clap.specs.Takes.{is_given}
-use Rattle.clap.specs.Faults.{check_fault, defaults_fault, level_fault, positional_fault, settle_fault, stray_fault, use_fault, walk_fault}
+use Rattle.clap.specs.Faults.{defaults_fault, level_fault, settle_fault, stray_fault, walk_fault}
 use Rattle.clap.specs.Kinds.{Kinds, or_else}
 use Rattle.clap.specs.declared.parser.ValueSource.TheVariants.{CommandLine}
 use Rattle.clap.specs.declared.error.ErrorKind.TheVariants as kind
 use Rattle.clap.proofs.WalkLemmas.{both}
 use Rattle.docker_cmd.specs.Words.{is_plain_word}
 use Rattle.docker_cmd.specs.Grammar.{docker_shape, required_rule, words_shape}
-use Rattle.docker_cmd.proofs.PlainWords.{at, plain_turn, plain_walked}
+use Rattle.docker_cmd.proofs.PlainWords.{at, plain_turn, plain_walk_fault, plain_walked}
 
 -- the top level of the program, after `clap` has built the program
 abbrev pub built_top : Shape
@@ -66,9 +62,7 @@ neither = search (rules, true≢false)
 -- if no row has this id, `at_row` appends the rows in `missing`
 at_new : (id : Text) (change : Row → List Row) (missing rows : List Row) → has_row id rows ≡ false → at_row id change missing rows ≡ rows ++ missing
 at_new id change missing [] fresh = refl
-at_new id change missing (r ∷ rows) fresh =
-    let parts = neither _ _ fresh in
-    ap (λ b. cond b (change r ++ rows) (r ∷ at_row id change missing rows)) parts.0 ∙ ap (λ rest. r ∷ rest) (at_new id change missing rows parts.1)
+at_new id change missing (r ∷ rows) fresh = search (rules, neither, (at_new id change missing rows))
 
 -- if no row has the id of a required word, `used` appends this word's row to the rows
 used_new : (position : ℕ) (id word : Text) (rows : List Row) → has_row id rows ≡ false → used (placed position id) (word ∷ []) rows ≡ rows ++ row id word ∷ []
@@ -88,11 +82,8 @@ holding rows id word skip = record { rows = rows; pending = Some (id, word ∷ [
 settles_new : (s : Shape) (position : ℕ) (id word : Text) (rows : List Row) (skip : ℕ) → arg_by_id s.rules id ≡ Some (placed position id)
     → has_row id rows ≡ false
     → Settles s (holding rows id word skip) (rows ++ row id word ∷ [])
-settles_new s position id word rows skip found fresh = record {
-  rows_are = ap (λ rule. used_by_id rule (word ∷ []) rows) found ∙ used_new position id word rows fresh;
-  no_fault = ap (λ rule. option_map_or (λ a. use_fault s.args_override_self a (word ∷ []) rows) rule []) found
-      ∙ ap (λ b. or_else (cond (b && not s.args_override_self) (kind.ArgumentConflict ∷ []) []) []) fresh;
-}
+settles_new s position id word rows skip found fresh =
+    record { rows_are = rw found (used_new position id word rows fresh); no_fault = rw (found, fresh) }
 
 -- `clap`'s walk takes a required word as the value at its position
 at_positional : (c : List Rule) (position : ℕ) (id word : Text) (h : Held)
@@ -111,11 +102,7 @@ placed_fault : (s : Shape) (position : ℕ) (id word : Text) (rest : List Text) 
     → walk_fault s [] (at h position) (word ∷ rest) ≡ walk_fault s [] (at (holding rows id word h.skip) (next position)) rest
 unfolding walk_fault
 placed_fault s position id word rest h rows found settles plain =
-    let turn = plain_turn s [] position word h plain refl
-    ∙ ap (λ rule. option_map_or (λ a. positional_fault s.rules s.args_override_self a h) rule (stray_fault s)) found
-    ∙ ap (λ b. cond b [] (settle_fault s.rules s.args_override_self h)) (and-false (is_pending (placed position id) h.pending)) ∙ settles.no_fault in
-    let after = placed_walked s position id word h rows found settles plain in
-    λ i. or_else (turn i) (walk_fault s [] (after i) rest)
+    plain_walk_fault s [] position word rest h plain refl ∙ simp (found, at_positional, settles.rows_are, and-false, settles.no_fault)
 
 -- ---- reading all words of a subcommand
 
@@ -133,38 +120,32 @@ is_short [] words = false
 is_short (id ∷ ids) [] = true
 is_short (id ∷ ids) (word ∷ words) = is_short ids words
 
--- `clap`'s walk over the words finds a fault only if there are more words than ids: the fault for
--- too many words
-words_fault : (s : Shape) (position : ℕ) (ids words : List Text) (h : Held) (rows : List Row) → stray_fault s ≡ kind.UnknownArgument ∷ []
-    → Fits s.rules position ids → Fresh rows ids
-    → Settles s h rows → list_all is_plain_word words ≡ true → walk_fault s [] (at h position) words ≡ surplus_fault ids words
-unfolding walk_fault
-words_fault s position [] [] h rows stray fits fresh settles plain = refl
-words_fault s position [] (word ∷ words) h rows stray fits fresh settles plain = search (rules, plain_turn, both, at)
-words_fault s position (id ∷ ids) [] h rows stray fits fresh settles plain = refl
-words_fault s position (id ∷ ids) (word ∷ words) h rows stray fits fresh settles plain =
-    placed_fault s position id word words h rows fits.0 settles (both _ _ plain).0
-    ∙ words_fault s (next position) ids words (holding rows id word h.skip) (rows ++ row id word ∷ []) stray fits.2 (fresh.1 word)
-    (settles_new s position id word rows h.skip fits.1 fresh.0) (both _ _ plain).1
+-- what `clap`'s walk over these words finds. The walk finds a fault only if there are more words than
+-- ids: the fault for too many words. At its end, there is one more row for each word, with the
+-- word's id
+record IsWalked (s : Shape) (position : ℕ) (ids words : List Text) (h : Held) (rows : List Row) : Type 0 where
+  fault : walk_fault s [] (at h position) words ≡ surplus_fault ids words
+  held : Settles s (fold (walked s.rules []) (at h position) words).held (rows ++ paired ids words)
 
--- at the end of `clap`'s walk over the words, there is one more row for each word, with the word's
--- id
-words_held : (s : Shape) (position : ℕ) (ids words : List Text) (h : Held) (rows : List Row) → Fits s.rules position ids → Fresh rows ids
-    → Settles s h rows → list_all is_plain_word words ≡ true → Settles s (fold (walked s.rules []) (at h position) words).held (rows ++ paired ids words)
-words_held s position [] [] h rows fits fresh settles plain = subst (Settles s h) (sym (append-nil rows)) settles
-words_held s position [] (word ∷ words) h rows fits fresh settles plain =
-    let after : walked s.rules [] (at h position) word ≡ at h position =
-    plain_walked s.rules [] position word h (both _ _ plain).0 refl ∙ ap (λ rule. to_positional s.rules rule word (at h position) h) fits in
-    subst (λ w. Settles s (fold (walked s.rules []) w words).held (rows ++ [])) (sym after)
-    (words_held s position [] words h rows fits fresh settles (both _ _ plain).1)
-words_held s position (id ∷ ids) [] h rows fits fresh settles plain = subst (Settles s h) (sym (append-nil rows)) settles
-words_held s position (id ∷ ids) (word ∷ words) h rows fits fresh settles plain =
-    let after = placed_walked s position id word h rows fits.0 settles (both _ _ plain).0 in
-    let rest = words_held s (next position) ids words (holding rows id word h.skip) (rows ++ row id word ∷ []) fits.2 (fresh.1 word)
+-- if these ids have rules from this position on, and no rows yet, `clap`'s walk finds what `IsWalked` says
+words_walked : (s : Shape) (position : ℕ) (ids words : List Text) (h : Held) (rows : List Row) → stray_fault s ≡ kind.UnknownArgument ∷ []
+    → Fits s.rules position ids → Fresh rows ids → Settles s h rows → list_all is_plain_word words ≡ true → IsWalked s position ids words h rows
+unfolding walk_fault
+words_walked s position [] [] h rows stray fits fresh settles plain = record { fault = refl; held = rw append-nil settles }
+words_walked s position [] (word ∷ words) h rows stray fits fresh settles plain = record {
+  fault = search (rules, plain_turn, both, at);
+  held = rw (plain_walked s.rules [] position word h (both _ _ plain).0 refl, fits, fold)
+      (words_walked s position [] words h rows stray fits fresh settles (both _ _ plain).1).held;
+}
+words_walked s position (id ∷ ids) [] h rows stray fits fresh settles plain = record { fault = refl; held = rw append-nil settles }
+words_walked s position (id ∷ ids) (word ∷ words) h rows stray fits fresh settles plain =
+    let rest = words_walked s (next position) ids words (holding rows id word h.skip) (rows ++ row id word ∷ []) stray fits.2 (fresh.1 word)
     (settles_new s position id word rows h.skip fits.1 fresh.0) (both _ _ plain).1 in
-    subst (λ w. Settles s (fold (walked s.rules []) w words).held (rows ++ row id word ∷ paired ids words)) (sym after)
-    (subst (Settles s (fold (walked s.rules []) (at (holding rows id word h.skip) (next position)) words).held)
-    (append_assoc rows (row id word ∷ []) (paired ids words)) rest)
+    record {
+      fault = placed_fault s position id word words h rows fits.0 settles (both _ _ plain).0 ∙ rest.fault;
+      held = rw (placed_walked s position id word h rows fits.0 settles (both _ _ plain).0, ← append_assoc rows (row id word ∷ []) (paired ids words), fold)
+          rest.held;
+    }
 
 -- ---- the end of the walk
 
@@ -175,25 +156,18 @@ same_rows = search rules
 -- required words have no default values
 no_defaults : (position : ℕ) (ids : List Text) (rows : List Row) → fold with_default rows (filled_from position (map required_rule ids)) ≡ rows
 no_defaults position [] rows = refl
-no_defaults position (id ∷ ids) rows =
-    ap (λ rs. fold with_default rs (filled_from (next position) (map required_rule ids))) (same_rows id rows) ∙ no_defaults (next position) ids rows
+no_defaults position (id ∷ ids) rows = search (rules, same_rows, (no_defaults (next position) ids))
 
 no_default_fault : (position : ℕ) (ids : List Text) (rows : List Row) → defaults_fault rows (filled_from position (map required_rule ids)) ≡ []
 unfolding defaults_fault
 no_default_fault position [] rows = refl
-no_default_fault position (id ∷ ids) rows =
-    let rest = filled_from (next position) (map required_rule ids) in
-    ap (λ b. or_else (cond b [] []) (defaults_fault (with_default rows (placed position id)) rest)) (or-true (has_row id rows))
-    ∙ ap (λ rs. defaults_fault rs rest) (same_rows id rows) ∙ no_default_fault (next position) ids rows
+no_default_fault position (id ∷ ids) rows = search (rules, or-true, same_rows, (no_default_fault (next position) ids))
 
 -- if no row in `rows` has the id `id`, this id counts as given in `rows ++ rest` if and only if it
 -- counts as given in `rest`
 not_given : (id : Text) (rows rest : List Row) → has_row id rows ≡ false → is_given id (rows ++ rest) ≡ is_given id rest
 not_given id [] rest fresh = refl
-not_given id (r ∷ rows) rest fresh =
-    let parts = neither _ _ fresh in
-    ap (λ b. option_map_or (λ (x : Row). explicit_source x.source) (cond b (Some r) (find (λ x. bytes_eq x.id id) (rows ++ rest))) false) parts.0
-    ∙ not_given id rows rest parts.1
+not_given id (r ∷ rows) rest fresh = search (rules, neither, (not_given id rows rest))
 
 -- the id of the first row counts as given (`is_given`)
 given_here : (id word : Text) (rest : List Row) → is_given id (row id word ∷ rest) ≡ true
@@ -205,12 +179,7 @@ missing : (position : ℕ) (ids words : List Text) (rows : List Row) → Fresh r
 missing position [] words rows fresh = refl
 missing position (id ∷ ids) [] rows fresh = search (rules, not, not_given)
 missing position (id ∷ ids) (word ∷ words) rows fresh =
-    let tail = filled_from (next position) (map required_rule ids) in
-    let after = paired ids words in
-    ap (λ b. not b || list_any (λ a. a.required && not (is_given a.id (rows ++ row id word ∷ after))) tail)
-    (not_given id rows (row id word ∷ after) fresh.0 ∙ given_here id word after)
-    ∙ ap (λ rs. list_any (λ a. a.required && not (is_given a.id rs)) tail) (sym (append_assoc rows (row id word ∷ []) after))
-    ∙ missing (next position) ids words (rows ++ row id word ∷ []) (fresh.1 word)
+    search (rules, not, not_given, given_here, append_assoc, (missing (next position) ids words (rows ++ row id word ∷ []) (fresh.1 word)))
 
 -- ---- the matches and the faults of a subcommand
 
@@ -221,26 +190,17 @@ count_fault ids words = or_else (surplus_fault ids words) (cond (is_short ids wo
 
 module _ (name : Text) (ids words : List Text) (fits : Fits (leaf name ids).rules 1 ids) (fresh : Fresh [] ids)
     (plain : list_all is_plain_word words ≡ true) where
-  -- what `clap`'s walk holds after its last word
-  end : Held
-  end = (walk (leaf name ids).rules [] nothing_held words).held
-
-  -- after the last word, there is one row for each word, with the word's id
-  settles_end : Settles (leaf name ids) end (paired ids words)
-  unfolding end
-  settles_end = words_held (leaf name ids) 1 ids words nothing_held [] fits fresh (record { rows_are = refl; no_fault = refl }) plain
+  -- `clap`'s walk finds no fault but too many words. After its last word, there is one row for each
+  -- word, with the word's id
+  is_walked : IsWalked (leaf name ids) 1 ids words nothing_held []
+  is_walked = words_walked (leaf name ids) 1 ids words nothing_held [] refl fits fresh (record { rows_are = refl; no_fault = refl }) plain
 
   -- `clap` finds one row for each of the subcommand's words, with the word's id
   pub rows_found : rows_after (leaf name ids).rules [] words ≡ paired ids words
-  unfolding end
-  rows_found = ap (λ rows. fold with_default rows (leaf name ids).rules) settles_end.rows_are ∙ no_defaults 1 ids (paired ids words)
+  rows_found = search (rules, is_walked, no_defaults)
 
   -- the faults of the subcommand are the faults for a wrong number of words
   pub leaf_fault : level_fault (leaf name ids) [] nothing_held words false [] ≡ count_fault ids words
-  unfolding end
   leaf_fault =
-      let walk_part = words_fault (leaf name ids) 1 ids words nothing_held [] refl fits fresh (record { rows_are = refl; no_fault = refl }) plain in
-      let default_part = no_default_fault 1 ids (settled (leaf name ids).rules end).rows in
-      let check_part = ap (λ rows. check_fault (leaf name ids) rows false) rows_found
-      ∙ ap (λ b. cond b (kind.MissingRequiredArgument ∷ []) []) (missing 1 ids words [] fresh) in
-      λ i. or_else (walk_part i) (or_else (settles_end.no_fault i) (or_else (default_part i) (check_part i)))
+      let default_part = no_default_fault 1 ids (settled (leaf name ids).rules (walk (leaf name ids).rules [] nothing_held words).held).rows in
+      rw (is_walked.fault, is_walked.held.no_fault, default_part, rows_found, missing 1 ids words [] fresh)

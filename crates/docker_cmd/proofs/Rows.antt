@@ -1,8 +1,5 @@
 -- Facts about every row of the table of subcommands.
-use Rattle.std.proofs.Common.{◌≡◌, ℕ, List, [], ◌∷◌, length, map, Some, codes, arith, rules}
-use Rattle.std.proofs.lemmas.Grind.{common_steps}
-use Rattle.std.specs.Prelude.{⊤}
-use Rattle.std.specs.List.{find}
+use Rattle.cif_laws.proofs.Common.{◌≡◌, ℕ, List, [], ◌∷◌, length, map, Some, codes, arith, rules, common_steps, ⊤, find}
 use Rattle.clap.specs.Walk.{Text, answers_to, idle, subcommand_met}
 use Rattle.clap.specs.Simple.{Shape, label_of, names_of}
 use Rattle.docker_cmd.specs.declared.tasks.Subcommand.{Subcommand}
@@ -20,21 +17,9 @@ named_back = search rules
 
 -- ---- the number of words
 
--- a list with exactly one word has length 1
-one_counted : (Holds : Text → Type 0) (words : List Text) → OfOne Holds words → length words ≡ 1
-one_counted = search rules
-
--- a list with exactly two words has length 2
-two_counted : (Holds : Text → Text → Type 0) (words : List Text) → OfTwo Holds words → length words ≡ 2
-two_counted = search rules
-
--- a list with exactly three words has length 3
-three_counted : (Holds : Text → Text → Text → Type 0) (words : List Text) → OfThree Holds words → length words ≡ 3
-three_counted = search rules
-
 -- a task is named by as many words as its subcommand requires
 pub words_counted : (task : TaskView) (words : List Text) → AreWordsOf task words → length words ≡ length (ids_of (subcommand_of task))
-words_counted = search (rules, one_counted, three_counted, two_counted)
+words_counted = search rules
 
 -- ---- the form of the words after a subcommand
 
@@ -63,19 +48,9 @@ Suit Files = OfOne (λ state. ⊤)
 Suit Horizon = OfTwo (λ state date. NameHorizon state date)
 Suit Migrate = OfOne (λ state. NamesStored state)
 
--- if one property of two words implies another, every list of exactly two words that has the first
--- property also has the second
-two_weaker : (P Q : Text → Text → Type 0) → ((a b : Text) → P a b → Q a b) → (words : List Text) → OfTwo P words → OfTwo Q words
-two_weaker = search rules
-
--- if one property of three words implies another, every list of exactly three words that has the
--- first property also has the second
-three_weaker : (P Q : Text → Text → Text → Type 0) → ((a b c : Text) → P a b c → Q a b c) → (words : List Text) → OfThree P words → OfThree Q words
-three_weaker = search rules
-
 -- the words that name a task have the form that the task's subcommand requires
 pub suit : (task : TaskView) (words : List Text) → AreWordsOf task words → Suit (subcommand_of task) words
-suit = search (rules, three_weaker, two_weaker)
+suit = search rules
 
 -- ---- looking up words at ids
 

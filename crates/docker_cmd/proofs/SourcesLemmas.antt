@@ -1,11 +1,6 @@
 -- What a job has read, as the contract of `prepare` says it.
-use Rattle.std.proofs.Common.{◌≡◌, ℕ, [], ◌∷◌, refl, sym, ◌∙◌, Ok, Err, rules}
-use Rattle.std.specs.Prelude.{Result}
+use Rattle.cif_laws.proofs.Common.{◌≡◌, ℕ, [], ◌∷◌, refl, sym, ◌∙◌, Ok, Err, rules, Result, most_records, State, Format, IsSummary}
 use Rattle.cif_laws.proofs.lists.Membership.{Contains-single, nil-Contains}
-use Rattle.docker_model.specs.file.File.{most_records}
-use Rattle.docker_model.specs.state.State.{State}
-use Rattle.docker_model.specs.state.StateText.{Format}
-use Rattle.docker_model.specs.state.Summary.{IsSummary}
 use Rattle.state_laws.proofs.states.PlainLive.{live_table_is_plain}
 use Rattle.state_laws.proofs.states.SummaryLaws.{join_is_summary}
 use Rattle.docker_bytes.specs.ReadEnds.{CountsWhy, IsWhyUnread, StopsReading}
@@ -16,8 +11,9 @@ use Rattle.docker_office.specs.declared.fault.OfficeFault.{OfficeFault}
 use Rattle.docker_cmd.specs.Holding.{held_meant}
 use Rattle.docker_cmd.specs.Job.{JobView}
 use Rattle.docker_cmd.specs.Reads.{one_state, taken_file}
-use Rattle.docker_cmd.specs.Tasks.{TaskView, check_task, day_task, files_task, horizon_task, merge_task}
-use Rattle.docker_cmd.specs.Tasks.{migrate_task, new_task, print_task, sources_of, take_task}
+use Rattle.docker_cmd.specs.Tasks.{TaskView, day_task}
+use Rattle.docker_cmd.specs.Tasks.{sources_of}
+use Rattle.docker_cmd.specs.Prepared.{CountsSources, HasNoSource, ReadsSources}
 use Rattle.docker_cmd.specs.Prepared.{DeviceBytes, EndsReadingSources, HasReadToEnd, IsOfOneFile, IsPreparedFor}
 use Rattle.docker_cmd.specs.Prepared.{IsReadOf, ReadView, ReadsFew, file_read, most_bytes, office_read}
 use Rattle.docker_cmd.specs.declared.holding.Holding.{Holding}
@@ -48,16 +44,9 @@ of_one_file left state takes =
 -- summary of this one file
 pub read_one_file : (task : TaskView) (first second : DeviceBytes) (read : ReadView) → sources_of task ≡ taken_file → IsReadOf task first second read
     → IsOfOneFile first read
-read_one_file new_task first second read is reads = let never : ⊥ = cc in absurd never
-read_one_file check_task first second read is reads = let never : ⊥ = cc in absurd never
 read_one_file (day_task place day) first second (file_read file) is reads = search rules
 read_one_file (day_task place day) first second (office_read state) is reads = of_one_file first state reads
-read_one_file take_task first second read is reads = let never : ⊥ = cc in absurd never
-read_one_file merge_task first second read is reads = let never : ⊥ = cc in absurd never
-read_one_file (print_task place day) first second read is reads = let never : ⊥ = cc in absurd never
-read_one_file files_task first second read is reads = let never : ⊥ = cc in absurd never
-read_one_file (horizon_task day) first second read is reads = let never : ⊥ = cc in absurd never
-read_one_file migrate_task first second read is reads = let never : ⊥ = cc in absurd never
+read_one_file task first second read is reads = let never : ⊥ = cc in absurd never
 
 -- a job, together with what its task has read, is a prepared job
 pub prepared_read : (job : JobView) (first left second second_left : DeviceBytes) (read : ReadView)
@@ -81,6 +70,16 @@ pub held_for : {S T : Type 0} (left : S → DeviceBytes) (failures : S → ℕ) 
     → EndsHolding left failures left_of failures_of task first now second second_now result
     → EndsHolding left failures left_of failures_of asked first now second second_now result
 held_for = search rules
+
+-- if a task has a source, and reads only its first source, its reading ended as the contract of
+-- `hold` says
+pub alone_held : {S T : Type 0} (left : S → DeviceBytes) (failures : S → ℕ) (left_of : T → DeviceBytes) (failures_of : T → ℕ) (asked task : TaskView)
+    (first now : S) (second : T) (result : Result Holding OfficeFault) → asked ≡ task → ¬ HasNoSource (sources_of task)
+    → ReadsSources (λ held. IsReadOf task (left first) (left_of second) (held_meant held)) (sources_of task) (left first) (left now) (left_of second)
+    (left_of second) result
+    → CountsSources result (failures first) (failures now) (failures_of second) (failures_of second)
+    → EndsHolding left failures left_of failures_of asked first now second second result
+alone_held = search (rules, held_for, read_alone)
 
 -- a task whose only source is a state has read this state
 pub state_held : {S T : Type 0} (left : S → DeviceBytes) (failures : S → ℕ) (left_of : T → DeviceBytes) (failures_of : T → ℕ) (format : Format)

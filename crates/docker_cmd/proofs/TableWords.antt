@@ -1,8 +1,5 @@
 -- Looking up a word of a table by its name.
-use Rattle.std.proofs.Common.{◌≡◌, List, [], ◌∷◌, Some, arith}
-use Rattle.std.specs.List.{find}
-use Rattle.std.specs.Str.{bytes_eq}
-use Rattle.std.proofs.lemmas.Slice.Eq.{bytes_eq-Decides}
+use Rattle.cif_laws.proofs.Common.{◌≡◌, List, [], ◌∷◌, Some, arith, find, bytes_eq, bytes_eq-Decides}
 use Rattle.docker_cmd.specs.Words.{Text, word_named}
 
 -- if a search by name returns a word, the word has that name

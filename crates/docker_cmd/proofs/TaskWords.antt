@@ -1,11 +1,6 @@
 -- The words after a subcommand determine the task.
-use Rattle.std.proofs.Common.{◌≡◌, ◌∙◌, ℕ, List, [], ◌∷◌, length, Bool, true, false, cond, Some, None, rules}
-use Rattle.std.proofs.lemmas.Grind.{common_steps}
-use Rattle.std.proofs.Common.{refl, sym, subst, codes, arith, slice_index_or, true≢false}
-use Rattle.std.specs.Prelude.{Option, option_map}
-use Rattle.std.specs.Str.{bytes_eq}
-use Rattle.std.specs.Borrow.{Bor}
-use Rattle.std.proofs.lemmas.Slice.Eq.{bytes_eq-Decides}
+use Rattle.cif_laws.proofs.Common.{◌≡◌, ℕ, List, [], ◌∷◌, length, true, false, cond, Some, None, rules, common_steps, refl, codes, arith, slice_index_or}
+use Rattle.cif_laws.proofs.Common.{true≢false, Option, option_map, bytes_eq, Bor, bytes_eq-Decides}
 use Rattle.docker_cmd.specs.declared.tasks.Subcommand.{Subcommand}
 use Rattle.docker_cmd.specs.declared.tasks.Task.{Task}
 use Rattle.docker_cmd.specs.Tasks.{AreWordsOf, TaskView, name_of, subcommand_of, task_meant}
@@ -33,7 +28,7 @@ same_subcommand = search (rules, named_back)
 
 -- if words don't have the form that a subcommand requires, they name no task of the subcommand
 nothing_asked : (s : Subcommand) (words : List Text) → ¬ Suit s words → IsTaskOf s words None
-nothing_asked s words never = λ task same is. never (subst (λ t. Suit t words) same (suit task words is))
+nothing_asked = search (rules, suit)
 
 -- if `t` equals `s` and `q` equals `r`, words that name the task `r` of the subcommand `s` also
 -- name the task `q` of `t`
@@ -50,11 +45,11 @@ unless_stdin state task = cond (bytes_eq state (codes "stdin")) None (Some task)
 tested : (s : Subcommand) (words : List Text) (state : Text) (task : Task) → subcommand_of (task_meant task) ≡ s
     → (NamesStored state → AreWordsOf (task_meant task) words) → (Suit s words → NamesStored state)
     → IsTaskOf s words (option_map task_meant (unless_stdin state task))
-tested s words state task same holds back = by (bytes_eq state (codes "stdin")) refl
-  where
-    by : (test : Bool) → bytes_eq state (codes "stdin") ≡ test → IsTaskOf s words (option_map task_meant (cond test None (Some task)))
-    by true is = nothing_asked s words (λ suits. back suits ((bytes_eq-Decides state (codes "stdin")).0 is))
-    by false is = (same, holds (λ stdin. true≢false (sym ((bytes_eq-Decides state (codes "stdin")).1 stdin) ∙ is)))
+tested s words state task same holds back = (elim (bytes_eq state (codes "stdin"))
+    as (λ test. bytes_eq state (codes "stdin") ≡ test → IsTaskOf s words (option_map task_meant (cond test None (Some task)))) [
+      | true ↦ λ is. search (rules, nothing_asked, bytes_eq-Decides)
+      | false ↦ λ is. search (rules, bytes_eq-Decides, true≢false)
+    ]) refl
 
 -- if the only word is the name of STATE, the words name the task unless this word is `stdin`
 pub state_alone : (s : Subcommand) (task : Task) → subcommand_of (task_meant task) ≡ s
@@ -69,31 +64,22 @@ pub state_first : (s : Subcommand) (task : Task) (words : List (Bor Text)) (d e 
     → ((state : Text) → NamesStored state → AreWordsOf (task_meant task) (state ∷ (slice_index_or words 1 e).now ∷ []))
     → ((state other : Text) → Suit s (state ∷ other ∷ []) → NamesStored state) → length words ≡ 2
     → IsTaskOf s (texts words) (option_map task_meant (unless_stdin (slice_index_or words 0 d).now task))
-state_first s task [] d e same holds back two = absurd (omega (arith, two))
-state_first s task (a ∷ []) d e same holds back two = absurd (omega (arith, two))
 state_first s task (a ∷ b ∷ []) d e same holds back two = tested s (a.now ∷ b.now ∷ []) a.now task same (holds a.now) (back a.now b.now)
-state_first s task (a ∷ b ∷ c ∷ words) d e same holds back two = absurd (omega (arith, two))
+state_first s task words d e same holds back two = absurd (omega arith)
 
 -- if the last two of three words name a timing point and a day, the words name the task for this
 -- timing point and day
 pub both_behind : (s : Subcommand) (task : TaskView) (place : List ℕ) (day : ℕ) (words : List (Bor Text)) (d e : Bor Text) → subcommand_of task ≡ s
     → ((first tiploc date : Text) → NamesPlace tiploc place → NamesDay date day → AreWordsOf task (first ∷ tiploc ∷ date ∷ [])) → length words ≡ 3
     → NamesPlace (slice_index_or words 1 d).now place → NamesDay (slice_index_or words 2 e).now day → IsTaskOf s (texts words) (Some task)
-both_behind s task place day [] d e same holds three place_is day_is = absurd (omega (arith, three))
-both_behind s task place day (a ∷ []) d e same holds three place_is day_is = absurd (omega (arith, three))
-both_behind s task place day (a ∷ b ∷ []) d e same holds three place_is day_is = absurd (omega (arith, three))
 both_behind s task place day (a ∷ b ∷ c ∷ []) d e same holds three place_is day_is = (same, holds a.now b.now c.now place_is day_is)
-both_behind s task place day (a ∷ b ∷ c ∷ f ∷ words) d e same holds three place_is day_is = absurd (omega (arith, three))
+both_behind s task place day words d e same holds three place_is day_is = absurd (omega arith)
 
 -- if the last two of three words don't name both a timing point and a day, the words name no task
 pub not_both_behind : (s : Subcommand) (words : List (Bor Text)) (d e : Bor Text)
     → ((first tiploc date : Text) → Suit s (first ∷ tiploc ∷ date ∷ []) → NameBoth tiploc date) → length words ≡ 3
     → ((place : List ℕ) (day : ℕ) → NamesPlace (slice_index_or words 1 d).now place → ¬ NamesDay (slice_index_or words 2 e).now day)
     → IsTaskOf s (texts words) None
-not_both_behind s [] d e back three never = absurd (omega (arith, three))
-not_both_behind s (a ∷ []) d e back three never = absurd (omega (arith, three))
-not_both_behind s (a ∷ b ∷ []) d e back three never = absurd (omega (arith, three))
-not_both_behind s (a ∷ b ∷ c ∷ []) d e back three never = nothing_asked s (a.now ∷ b.now ∷ c.now ∷ []) (λ suits.
-    let both = back a.now b.now c.now suits in
-    never both.place both.day both.place_is both.day_is)
-not_both_behind s (a ∷ b ∷ c ∷ f ∷ words) d e back three never = absurd (omega (arith, three))
+not_both_behind s (a ∷ b ∷ c ∷ []) d e back three never = nothing_asked s (a.now ∷ b.now ∷ c.now ∷ [])
+    (λ suits. let both = back a.now b.now c.now suits in never both.place both.day both.place_is both.day_is)
+not_both_behind s words d e back three never = absurd (omega arith)

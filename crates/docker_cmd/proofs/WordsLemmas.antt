@@ -1,9 +1,7 @@
 -- What `read_words` returns follows from what `clap` returns.
-use Rattle.std.proofs.Common.{◌≡◌, ◌≢◌, ◌∙◌, ◌⊎◌, inl, inr, Bool, true, sym, subst, List, [], rules}
-use Rattle.std.proofs.Common.{Option, Some, Result, Err, IfOk, option_map, false, true≢false}
-use Rattle.std.specs.List.{list_all}
+use Rattle.cif_laws.proofs.Common.{◌≡◌, ◌≢◌, ◌⊎◌, inl, inr, Bool, true, subst, List, [], rules, Option, Some, Result, Err, IfOk, option_map, false, true≢false}
+use Rattle.cif_laws.proofs.Common.{list_all, Bor}
 use Rattle.std.specs.Option.{ok_or}
-use Rattle.std.specs.Borrow.{Bor}
 use Rattle.std.proofs.lemmas.List.Folds.{list_all-map}
 use Rattle.clap.specs.Simple.{subcommand_of}
 use Rattle.clap.specs.Faults.{fault_of}
@@ -20,11 +18,11 @@ use Rattle.docker_cmd.proofs.JobWords.{judged}
 
 -- all words are plain if and only if all texts in the list of their texts are plain
 pub plain_texts : (words : List (Bor Text)) (b : Bool) → b ≡ list_all (λ word. is_plain_word word.now) words → list_all is_plain_word (texts words) ≡ b
-plain_texts words b is = list_all-map is_plain_word (λ (word : Bor Text). word.now) words ∙ sym is
+plain_texts = search (rules, list_all-map)
 
 -- if a word isn't plain, the words name no subcommand
 pub not_plain : (words : List Text) → list_all is_plain_word words ≡ false → NameNoSubcommand words
-not_plain words never = λ s behind names. absurd (true≢false (sym names.plain ∙ never))
+not_plain = search (rules, true≢false)
 
 -- these words name a subcommand, and `found` is this subcommand with the words after its name
 pub record IsFound (words : List Text) (found : Option (Subcommand × List Text)) : Type 0 where

@@ -1,6 +1,5 @@
 -- Docker lines that are appended to a list only if a test passes.
-use Rattle.std.proofs.Common.{◌≡◌, Bool, true, false, cond, List, [], ◌++◌, sym, ◌∙◌, append-nil}
-use Rattle.docker_model.specs.docker.DockerLine.{DockerLine}
+use Rattle.cif_laws.proofs.Common.{◌≡◌, Bool, true, false, cond, List, [], ◌++◌, sym, ◌∙◌, append-nil, DockerLine}
 
 -- if the test fails, appending the conditional lines `cond test more []` changes nothing
 pub not_added : (test : Bool) (more before : List DockerLine) → test ≡ false → before ≡ before ++ cond test more []

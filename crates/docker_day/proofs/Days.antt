@@ -1,8 +1,5 @@
 -- The day of an event, and the lines for each start day.
-use Rattle.std.proofs.Common.{◌≡◌, ℕ, ◌+◌, ◌-◌, ◌≤◌, ◌==◌, cond, List, [], ◌++◌, arith, eqb-true}
-use Rattle.std.proofs.Common.{rules}
-use Rattle.std.specs.Prelude.{nat_le}
-use Rattle.std.specs.List.{flat_map}
+use Rattle.cif_laws.proofs.Common.{◌≡◌, ℕ, ◌+◌, ◌-◌, ◌≤◌, ◌==◌, cond, List, [], ◌++◌, arith, eqb-true, rules, nat_le, flat_map}
 use Rattle.docker_laws.proofs.dockers.ScheduleLines.{number_itself}
 use Rattle.docker_laws.specs.Gathering.{start_days}
 

@@ -1,18 +1,9 @@
 -- Lemmas on the calls that base trains make at a place, each with its first event. The calls of the
 -- base train that was looked up last are stored.
-use Rattle.std.proofs.Common.{◌≡◌, ℕ, true, false, List, subst, Some, eqb-true, rules}
-use Rattle.std.specs.Prelude.{Option, IfOk, Result, Ok, Err}
-use Rattle.std.specs.BTreeMap.{BTreeMap, get, Updates}
-use Rattle.std.specs.Option.{is_some}
-use Rattle.std.specs.Ordering.{nat_cmp}
-use Rattle.docker_model.specs.docker.Choice.{Train}
+use Rattle.cif_laws.proofs.Common.{◌≡◌, ℕ, true, false, List, subst, Some, eqb-true, rules, Option, IfOk, Result, Ok, Err, get, Updates, is_some, nat_cmp}
+use Rattle.cif_laws.proofs.Common.{Train, DockerLine, ScheduleKey, Occasion, column, Row, AreRowsOf, Table}
+use Rattle.std.specs.BTreeMap.{BTreeMap}
 use Rattle.docker_laws.specs.LiveRows.{Link, train_in, IsTrainOn}
-use Rattle.docker_model.specs.docker.DockerLine.{DockerLine}
-use Rattle.docker_model.specs.file.Change.{ScheduleKey}
-use Rattle.docker_model.specs.file.Journey.{Occasion}
-use Rattle.docker_model.specs.records.Record.{column}
-use Rattle.docker_model.specs.state.Row.{Row, AreRowsOf}
-use Rattle.docker_model.specs.state.Table.{Table}
 use Rattle.docker_laws.proofs.dockers.TrainOfRows.{trains_tell}
 use Rattle.docker_state.specs.Timetables.{live_in}
 use Rattle.train_choice.specs.Occurrences as events

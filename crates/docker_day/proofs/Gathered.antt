@@ -1,23 +1,13 @@
 -- The docker list is made by gathering the lines of a state's rows and then sorting them.
-use Rattle.std.proofs.Common.{◌≡◌, ℕ, List, [], ◌++◌, ap, sym, ◌∙◌, subst, append_assoc}
-use Rattle.std.specs.Prelude.{Option}
-use Rattle.std.proofs.lemmas.Grind.{flat_map-append}
-use Rattle.docker_model.specs.docker.Choice.{Group, Train}
+use Rattle.cif_laws.proofs.Common.{rules, ◌≡◌, ℕ, List, [], ◌++◌, ap, sym, ◌∙◌, subst, append_assoc, Option, flat_map-append, Group, Train, IsSorted}
+use Rattle.cif_laws.proofs.Common.{IsPermutation, HasGoodBodies, Table, Row, AreRowsOf, DockerLine, docker_line_cmp, IsDockerList, tiploc_key, description_in}
 use Rattle.state_laws.specs.Index.{AreCalling, AreLinked}
 use Rattle.docker_laws.proofs.dockers.IndexedWalk.{indexed_walk}
-use Rattle.std.specs.List.Sorted.{IsSorted, IsPermutation}
-use Rattle.docker_model.specs.state.State.{HasGoodBodies}
-use Rattle.docker_model.specs.state.Table.{Table}
-use Rattle.docker_model.specs.state.Row.{Row, AreRowsOf}
 use Rattle.docker_laws.specs.LiveRows.{Link, train_in, link_in}
-use Rattle.docker_laws.specs.Gathering.{IsWalk, row_lines, gathered}
-use Rattle.docker_model.specs.docker.DockerLine.{DockerLine, docker_line_cmp}
-use Rattle.docker_model.specs.docker.DockerList.{IsDockerList}
+use Rattle.docker_laws.specs.Gathering.{IsWalk, gathered}
 use Rattle.docker_laws.proofs.dockers.GatheredLines.{sorted_gathering}
 use Rattle.docker_laws.proofs.dockers.TrainOfRows.{trains_tell}
 use Rattle.docker_laws.proofs.dockers.LinkOfRows.{links_tell}
-use Rattle.docker_model.specs.file.Change.{tiploc_key}
-use Rattle.docker_model.specs.docker.DockerText.{description_in}
 use Rattle.docker_day.specs.Lines.{Adds}
 use Rattle.docker_day.specs.DockerValue.{Docker}
 use Rattle.docker_day.specs.Dockers.{HasGathered, IsDockerOf}
@@ -49,9 +39,7 @@ both_gathered live place day linked calling before between after are_linked are_
   where
     all : (trains : List ℕ → ℕ → Option Train) (links : Group → ℕ → Option Link) → between ≡ before ++ gathered trains links place day linked
         → after ≡ between ++ gathered trains links place day calling → after ≡ before ++ gathered trains links place day (linked ++ calling)
-    all trains links one two = two ∙ ap (λ out. out ++ gathered trains links place day calling) one
-        ∙ append_assoc before (gathered trains links place day linked) (gathered trains links place day calling)
-        ∙ ap (λ more. before ++ more) (sym (flat_map-append (λ (row : Row). row_lines trains links place day row.0 row.1) linked calling))
+    all = search (rules, append_assoc, flat_map-append)
 
 -- the docker that the code makes from the sorted lines is the docker of the definitions
 pub docker_made : (live : Table) (place : List ℕ) (day : ℕ) (rows : List Row) (none made lines : List DockerLine) (description : List ℕ) (docker : Docker)

@@ -1,17 +1,11 @@
 -- The docker line of an association, made from the events of its base train.
-use Rattle.std.proofs.Common.{◌≡◌, ℕ, Bool, List, [], ◌∷◌, ◌++◌, map, refl, append_assoc, append-nil}
-use Rattle.std.proofs.Common.{arith, rules}
-use Rattle.std.specs.Prelude.{Option, option_map, find}
-use Rattle.std.specs.List.{flat_map}
-use Rattle.docker_model.specs.file.Journey.{Occasion}
-use Rattle.docker_model.specs.docker.Event.{events_of, first_event_at}
-use Rattle.docker_model.specs.docker.Choice.{Group}
-use Rattle.docker_model.specs.state.Table.{Table}
+use Rattle.cif_laws.proofs.Common.{◌≡◌, ℕ, List, [], ◌∷◌, ◌++◌, refl, append_assoc, append-nil, rules, Option, option_map, find, flat_map, Occasion, events_of}
+use Rattle.cif_laws.proofs.Common.{first_event_at, Group, Table, DockerLine}
 use Rattle.docker_model.specs.docker.Choice as choices
 use Rattle.docker_laws.specs.LiveRows as live_rows
 use Rattle.docker_laws.specs.Gathering.{start_days, line_with}
-use Rattle.docker_model.specs.docker.DockerLine.{DockerLine}
 use Rattle.train_choice.specs.Occurrences.{occurrence_of, occurrences}
+use Rattle.train_choice.proofs.FallsCounted.{find_mapped}
 use Rattle.docker_day.specs.Lines.{Adds, is_call, link_line_with}
 use Rattle.docker_day.specs.RowViews.{row_back, row_piece, view_lines}
 use Rattle.docker_day.specs.declared.row_view.RowView.{RowView}
@@ -19,10 +13,6 @@ use Rattle.docker_day.proofs.Days.{starts_split}
 
 abbrev no_line : List DockerLine
 no_line = []
-
-find_mapped : {A B : Type 0} (f : A → B) (p : B → Bool) (xs : List A) → find p (map f xs) ≡ option_map f (find (λ x. p (f x)) xs)
-find_mapped f p [] = refl
-find_mapped f p (x ∷ xs) = grind (arith, (find_mapped f p xs))
 
 -- the first event of a call is the first of the train's events that are at the place and have the
 -- call's suffix

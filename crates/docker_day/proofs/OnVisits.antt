@@ -1,10 +1,7 @@
 -- The docker lines of a row are the concatenation of the row's lines for three visits, one for each
 -- start day.
-use Rattle.std.proofs.Common.{◌≡◌, ℕ, false, List, ap, sym, ◌∙◌, subst, Some, append-nil}
-use Rattle.std.proofs.Common.{rules}
-use Rattle.std.specs.Prelude.{Option}
+use Rattle.cif_laws.proofs.Common.{◌≡◌, ℕ, false, List, ap, sym, ◌∙◌, subst, Some, append-nil, rules, Option, DockerLine, Row}
 use Rattle.std.proofs.Math.Dec.{leb-zero}
-use Rattle.docker_model.specs.docker.DockerLine.{DockerLine}
 use Rattle.docker_laws.specs.Gathering.{gathered}
 use Rattle.docker_state.specs.Timetables.{live_in}
 use Rattle.train_choice.specs.Known.{PlaceDay}
@@ -14,7 +11,6 @@ use Rattle.docker_day.specs.declared.row_view.RowView.{RowView}
 use Rattle.docker_day.specs.Visits.{Visit, visit_back, AreVisits, AddsAt, AddsIf}
 use Rattle.docker_day.proofs.LinkLines.{three_backs}
 use Rattle.docker_day.proofs.PassedOver.{first_back_alone}
-use Rattle.docker_model.specs.state.Row.{Row}
 
 module _ (there : PlaceDay) (view : RowView) where
   abbrev AddsBack : ℕ → List DockerLine → List DockerLine → Type 0

@@ -1,25 +1,13 @@
 -- Rows that are skipped without a search have no docker lines.
-use Rattle.std.proofs.Common.{◌≡◌, ℕ, ◌-◌, ◌<◌, ◌⊎◌, Bool, true, false, cond, List, rules}
-use Rattle.std.proofs.lemmas.Grind.{common_steps}
-use Rattle.std.proofs.Common.{[], ◌∷◌, ◌++◌, refl, ap, sym, ◌∙◌, append-nil, Some, None, arith, eqb-true}
-use Rattle.std.specs.Prelude.{Option, ◌&&◌, ◌||◌, not, nat_le}
-use Rattle.std.specs.Ordering.{is_eq}
-use Rattle.std.proofs.lemmas.Bool.{leb-true}
-use Rattle.docker_model.specs.records.Record.{column}
-use Rattle.docker_model.specs.file.File.{first_record}
-use Rattle.docker_model.specs.file.Change.{Key, ScheduleKey, Body}
-use Rattle.docker_model.specs.state.Op.{schedule_key_cmp, association_key_cmp}
-use Rattle.docker_model.specs.state.Table.{Table}
-use Rattle.docker_model.specs.state.State.{IsBodyOf}
-use Rattle.docker_model.specs.state.Row.{Row, AreRowsOf}
+use Rattle.cif_laws.proofs.Common.{◌≡◌, ℕ, ◌-◌, ◌<◌, ◌⊎◌, Bool, true, false, cond, List, rules, common_steps, [], ◌∷◌, ◌++◌, refl, ap, sym, ◌∙◌, append-nil}
+use Rattle.cif_laws.proofs.Common.{Some, None, arith, eqb-true, Option, ◌&&◌, ◌||◌, not, nat_le, is_eq, Ordering, Equal, leb-true, column, first_record, Key}
+use Rattle.cif_laws.proofs.Common.{ScheduleKey, Body, schedule_key_cmp, association_key_cmp, Table, IsBodyOf, Row, AreRowsOf, schedule_runs, association_runs}
+use Rattle.cif_laws.proofs.Common.{group_of, DockerLine, Detail}
 use Rattle.docker_model.specs.docker.Association.{is_date_indicator}
-use Rattle.docker_model.specs.docker.Choice.{schedule_runs, association_runs, group_of}
-use Rattle.docker_model.specs.docker.DockerLine.{DockerLine, Detail}
 use Rattle.docker_model.specs.docker.Choice as choices
 use Rattle.docker_laws.specs.LiveRows as live_rows
 use Rattle.docker_laws.specs.LiveRows.{train_in, link_in, IsTrainOn, IsLinkOn}
 use Rattle.docker_laws.specs.Gathering.{event_lines, runs_by, counts_as, is_in_force}
-use Rattle.cif_laws.proofs.orders.AtMost.{eq_is}
 use Rattle.cif_laws.proofs.orders.Orders.{exact_schedule_key, exact_association_key}
 use Rattle.docker_laws.proofs.dockers.OneChoice.{one_schedule, one_association}
 use Rattle.docker_laws.proofs.dockers.TrainOfRows.{trains_tell}
@@ -42,6 +30,9 @@ use Rattle.docker_day.proofs.LinkLines.{three_backs}
 true_false : true ≡ false → ⊥
 true_false bad = cc
 
+not_equal : (order : Ordering) → (order ≡ Equal → ⊥) → is_eq order ≡ false
+not_equal = search rules
+
 -- if a live schedule doesn't run on a day, no train runs according to this schedule on that day
 pub runs_not : (live : Table) (rows : List Row) (train : choices.Train) (start : ℕ) → AreRowsOf live rows → IsLiveTrain live train
     → schedule_runs (first_record train.lines) start ≡ false → runs_by (train_in rows train.key.uid start) train.key ≡ false
@@ -49,14 +40,9 @@ runs_not live rows train start are is_live idle = by (train_in rows train.key.ui
   where
     by : (found : Option choices.Train) → IsTrainOn live train.key.uid start found → runs_by found train.key ≡ false
     by None none = refl
-    by (Some other) runs = inner (is_eq (schedule_key_cmp other.key train.key)) refl
-      where
-        inner : (b : Bool) → is_eq (schedule_key_cmp other.key train.key) ≡ b → b ≡ false
-        inner false h = refl
-        inner true h =
-            let same = exact_schedule_key other.key train.key (eq_is (schedule_key_cmp other.key train.key) h) in
-            let lines = one_schedule live other.key train.key other.lines train.lines same runs.chosen.running.is_live is_live in
-            absurd (true_false (sym runs.chosen.running.runs_then ∙ ap (λ (ls : List (List ℕ)). schedule_runs (first_record ls) start) lines ∙ idle))
+    by (Some other) runs = not_equal (schedule_key_cmp other.key train.key) (λ same. true_false (sym runs.chosen.running.runs_then
+        ∙ ap (λ (ls : List (List ℕ)). schedule_runs (first_record ls) start) (one_schedule live other.key train.key other.lines train.lines
+        (exact_schedule_key other.key train.key same) runs.chosen.running.is_live is_live) ∙ idle))
 
 -- a live association that doesn't run on a start day isn't the association chosen in its group
 pub counts_not : (live : Table) (rows : List Row) (link : live_rows.Link) (start : ℕ) → AreRowsOf live rows → IsLiveLink live link
@@ -65,14 +51,9 @@ counts_not live rows link start are is_live idle = by (link_in rows (group_of li
   where
     by : (found : Option live_rows.Link) → IsLinkOn live (group_of link.key) start found → counts_as found link.key ≡ false
     by None none = refl
-    by (Some other) chosen = inner (is_eq (association_key_cmp other.key link.key)) refl
-      where
-        inner : (b : Bool) → is_eq (association_key_cmp other.key link.key) ≡ b → b ≡ false
-        inner false h = refl
-        inner true h =
-            let same = exact_association_key other.key link.key (eq_is (association_key_cmp other.key link.key) h) in
-            let line = one_association live other.key link.key other.line link.line same chosen.associated.is_live is_live in
-            absurd (true_false (sym chosen.associated.runs_then ∙ ap (λ (l : List ℕ). association_runs l start) line ∙ idle))
+    by (Some other) chosen = not_equal (association_key_cmp other.key link.key) (λ same. true_false (sym chosen.associated.runs_then
+        ∙ ap (λ (l : List ℕ). association_runs l start) (one_association live other.key link.key other.line link.line
+        (exact_association_key other.key link.key same) chosen.associated.is_live is_live) ∙ idle))
 
 and_false : (a b : Bool) → b ≡ false → (a && b) ≡ false
 and_false = search rules

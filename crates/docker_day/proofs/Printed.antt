@@ -1,8 +1,5 @@
 -- The text that the code writes for a docker equals the docker's text in the definitions.
-use Rattle.std.proofs.Common.{◌≡◌, ℕ, List, refl, ◌∙◌, arith}
-use Rattle.docker_model.specs.file.Change.{tiploc_key}
-use Rattle.docker_model.specs.state.Table.{Table}
-use Rattle.docker_model.specs.docker.DockerText.{IsDockerText, heading, description_in, ended}
+use Rattle.cif_laws.proofs.Common.{◌≡◌, ℕ, List, refl, ◌∙◌, arith, tiploc_key, Table, IsDockerText, heading, description_in, ended}
 use Rattle.docker_day.specs.DockerValue.{Docker, head, text_of}
 use Rattle.docker_day.specs.Dockers.{IsDockerOf}
 

@@ -1,15 +1,8 @@
 -- Reading the rows of a walk in portions leaves the docker lines unchanged.
-use Rattle.std.proofs.Common.{◌≡◌, ℕ, zero, suc, ◌<◌, Bool, true, false, List, [], ◌∷◌, ◌++◌, length, rules}
-use Rattle.std.proofs.Common.{take, get_or, refl, ap, sym, ◌∙◌, subst, Some, arith, append_assoc}
-use Rattle.std.specs.Prelude.{Option, ◌||◌}
-use Rattle.std.proofs.lemmas.Grind.{flat_map-append}
-use Rattle.docker_model.specs.file.Change.{Key, Body}
-use Rattle.docker_model.specs.state.Row.{Row, AreRowsOf}
-use Rattle.docker_model.specs.state.State.{IsBodyOf}
-use Rattle.docker_model.specs.state.Table.{Table}
+use Rattle.cif_laws.proofs.Common.{◌≡◌, ℕ, zero, suc, ◌<◌, Bool, true, false, List, [], ◌∷◌, ◌++◌, length, rules, take, get_or, refl, ap, sym, ◌∙◌, subst, Some}
+use Rattle.cif_laws.proofs.Common.{arith, append_assoc, Option, ◌||◌, flat_map-append, Key, Body, Row, AreRowsOf, IsBodyOf, Table, DockerLine}
 use Rattle.docker_laws.specs.LiveRows.{train_in, link_in}
 use Rattle.docker_laws.specs.Gathering.{gathered, row_lines}
-use Rattle.docker_model.specs.docker.DockerLine.{DockerLine}
 use Rattle.docker_state.specs.Timetables.{live_in}
 use Rattle.train_choice.specs.Along.{AreGoodRows, AreLive}
 use Rattle.train_choice.specs.Known.{PlaceDay}

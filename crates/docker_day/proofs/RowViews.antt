@@ -1,13 +1,8 @@
 -- The typed views of a walk's rows have the same docker lines as these rows.
-use Rattle.std.proofs.Common.{◌≡◌, ℕ, List, [], ◌∷◌, ◌++◌, refl, Some, rules}
-use Rattle.std.specs.Prelude.{Option}
-use Rattle.docker_model.specs.file.Change.{Key, Body}
-use Rattle.docker_model.specs.docker.Choice.{Group}
+use Rattle.cif_laws.proofs.Common.{◌≡◌, ℕ, List, [], ◌∷◌, ◌++◌, refl, Some, rules, Option, Key, Body, Group, Row, Table}
 use Rattle.docker_laws.specs.Gathering.{gathered, row_lines}
 use Rattle.docker_model.specs.docker.Choice as choices
 use Rattle.docker_laws.specs.LiveRows as live_rows
-use Rattle.docker_model.specs.state.Row.{Row}
-use Rattle.docker_model.specs.state.Table.{Table}
 use Rattle.train_choice.specs.Along.{AreLive}
 use Rattle.docker_day.specs.RowViews.{AreLiveViews, IsLiveView, lines_of, view_lines, view_of, views_of}
 

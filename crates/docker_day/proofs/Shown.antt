@@ -1,11 +1,8 @@
 -- A docker shows columns of a location record. Which columns it shows depends on the record's kind
 -- and on the occasion.
-use Rattle.std.proofs.Common.{◌≡◌, ℕ, List, rules}
-use Rattle.std.specs.Prelude.{Option}
-use Rattle.docker_model.specs.records.Record.{Kind}
-use Rattle.docker_model.specs.file.Journey.{Occasion, pass, joining, dividing, next_working}
+use Rattle.cif_laws.proofs.Common.{◌≡◌, ℕ, List, rules, Option, Kind, Occasion, pass, dividing, next_working, spaces}
+use Rattle.docker_model.specs.file.Journey.{joining}
 use Rattle.docker_model.specs.docker.DockerLine.{public_by_kind}
-use Rattle.docker_model.specs.records.PrintedTime.{spaces}
 use Rattle.docker_day.specs.Locations.{location_by_kind, public_at}
 
 -- says that only an arrival and a departure have a public time

@@ -1,11 +1,7 @@
 -- The docker lines of a train's events, made event by event.
-use Rattle.std.proofs.Common.{◌≡◌, ℕ, ◌==◌, Bool, List, [], ◌∷◌, ◌++◌, map, refl, append-nil, arith, rules}
-use Rattle.std.specs.Prelude.{◌&&◌, filter, codes}
-use Rattle.std.specs.Str.{bytes_eq}
-use Rattle.docker_model.specs.records.Record.{columns}
-use Rattle.docker_model.specs.docker.Event.{Event, event_day, event_line}
-use Rattle.docker_model.specs.file.Change.{ScheduleKey}
-use Rattle.docker_model.specs.docker.DockerLine.{DockerLine, Detail, ends, tiploc_of_first, line_of_event}
+use Rattle.cif_laws.proofs.Common.{◌≡◌, ℕ, ◌==◌, Bool, List, [], ◌∷◌, ◌++◌, map, refl, append-nil, arith, rules, ◌&&◌, filter, codes, bytes_eq, columns, Event}
+use Rattle.cif_laws.proofs.Common.{event_day, event_line, ScheduleKey, DockerLine, Detail, tiploc_of_first, line_of_event}
+use Rattle.docker_model.specs.docker.DockerLine.{ends}
 use Rattle.docker_laws.specs.Gathering.{event_lines}
 use Rattle.train_choice.specs.Occurrences.{occurrence_of, occurrences}
 use Rattle.docker_day.specs.Lines.{lines_there}

@@ -1,13 +1,9 @@
 -- The records of a schedule after its last record at a place can be dropped, because none of these
 -- records has an event at the place.
-use Rattle.std.proofs.Common.{◌≡◌, ℕ, Bool, true, false, cond, List, [], ◌∷◌, ◌++◌, refl, ap, sym, ◌∙◌, append_assoc, arith}
-use Rattle.std.specs.Prelude.{◌&&◌}
-use Rattle.docker_model.specs.file.Change.{ScheduleKey}
-use Rattle.docker_model.specs.file.File.{first_record}
-use Rattle.docker_model.specs.file.Journey.{Occasion, times_of}
-use Rattle.docker_model.specs.docker.DockerLine.{DockerLine, Detail}
+use Rattle.cif_laws.proofs.Common.{rules, ◌≡◌, ℕ, Bool, false, cond, List, [], ◌∷◌, ◌++◌, refl, ap, ◌∙◌, append_assoc, arith, ◌&&◌, ScheduleKey, first_record}
+use Rattle.cif_laws.proofs.Common.{Occasion, times_of, DockerLine, Detail}
 use Rattle.train_choice.specs.Occurrences.{Occurrence, Progress, before_all, turned, past_time, past_times}
-use Rattle.train_choice.specs.Occurrences.{occurrence_at, occurrences, occurrences_at, occurrences_from}
+use Rattle.train_choice.specs.Occurrences.{occurrences, occurrences_at, occurrences_from}
 use Rattle.train_choice.specs.UpTo.{names_place, before_named, up_to_last, occurrences_to}
 use Rattle.train_choice.proofs.Occurrences.{all_met}
 use Rattle.docker_day.specs.Lines.{line_at_event, is_here, is_today, lines_there}
@@ -29,36 +25,20 @@ module _ (place : List ℕ) (day start : ℕ) (key : ScheduleKey) (detail : Deta
   none_elsewhere : (p : Progress) (line : List ℕ) (times : List (Occasion × ℕ)) → names_place place line ≡ false
       → there (occurrences_at p line times) ≡ []
   none_elsewhere p line [] elsewhere = refl
-  none_elsewhere p line (time ∷ times) elsewhere =
-      (λ i. cond (elsewhere i && is_today day start (occurrence_at p line time)) (line_at_event key start detail (occurrence_at p line time) ∷ [])
-      [] ++ there (occurrences_at (past_time p time) line times))
-      ∙ none_elsewhere (past_time p time) line times elsewhere
+  none_elsewhere p line (time ∷ times) elsewhere = search (rules, (none_elsewhere (past_time p time) line times elsewhere))
+
+  -- the docker lines of a record, followed by the docker lines of the records found after it. A last
+  -- record that isn't at the place has none
+  with_line : (p : Progress) (line : List ℕ) (named : Bool) → names_place place line ≡ named → (found : List (List ℕ))
+      → there (occurrences_from p (before_named named line found))
+      ≡ there (occurrences_at (turned p line) line (times_of line)) ++ there (occurrences_from (past_times (turned p line) (times_of line)) found)
+  with_line = search (rules, there_parts, none_elsewhere)
 
   -- if a walk continues from the progress `p`, the records up to the last record at the place have
   -- the same docker lines as all records
   lines_up_to : (p : Progress) (lines : List (List ℕ)) → there (occurrences_from p (up_to_last place lines)) ≡ there (occurrences_from p lines)
   lines_up_to p [] = refl
-  lines_up_to p (line ∷ lines) = by (names_place place line) refl (up_to_last place lines) (lines_up_to next lines)
-    where
-      next : Progress
-      next = past_times (turned p line) (times_of line)
-
-      here : List Occurrence
-      here = occurrences_at (turned p line) line (times_of line)
-
-      with_line : (found : List (List ℕ)) → there (occurrences_from next found) ≡ there (occurrences_from next lines)
-          → there (here ++ occurrences_from next found) ≡ there (here ++ occurrences_from next lines)
-      with_line found same =
-          there_parts here (occurrences_from next found) ∙ ap (λ more. there here ++ more) same ∙ sym (there_parts here (occurrences_from next lines))
-
-      by : (named : Bool) → names_place place line ≡ named → (found : List (List ℕ))
-          → there (occurrences_from next found) ≡ there (occurrences_from next lines)
-          → there (occurrences_from p (before_named named line found)) ≡ there (here ++ occurrences_from next lines)
-      by true h [] same = with_line [] same
-      by false h [] same =
-          same ∙ ap (λ none. none ++ there (occurrences_from next lines)) (sym (none_elsewhere (turned p line) line (times_of line) h))
-          ∙ sym (there_parts here (occurrences_from next lines))
-      by named h (found ∷ rest) same = with_line (found ∷ rest) same
+  lines_up_to p (line ∷ lines) = search (rules, with_line, there_parts, (lines_up_to (past_times (turned p line) (times_of line)) lines))
 
   -- the events of a schedule up to its last record at the place have the same docker lines as all
   -- its events

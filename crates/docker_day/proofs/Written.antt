@@ -1,12 +1,8 @@
 -- Writing a text part by part: which bytes the sink has gained, and how often the sink has failed.
-use Rattle.std.proofs.Common.{◌≡◌, ℕ, ◌+◌, ◌<◌, ◌≤◌, List, ◌∷◌, ◌++◌, length, drop, get_or, ap, rules}
-use Rattle.std.proofs.Common.{sym, subst, Ok, arith, append_assoc, append-nil, length-append}
-use Rattle.std.specs.Prelude.{◌≢◌, true, false, Option, Result, IsErr, IsErrAnd, OnOk, OnErr, ⊤}
-use Rattle.std.specs.List.{flat_map}
-use Rattle.std.proofs.Math.ListN.{drop_of_length-le}
-use Rattle.std.proofs.lemmas.List.{take-append-le}
-use Rattle.std.proofs.Math.Seq.{take-append-add, drop-cons}
-use Rattle.std.proofs.lemmas.Result.{on_ok_weaker, on_err_weaker}
+use Rattle.cif_laws.proofs.Common.{◌≡◌, ℕ, ◌+◌, ◌<◌, ◌≤◌, List, ◌∷◌, ◌++◌, length, drop, get_or, ap, rules, sym, subst, Ok, arith, append_assoc, append-nil}
+use Rattle.cif_laws.proofs.Common.{length-append, ◌≢◌, true, false, Option, Result, IsErr, IsErrAnd, OnOk, OnErr, ⊤, flat_map, drop_of_length-le}
+use Rattle.cif_laws.proofs.Common.{take-append-le, take-append-add, on_ok_weaker, on_err_weaker}
+use Rattle.std.proofs.Math.Seq.{drop-cons}
 use Rattle.cif_device.proofs.DeviceLemmas.{counts_error}
 use Rattle.cif_device.specs.Device.{CountsFailure, Takes, TakesPart}
 

@@ -1,6 +1,5 @@
 -- What is left in an input at the end of a session.
-use Rattle.std.proofs.Common.{◌≡◌, ℕ, List, [], ◌∷◌, Some, None, ◌⊎◌, inl, inr, subst, rules}
-use Rattle.std.specs.Prelude.{Option, Ok}
+use Rattle.cif_laws.proofs.Common.{◌≡◌, ℕ, List, [], ◌∷◌, Some, None, ◌⊎◌, inl, inr, subst, rules, Option, Ok}
 use Rattle.docker_cmd.specs.Prepared.{DeviceBytes}
 use Rattle.docker_desk.specs.Lines.{EndsLine, LineView, ReadsAsked, ReadsNext, asked_meant, cut_line, with_ahead}
 use Rattle.docker_desk.specs.Answering.{LeavesNone}

@@ -1,16 +1,9 @@
 -- The known files determine states, dockers and lists.
-use Rattle.std.proofs.Common.{◌≡◌, ℕ, List, length, subst, arith, rules}
-use Rattle.std.proofs.lemmas.List.{length-map}
-use Rattle.std.proofs.lemmas.List.Elements.{All-get_or}
+use Rattle.cif_laws.proofs.Common.{◌≡◌, ℕ, List, length, subst, arith, rules, length-map, All-get_or, IsDockerText, IsDayRefused, lapse_table, State}
+use Rattle.cif_laws.proofs.Common.{live_table, dks_2, HaveDistinctMoments, IsSummary, Table, IsPlainTable, IsOffice, Known, nothing, office_known}
+use Rattle.cif_laws.proofs.Common.{AreOneKnowledge, HaveSameFiles, IsGoodKnown, IsPlacesText}
 use Rattle.cif_laws.proofs.lists.ZipSteps.{zip_at}
-use Rattle.docker_model.specs.docker.DockerText.{IsDockerText}
-use Rattle.docker_model.specs.state.Lapse.{IsDayRefused, lapse_table}
-use Rattle.docker_model.specs.state.State.{State, live_table}
-use Rattle.docker_model.specs.state.StateText.{dks_2}
-use Rattle.docker_model.specs.state.Summary.{HaveDistinctMoments, IsSummary}
-use Rattle.docker_model.specs.state.Table.{Table, IsPlainTable}
-use Rattle.docker_model.specs.run.Run.{IsOffice, Known, nothing, office_known}
-use Rattle.docker_model.specs.run.Knowledge.{AreOneKnowledge, HaveSameFiles, IsGoodKnown, sets_of}
+use Rattle.docker_model.specs.run.Knowledge.{sets_of}
 use Rattle.docker_laws.proofs.dockers.PrintedDocker.{printed_is_plain}
 use Rattle.docker_laws.proofs.runs.GoodKnowledge.{good_in_run}
 use Rattle.docker_laws.proofs.runs.KnownSets.{offices_are}
@@ -18,7 +11,6 @@ use Rattle.docker_laws.proofs.runs.RunEnd.{docker_of_files}
 use Rattle.state_laws.proofs.states.OnePlainTable.{some_plain_table}
 use Rattle.state_laws.proofs.states.PlainLive.{live_is_lapsed_plain}
 use Rattle.state_laws.proofs.states.SummaryLaws.{summary_unique}
-use Rattle.docker_model.specs.lists.PlacesText.{IsPlacesText}
 use Rattle.docker_office.specs.RunEnds.{EndsWith, PrintsAs}
 use Rattle.docker_desk.specs.Answering.{answers_of, lines_of}
 use Rattle.docker_desk.specs.Learning.{IsKnown}

@@ -1,26 +1,20 @@
 -- What the state gains in each step of a session, and in all steps together.
-use Rattle.std.proofs.Common.{◌≡◌, ℕ, List, [], ◌∷◌, ◌++◌, refl, sym, ap, subst, Some, None, Ok, Err, arith, rules}
-use Rattle.std.specs.Prelude.{Option, Result, ⊤}
-use Rattle.docker_model.specs.file.File.{most_records}
-use Rattle.docker_model.specs.state.State.{State}
-use Rattle.docker_model.specs.state.StateText.{dks_2, state_text}
-use Rattle.docker_model.specs.records.Date.{IsDay}
+use Rattle.cif_laws.proofs.Common.{◌≡◌, ℕ, List, [], ◌∷◌, ◌++◌, refl, sym, ap, subst, Some, arith, rules, Option, most_records, State, dks_2, state_text, IsDay}
 use Rattle.docker_cmd.specs.Prepared.{most_bytes}
 use Rattle.docker_cmd.specs.Saved.{AreGained, Gain, Gains, HoldsVersion, IsSaved}
-use Rattle.docker_host.specs.History.{Bytes, Event, Text, looked}
+use Rattle.docker_host.specs.History.{Bytes, Event, Text}
 use Rattle.docker_bytes.specs.SourceRead.{JoinsState}
 use Rattle.docker_office.specs.Office.{TakesFile}
 use Rattle.docker_office.specs.declared.fault.OfficeFault.{OfficeFault}
-use Rattle.docker_desk.specs.Desk.{EndsReceiving, EndsRenewing, EndsSaving, EndsTaking}
-use Rattle.docker_desk.specs.Doing.{AreSteps, DoesAsked, DoesRequest, Joins, Renews, Saves, answer_of}
+use Rattle.docker_desk.specs.Desk.{EndsReceiving, EndsTaking}
+use Rattle.docker_desk.specs.Doing.{AreSteps, DoesAsked, DoesRequest, Joins, Renews, Saves}
 use Rattle.docker_desk.specs.Learning.{GainedBy, GainsAsked, GainsDone, GainsFile, GainsVersion, IsPlaced, IsUnsaved, MayBePlaced, renewing}
 use Rattle.docker_desk.specs.SessionViews.{SessionView, Setting, Step}
-use Rattle.docker_desk.specs.Reading.{Reading, StopsInFile, StopsInState, events_of, opening_of}
+use Rattle.docker_desk.specs.Reading.{Reading, StopsInFile, StopsInState, events_of}
 use Rattle.docker_desk.specs.Replies.{AnswerView, done_with, refused_for}
 use Rattle.docker_desk.specs.Requests.{RequestView, horizon_request}
 use Rattle.docker_desk.specs.Serving.{BeginsAt}
-use Rattle.docker_desk.specs.declared.compared.Compared.{Compared}
-use Rattle.docker_desk.proofs.HeardLemmas.{held_after_look, held_once, unsaved_by}
+use Rattle.docker_desk.proofs.HeardLemmas.{held_after_look, held_once, joined_read, renewed_read, unsaved_by}
 use Rattle.docker_desk.proofs.KnownLemmas.{day_asked, never_unasked, same_refused, same_saved}
 
 module _ (earlier : List (List ℕ)) where
@@ -42,18 +36,14 @@ module _ (earlier : List (List ℕ)) where
     -- if `take` succeeded, the state gained the file
     gained_file : (file : Text) (text : List ℕ) (gains : List Gain) → Joins file StopsInFile EndsTaking before (done_with text) after
         → GainsFile file before after gains → AreGained earlier gains before.desk.state after.desk.state
-    gained_file file text gains does gained = by does.result does.opens.read does.told does.opens.asked does.opens.ends
-      where
-        by : (result : Result ⊤ OfficeFault) (read : Option Reading) → done_with text ≡ answer_of result
-            → after.history ≡ before.history ++ opening_of file read
-            → EndsTaking before.desk.state after.desk.state result read → AreGained earlier gains before.desk.state after.desk.state
-        by (Ok done) (Some read) told asked ends = gained_one _ _ _ _ gained.gains_are (
+    gained_file file text gains does gained =
+        let joined = joined_read file StopsInFile EndsTaking before after text (λ old new none. none) does in
+        gained_one _ _ _ _ gained.gains_are (
           gained.read.held,
           gained.holds,
-          subst (λ (bytes : Bytes). TakesFile most_records bytes before.desk.state after.desk.state) (held_once _ _ _ _ _ asked gained.asked) ends.takes,
+          subst (λ (bytes : Bytes). TakesFile most_records bytes before.desk.state after.desk.state)
+              (held_once _ _ _ _ _ joined.1.0 gained.asked) joined.1.1.takes,
         )
-        by (Ok done) None told asked ends = absurd ends
-        by (Err fault) read told asked ends = let never : ⊥ = cc in absurd never
 
     -- if a state was received from a file, the desk's state gained the version that the file held
     gained_state : (events : Reading → List Event) (gains : List Gain) (held : Bytes) (gained : GainsVersion events earlier before after gains)
@@ -63,25 +53,15 @@ module _ (earlier : List (List ℕ)) where
 
     gained_merged : (other : Text) (text : List ℕ) (gains : List Gain) → Joins other StopsInState EndsReceiving before (done_with text) after
         → GainsVersion (events_of other) earlier before after gains → AreGained earlier gains before.desk.state after.desk.state
-    gained_merged other text gains does gained = by does.result does.opens.read does.told does.opens.asked does.opens.ends
-      where
-        by : (result : Result ⊤ OfficeFault) (read : Option Reading) → done_with text ≡ answer_of result
-            → after.history ≡ before.history ++ opening_of other read
-            → EndsReceiving before.desk.state after.desk.state result read → AreGained earlier gains before.desk.state after.desk.state
-        by (Ok done) (Some read) told asked ends = gained_state _ gains _ gained (held_once _ before.history _ read _ asked gained.asked) ends
-        by (Ok done) None told asked ends = absurd ends
-        by (Err fault) read told asked ends = let never : ⊥ = cc in absurd never
+    gained_merged other text gains does gained =
+        let joined = joined_read other StopsInState EndsReceiving before after text (λ old new none. none) does in
+        gained_state _ gains _ gained (held_once _ before.history _ joined.0 _ joined.1.0 gained.asked) joined.1.1
 
     gained_renewed : (text : List ℕ) (gains : List Gain) → Renews setting before (done_with text) after
         → GainsVersion (renewing setting.name) earlier before after gains → AreGained earlier gains before.desk.state after.desk.state
-    gained_renewed text gains does gained = by does.result does.opens.read does.told does.opens.asked does.opens.ends
-      where
-        by : (result : Result Compared OfficeFault) (read : Option Reading) → done_with text ≡ answer_of result
-            → after.history ≡ before.history ++ looked setting.name ∷ opening_of setting.name read
-            → EndsRenewing before.desk after.desk result read → AreGained earlier gains before.desk.state after.desk.state
-        by (Ok found) (Some read) told asked ends = gained_state _ gains _ gained (held_after_look _ before.history _ read _ asked gained.asked) ends.0.0
-        by (Ok found) None told asked ends = absurd ends.0.0
-        by (Err fault) read told asked ends = let never : ⊥ = cc in absurd never
+    gained_renewed text gains does gained =
+        let joined = renewed_read setting before after text does in
+        gained_state _ gains _ gained (held_after_look _ before.history _ joined.0 _ joined.1.0 gained.asked) joined.1.1
 
     -- if a request succeeded, the state gained what the request adds: a file, a version, a horizon,
     -- or nothing
@@ -118,17 +98,11 @@ module _ (earlier : List (List ℕ)) where
     pub places_version : (first before after : SessionView) (steps : List Step) (old : List Event) (own : ℕ) (gains : List Gain) (answer : List ℕ)
         → (begins : BeginsAt setting.name old first) → HoldsVersion earlier begins.held own → AreSteps setting first steps before
         → GainedBy setting earlier steps gains → Saves setting before (done_with answer) after → IsPlaced setting earlier own gains before after
-    places_version first before after steps old own gains answer begins holds are gained does = by does.result does.told does.stores
-      where
-        by : (result : Result ⊤ OfficeFault) → done_with answer ≡ answer_of result
-            → EndsSaving setting.names_bytes setting.name before.look (state_text dks_2 before.desk.state) before.history after.history result
-            → IsPlaced setting earlier own gains before after
-        by (Ok done) told stores = record {
-          text = state_text dks_2 before.desk.state;
-          saved = saved_text first before steps old own gains begins holds are gained;
-          asked = stores;
-        }
-        by (Err fault) told stores = let never : ⊥ = cc in absurd never
+    places_version first before after steps old own gains answer begins holds are gained does = record {
+      text = state_text dks_2 before.desk.state;
+      saved = saved_text first before steps old own gains begins holds are gained;
+      asked = search rules;
+    }
 
     -- the same, if `save` was refused
     pub may_place_version : (first before after : SessionView) (steps : List Step) (old : List Event) (own : ℕ) (gains : List Gain) (fault : OfficeFault)

@@ -1,8 +1,7 @@
 -- Words that are too many for a session, or that couldn't be read.
-use Rattle.std.proofs.Common.{◌≡◌, ℕ, ◌<◌, List, length, string_bytes, rules}
-use Rattle.std.specs.Prelude.{Bool, String}
+use Rattle.cif_laws.proofs.Common.{◌≡◌, ℕ, ◌<◌, List, length, string_bytes, rules, Bool, length-map}
+use Rattle.std.specs.Prelude.{String}
 use Rattle.std.specs.Global.{Global}
-use Rattle.std.proofs.lemmas.List.{length-map}
 use Rattle.docker_cmd.specs.Words.{Text}
 use Rattle.docker_host.specs.FaultSink.{FaultsView, TellsText}
 use Rattle.docker_host.specs.SessionHost.{SessionHostView}

@@ -1,20 +1,17 @@
 -- What a desk learns from the files that `take`, `merge` and `renew` read.
-use Rattle.std.proofs.Common.{◌≡◌, ℕ, List, [], ◌∷◌, ◌++◌, refl, subst, Some, None, Ok, Err, rules}
-use Rattle.std.specs.Prelude.{Option, Result, ⊤}
-use Rattle.docker_model.specs.run.Run.{Known, nothing, united}
-use Rattle.docker_model.specs.state.StateText.{dks_2, state_text}
+use Rattle.cif_laws.proofs.Common.{◌≡◌, ℕ, List, [], ◌∷◌, ◌++◌, refl, Some, None, Ok, rules, Option, Result, ⊤, Known, nothing, united, State, dks_2}
+use Rattle.cif_laws.proofs.Common.{state_text}
 use Rattle.docker_cmd.specs.Prepared.{most_bytes}
 use Rattle.docker_host.specs.Asked.{IsUnplaced}
 use Rattle.docker_host.specs.History.{Bytes, Event, Text, looked}
 use Rattle.docker_bytes.specs.SourceRead.{JoinsState}
 use Rattle.docker_office.specs.declared.fault.OfficeFault.{OfficeFault}
-use Rattle.docker_desk.specs.Desk.{EndsReceiving, EndsRenewing, EndsTaking}
-use Rattle.docker_desk.specs.Reading.{Reading, StopsInFile, StopsInState, events_of, opening_of}
-use Rattle.docker_desk.specs.declared.compared.Compared.{Compared}
+use Rattle.docker_desk.specs.Desk.{EndsReceiving, EndsTaking}
+use Rattle.docker_desk.specs.Reading.{Reading, StopsInFile, StopsInState, events_of}
 use Rattle.docker_desk.specs.Requests.{RequestView, show_request, renew_request, take_request, merge_request, horizon_request, save_request}
 use Rattle.docker_desk.specs.Replies.{AnswerView, done_with, refused_for}
 use Rattle.docker_desk.specs.SessionViews.{SessionView, Setting, Step}
-use Rattle.docker_desk.specs.Doing.{AreSteps, DoesAsked, DoesRequest, Joins, Renews, Saves, answer_of}
+use Rattle.docker_desk.specs.Doing.{AreSteps, DoesAsked, DoesRequest, Joins, Renews, Saves}
 use Rattle.docker_desk.specs.Learning.{AllHearKnown, AreLearned, Hears, HearsFile, HearsKnown, HearsState}
 use Rattle.docker_desk.specs.Learning.{HoldsKnown, IsKnown, IsUnsaved, Learns, MayPlaceKnown, PlacesKnown, ReceivesKnown, renewing}
 use Rattle.docker_desk.proofs.KnownLemmas.{known_read}
@@ -36,6 +33,21 @@ pub held_after_look : (name : Text) (old new : List Event) (first second : Readi
     → new ≡ old ++ looked name ∷ events_of name second → first.held ≡ second.held
 held_after_look = search (rules, one_more)
 
+-- ---- a request that succeeded
+
+-- if `take` or `merge` succeeded, the file was opened and read
+pub joined_read : (name : Text) (Stops : Reading → Type 0) (Ends : State → State → Result ⊤ OfficeFault → Option Reading → Type 0)
+    (before after : SessionView) (text : List ℕ) → ((old new : State) → Ends old new (Ok tt) None → ⊥)
+    → Joins name Stops Ends before (done_with text) after
+    → (read : Reading) × ((after.history ≡ before.history ++ events_of name read) × Ends before.desk.state after.desk.state (Ok tt) (Some read))
+joined_read = search rules
+
+-- if `renew` succeeded, the state's file was opened, and its state was received
+pub renewed_read : (setting : Setting) (before after : SessionView) (text : List ℕ) → Renews setting before (done_with text) after
+    → (read : Reading) × ((after.history ≡ before.history ++ renewing setting.name read)
+    × JoinsState dks_2 most_bytes read.held before.desk.state after.desk.state)
+renewed_read = search rules
+
 -- ---- a state is received or saved
 
 -- if `save` was refused, it stored nothing, or replacing the file with the draft failed
@@ -50,8 +62,7 @@ module _ (before after : SessionView) (known : Known) where
   hears_held : (events : Reading → List Event) (held : Bytes) (holds : HoldsKnown events before after known) → held ≡ holds.read.held
       → JoinsState dks_2 most_bytes held before.desk.state after.desk.state → HearsState events before after known
   hears_held events held holds same joins =
-      let there : JoinsState dks_2 most_bytes holds.read.held before.desk.state after.desk.state =
-      subst (λ (bytes : Bytes). JoinsState dks_2 most_bytes bytes before.desk.state after.desk.state) same joins in
+      let there : JoinsState dks_2 most_bytes holds.read.held before.desk.state after.desk.state = rw (← same) joins in
       record {
         read = holds.read;
         asked = holds.asked;
@@ -62,28 +73,17 @@ module _ (before after : SessionView) (known : Known) where
   -- if `merge` succeeded, and the file held the text of a summary, the desk learned this summary
   pub hears_merged : (other : Text) (text : List ℕ) → Joins other StopsInState EndsReceiving before (done_with text) after
       → HoldsKnown (events_of other) before after known → HearsState (events_of other) before after known
-  hears_merged other text does holds = by does.result does.opens.read does.told does.opens.asked does.opens.ends
-    where
-      by : (result : Result ⊤ OfficeFault) (read : Option Reading) → done_with text ≡ answer_of result
-          → after.history ≡ before.history ++ opening_of other read
-          → EndsReceiving before.desk.state after.desk.state result read → HearsState (events_of other) before after known
-      by (Ok done) (Some read) told asked ends = hears_held (events_of other) _ holds (held_once _ before.history _ read _ asked holds.asked) ends
-      by (Ok done) None told asked ends = absurd ends
-      by (Err fault) read told asked ends = let never : ⊥ = cc in absurd never
+  hears_merged other text does holds =
+      let joined = joined_read other StopsInState EndsReceiving before after text (λ old new none. none) does in
+      hears_held (events_of other) _ holds (held_once _ before.history _ joined.0 _ joined.1.0 holds.asked) joined.1.1
 
   -- if `renew` succeeded, and the state's file held the text of a summary, the desk learned this
   -- summary
   pub hears_renewed : (setting : Setting) (text : List ℕ) → Renews setting before (done_with text) after
       → HoldsKnown (renewing setting.name) before after known → HearsState (renewing setting.name) before after known
-  hears_renewed setting text does holds = by does.result does.opens.read does.told does.opens.asked does.opens.ends
-    where
-      by : (result : Result Compared OfficeFault) (read : Option Reading) → done_with text ≡ answer_of result
-          → after.history ≡ before.history ++ looked setting.name ∷ opening_of setting.name read
-          → EndsRenewing before.desk after.desk result read → HearsState (renewing setting.name) before after known
-      by (Ok found) (Some read) told asked ends = hears_held (renewing setting.name) _ holds
-          (held_after_look _ before.history _ read _ asked holds.asked) ends.0.0
-      by (Ok found) None told asked ends = absurd ends.0.0
-      by (Err fault) read told asked ends = let never : ⊥ = cc in absurd never
+  hears_renewed setting text does holds =
+      let joined = renewed_read setting before after text does in
+      hears_held (renewing setting.name) _ holds (held_after_look _ before.history _ joined.0 _ joined.1.0 holds.asked) joined.1.1
 
   -- if `save` succeeded, the saved text is the text of the summary of what is known
   pub places_known : (setting : Setting) (text : List ℕ) → IsKnown known before.desk.state → Saves setting before (done_with text) after
@@ -101,17 +101,11 @@ module _ (before after : SessionView) (known : Known) where
 -- if `take` succeeded, there is a file that the desk came to know
 takes_heard : (file : Text) (text : List ℕ) (before after : SessionView) → Joins file StopsInFile EndsTaking before (done_with text) after
     → (heard : Known) × HearsFile file before after heard
-takes_heard file text before after does = by does.result does.opens.read does.told does.opens.asked does.opens.ends
-  where
-    by : (result : Result ⊤ OfficeFault) (read : Option Reading) → done_with text ≡ answer_of result
-        → after.history ≡ before.history ++ opening_of file read
-        → EndsTaking before.desk.state after.desk.state result read → (heard : Known) × HearsFile file before after heard
-    by (Ok done) (Some read) told asked ends = (
-      record { files = ends.takes.file ∷ []; horizon = 0 },
-      record { read = read; asked = asked; takes = ends.takes; heard_is = refl },
+takes_heard file text before after does =
+    let joined = joined_read file StopsInFile EndsTaking before after text (λ old new none. none) does in (
+      record { files = joined.1.1.takes.file ∷ []; horizon = 0 },
+      record { read = joined.0; asked = joined.1.0; takes = joined.1.1.takes; heard_is = refl },
     )
-    by (Ok done) None told asked ends = absurd ends
-    by (Err fault) read told asked ends = let never : ⊥ = cc in absurd never
 
 module _ (setting : Setting) where
   -- with each request that succeeded, the desk came to know files and a horizon, or nothing new

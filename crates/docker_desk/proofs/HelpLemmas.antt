@@ -1,12 +1,7 @@
 -- Writing what `--help` prints, word by word and line by line.
-use Rattle.std.proofs.Common.{◌≡◌, ℕ, ◌<◌, ◌≤◌, ◌+◌, List, [], ◌∷◌, ◌++◌, length, take, drop, get_or, refl, ap, sym, subst, arith, rules}
-use Rattle.std.proofs.Common.{append_assoc, append-nil, add-one, ◌∙◌}
-use Rattle.std.specs.Prelude.{Bool, codes, map}
-use Rattle.std.specs.List.{flat_map}
-use Rattle.std.specs.Borrow.{Bor}
-use Rattle.std.proofs.Math.ListN.{drop_of_length-le}
-use Rattle.std.proofs.lemmas.List.{take-append-drop}
-use Rattle.std.proofs.lemmas.Grind.{flat_map-append, common_steps}
+use Rattle.cif_laws.proofs.Common.{◌≡◌, ℕ, ◌<◌, ◌≤◌, ◌+◌, List, [], ◌∷◌, ◌++◌, length, take, drop, get_or, refl, ap, sym, subst, arith, rules, append_assoc}
+use Rattle.cif_laws.proofs.Common.{append-nil, ◌∙◌, Bool, codes, map, flat_map, Bor, drop_of_length-le, take-append-drop, flat_map-append, common_steps}
+use Rattle.std.proofs.Common.{add-one}
 use Rattle.std.proofs.Math.Seq.{take-suc}
 use Rattle.docker_cmd.specs.Words.{Text, usage_with}
 use Rattle.docker_host.specs.Streams.{StreamsView, WritesPart, WritesWhole}

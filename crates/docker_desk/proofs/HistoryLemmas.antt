@@ -1,10 +1,7 @@
 -- How each request adds events to a folder's history.
-use Rattle.std.proofs.Common.{◌≡◌, ℕ, List, [], ◌∷◌, ◌++◌, Bool, subst, append_assoc, Ok, rules}
-use Rattle.std.specs.Prelude.{Option, Result, ⊤}
+use Rattle.cif_laws.proofs.Common.{◌≡◌, ℕ, List, [], ◌∷◌, ◌++◌, Bool, subst, append_assoc, Ok, rules, Option, Result, ⊤, State, dks_2, state_text}
 use Rattle.docker_host.specs.History.{Bytes, Event, Text, closed, looked, opened}
 use Rattle.docker_host.specs.Asked.{IsStored}
-use Rattle.docker_model.specs.state.State.{State}
-use Rattle.docker_model.specs.state.StateText.{dks_2, state_text}
 use Rattle.docker_office.specs.declared.fault.OfficeFault.{OfficeFault}
 use Rattle.docker_desk.specs.Desk.{EndsSaving}
 use Rattle.docker_desk.specs.Reading.{OpensOnce, Reading, events_of}

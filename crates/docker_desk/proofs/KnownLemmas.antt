@@ -1,15 +1,7 @@
 -- What a desk knows after each step of a session, and after all steps.
-use Rattle.std.proofs.Common.{◌≡◌, ◌≤◌, ℕ, Bool, List, [], ◌∷◌, ◌++◌, length, refl, sym, ◌∙◌, ap, subst, arith, append-nil, Some, None}
-use Rattle.std.proofs.Common.{rules}
-use Rattle.std.specs.Prelude.{Option, Result, ⊤}
-use Rattle.std.proofs.Math.Nat.{max-zero}
-use Rattle.std.proofs.lemmas.List.Elements.{All-cons, All-nil}
-use Rattle.docker_model.specs.records.Date.{IsDay}
-use Rattle.docker_model.specs.file.File.{IsFile, most_records}
-use Rattle.docker_model.specs.state.State.{State, IsJoin, raise_horizon}
-use Rattle.docker_model.specs.state.StateText.{dks_2}
-use Rattle.docker_model.specs.state.Summary.{IsSummary}
-use Rattle.docker_model.specs.run.Run.{Known, nothing, united}
+use Rattle.cif_laws.proofs.Common.{◌≡◌, ◌≤◌, ℕ, Bool, List, [], ◌∷◌, ◌++◌, length, refl, sym, ◌∙◌, subst, append-nil, Some, ap, None, rules, Option, Result, ⊤}
+use Rattle.cif_laws.proofs.Common.{max-zero, All-cons, All-nil, IsDay, IsFile, most_records, State, IsJoin, raise_horizon, dks_2, IsSummary, Known, nothing}
+use Rattle.cif_laws.proofs.Common.{united}
 use Rattle.docker_laws.proofs.runs.GoodKnowledge.{horizon_good, united_good}
 use Rattle.state_laws.proofs.states.SummaryLaws.{join_is_summary, raised_summary}
 use Rattle.state_laws.proofs.texts.TextsApart.{one_text}
@@ -19,10 +11,8 @@ use Rattle.docker_bytes.specs.SourceRead.{ReadsState}
 use Rattle.docker_office.specs.Office.{HoldsState}
 use Rattle.docker_office.specs.declared.fault.OfficeFault.{OfficeFault}
 use Rattle.docker_desk.specs.Lines.{LineView}
-use Rattle.docker_desk.specs.Requests.{RequestView, show_request, renew_request, take_request, merge_request, horizon_request, save_request}
-use Rattle.docker_desk.specs.Desk.{EndsReceiving, EndsRenewing, EndsTaking}
+use Rattle.docker_desk.specs.Requests.{RequestView, horizon_request, show_request, renew_request, take_request, merge_request, save_request}
 use Rattle.docker_desk.specs.Reading.{Reading, events_of}
-use Rattle.docker_desk.specs.declared.compared.Compared.{Compared}
 use Rattle.docker_desk.specs.Replies.{AnswerView, done_with, no_request, refused_for}
 use Rattle.docker_desk.specs.SessionViews.{SessionView, Setting, Step}
 use Rattle.docker_desk.specs.Doing.{AreSteps, AsksOf, DoesAsked, DoesRequest, IsStep, answer_of, desk_by}
@@ -54,13 +44,7 @@ known_raised = search (rules, united_good, horizon_good, append-nil, raised_summ
 -- what the desk knows
 known_file : (file : List (List ℕ)) (state : State) → IsFile file → length file ≤ most_records → IsSummary (file ∷ []) 0 state
     → IsKnown (record { files = file ∷ []; horizon = 0 }) state
-known_file file state is few summary = record {
-  good = (
-    (All-cons IsFile file [] is (All-nil IsFile), All-cons (λ f. length f ≤ most_records) file [] few (All-nil (λ f. length f ≤ most_records))),
-    omega arith,
-  );
-  is = summary;
-}
+known_file = search (rules, All-cons, All-nil)
 
 -- ---- what is known after one request
 
@@ -82,19 +66,6 @@ module _ (setting : Setting) (before after : SessionView) where
   pub same_saved : (result : Result ⊤ OfficeFault) → after.desk ≡ desk_by result before.desk → after.desk.state ≡ before.desk.state
   same_saved = search rules
 
-  -- if `take` is refused, the state is unchanged
-  refused_take : (fault : OfficeFault) (result : Result ⊤ OfficeFault) (held : Option Reading) → refused_for fault ≡ answer_of result
-      → EndsTaking before.desk.state after.desk.state result held → after.desk.state ≡ before.desk.state
-  refused_take = search rules
-
-  refused_merge : (fault : OfficeFault) (result : Result ⊤ OfficeFault) (held : Option Reading) → refused_for fault ≡ answer_of result
-      → EndsReceiving before.desk.state after.desk.state result held → after.desk.state ≡ before.desk.state
-  refused_merge = search rules
-
-  refused_renew : (fault : OfficeFault) (result : Result Compared OfficeFault) (held : Option Reading) → refused_for fault ≡ answer_of result
-      → EndsRenewing before.desk after.desk result held → after.desk.state ≡ before.desk.state
-  refused_renew = search rules
-
   -- the answer made from a result is never `no_request`
   some_answer : {A : Type 0} (result : Result A OfficeFault) → ¬ (no_request ≡ answer_of result)
   some_answer = search rules
@@ -114,7 +85,7 @@ module _ (setting : Setting) (before after : SessionView) where
   -- a refused request doesn't change the state
   pub same_refused : (request : RequestView) (fault : OfficeFault) → DoesRequest setting request before (refused_for fault) after
       → after.desk.state ≡ before.desk.state
-  same_refused = search (rules, refused_renew, refused_take, refused_merge, same_saved)
+  same_refused = search (rules, same_saved)
 
   -- the answer to a request is never `no_request`
   pub never_unasked : (request : RequestView) → ¬ DoesRequest setting request before no_request after

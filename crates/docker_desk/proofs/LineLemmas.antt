@@ -1,11 +1,7 @@
 -- Reading a line byte by byte, and what the bytes read so far say about the line.
-use Rattle.std.proofs.Common.{◌≡◌, ℕ, ◌+◌, ◌≤◌, ◌≢◌, List, [], ◌∷◌, ◌++◌, length, true, false, refl, sym, ◌∙◌, rules}
-use Rattle.std.proofs.lemmas.Grind.{common_steps}
-use Rattle.std.proofs.Common.{ap, subst, arith, append_assoc, length-append, append-nil, Some, None, inl, inr, Ok, Err}
-use Rattle.std.specs.Prelude.{Option, Result, ◌⊎◌}
-use Rattle.std.specs.List.{AllByRecursion}
-use Rattle.std.proofs.lemmas.List.Elements.{recursion_from_All}
-use Rattle.docker_model.specs.records.Record.{is_printable}
+use Rattle.cif_laws.proofs.Common.{◌≡◌, ℕ, ◌+◌, ◌≤◌, ◌≢◌, List, [], ◌∷◌, ◌++◌, length, true, false, refl, sym, ◌∙◌, rules, common_steps, ap, subst, arith}
+use Rattle.cif_laws.proofs.Common.{append_assoc, length-append, append-nil, Some, None, inl, inr, Ok, Err, Option, Result, ◌⊎◌, AllByRecursion}
+use Rattle.cif_laws.proofs.Common.{recursion_from_All, is_printable}
 use Rattle.cif_device.specs.Device.{Reads, IsEnd}
 use Rattle.docker_cmd.specs.JobLine.{IsLineText}
 use Rattle.docker_desk.specs.declared.lines.Asked.{Asked}
@@ -128,8 +124,7 @@ reads_bad old now mid new line b result first then_one good spoiled ends = by ol
     by : (old mid : Option (List ℕ)) (result : Result Asked InputFault) → Reads old (line ++ b ∷ []) mid → EndsSkipping mid result new → EndsLine old result new
     by None mid (Ok asked.Bad) read ends = tt
     by None mid (Ok asked.Cut) read ends = tt
-    by (Some text) None (Ok asked.Bad) read ends = let never : ⊥ = cc in absurd never
-    by (Some text) None (Ok asked.Cut) read ends = let never : ⊥ = cc in absurd never
+    by (Some text) None result read ends = let never : ⊥ = cc in absurd never
     by (Some text) (Some left) (Ok asked.Bad) read ends =
         let same : text ≡ (line ++ b ∷ []) ++ left = cc in (
           ends.rest,

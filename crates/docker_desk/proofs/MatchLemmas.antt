@@ -1,13 +1,8 @@
 -- How a sink compares a text with the bytes that are written to it.
-use Rattle.std.proofs.Common.{◌≡◌, ◌<◌, ◌+◌, ◌-◌, ℕ, List, [], ◌∷◌, ◌++◌, length, take, drop, Option, None, rules}
-use Rattle.std.proofs.lemmas.Grind.{common_steps}
-use Rattle.std.proofs.Common.{Some, sym, ◌∙◌, ap, subst, arith, append-nil}
-use Rattle.std.proofs.lemmas.List.{take-append-drop}
-use Rattle.std.proofs.lemmas.List.{length-drop}
+use Rattle.cif_laws.proofs.Common.{◌≡◌, ◌<◌, ◌+◌, ◌-◌, ℕ, List, [], ◌∷◌, ◌++◌, length, take, drop, Option, None, rules, common_steps, Some, sym, ◌∙◌, ap, subst}
+use Rattle.cif_laws.proofs.Common.{arith, append-nil, take-append-drop, length-drop, Bool, true, false, ◌&&◌, Result, Ok, Err, OnOk, OnErr, IfErr, IfSome}
+use Rattle.cif_laws.proofs.Common.{IsTrue, ⊤, is_some, is_ok}
 use Rattle.std.proofs.Math.Seq.{take-add, take-length}
-use Rattle.std.specs.Prelude.{Bool, true, false, ◌&&◌, Result, Ok, Err, OnOk, OnErr, IfErr, IfSome, IsTrue, ⊤}
-use Rattle.std.specs.Option.{is_some}
-use Rattle.std.specs.Result.{is_ok}
 use Rattle.cif_device.specs.Device.{CountsFailure, Takes, TakesPart}
 use Rattle.docker_office.specs.declared.fault.OfficeFault.{OfficeFault}
 use Rattle.docker_office.specs.declared.fault.OfficeFault.TheVariants as office
@@ -54,12 +49,8 @@ sent_compares text sent before taken own bytes failures_before failures (Err why
     failed = counts.0.0 (ap Err only)
 
     other : ¬ (text ≡ sent)
-    other is = by part
-      where
-        by : TakesPart (Some before) sent (Some taken) → ⊥
-        by (n, short, takes) =
-            apart (omega (arith, failed)) (drop n sent)
-            (same ∙ is ∙ sym (take-append-drop n sent) ∙ ap (λ (t : List ℕ). t ++ drop n sent) (sym front))
-          where
-            front : taken ≡ take n sent
-            front = search rules
+    other is =
+        let takes = part.2 in
+        let front : taken ≡ take part.0 sent = search rules in
+        apart (omega (arith, failed)) (drop part.0 sent)
+        (same ∙ is ∙ sym (take-append-drop part.0 sent) ∙ ap (λ (t : List ℕ). t ++ drop part.0 sent) (sym front))

@@ -1,13 +1,6 @@
 -- The known files determine the dockers without the short-term plan.
-use Rattle.std.proofs.Common.{◌≡◌, ℕ, List, subst, rules}
-use Rattle.docker_model.specs.docker.DockerText.{IsDockerText}
-use Rattle.docker_model.specs.docker.Permanent.{permanent_table}
-use Rattle.docker_model.specs.run.Run.{Known}
-use Rattle.docker_model.specs.run.Knowledge.{HaveSameFiles}
-use Rattle.docker_model.specs.state.Lapse.{IsDayRefused}
-use Rattle.docker_model.specs.state.State.{State, live_table}
-use Rattle.docker_model.specs.state.Summary.{HaveDistinctMoments}
-use Rattle.docker_model.specs.state.Table.{Table, IsPlainTable}
+use Rattle.cif_laws.proofs.Common.{◌≡◌, ℕ, List, subst, rules, IsDockerText, permanent_table, Known, HaveSameFiles, IsDayRefused, State, live_table}
+use Rattle.cif_laws.proofs.Common.{HaveDistinctMoments, Table, IsPlainTable}
 use Rattle.docker_laws.proofs.dockers.PermanentDocker.{permanent_is_plain, permanent_of_files}
 use Rattle.state_laws.proofs.states.OnePlainTable.{some_plain_table}
 use Rattle.docker_desk.specs.Learning.{IsKnown, KeepsAs}

@@ -1,10 +1,7 @@
 -- The ways in which a desk's `take`, `merge` and `renew`, and its first reading of a state, can
 -- end. Each ending follows from how the office's reading ended.
-use Rattle.std.proofs.Common.{◌≡◌, ℕ, Some, Ok, Err, IsErr, rules}
-use Rattle.std.specs.Prelude.{Result, ⊤, Option, IfSome, Vec, option_map}
-use Rattle.docker_model.specs.file.File.{most_records}
-use Rattle.docker_model.specs.state.State.{State}
-use Rattle.docker_model.specs.state.StateText.{dks_2, state_text}
+use Rattle.cif_laws.proofs.Common.{◌≡◌, ℕ, Some, Ok, Err, IsErr, rules, Result, ⊤, Option, IfSome, option_map, most_records, State, dks_2, state_text}
+use Rattle.std.specs.Prelude.{Vec}
 use Rattle.docker_cmd.specs.Prepared.{ReadsFewOfState, most_bytes}
 use Rattle.cif_device.specs.Device.{Held}
 use Rattle.docker_host.specs.History.{Bytes, Text}

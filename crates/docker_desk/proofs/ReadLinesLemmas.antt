@@ -1,16 +1,11 @@
 -- The lines that were read from an input, and the answers that were written to an output.
-use Rattle.std.proofs.Common.{◌≡◌, ℕ, ◌+◌, ◌-◌, ◌^◌, ◌≤◌, List, [], ◌∷◌, ◌++◌, length, take, refl, sym, ◌∙◌, ap, subst, rules}
-use Rattle.std.proofs.Common.{arith, append_assoc, append-nil, length-append, Some, None, Ok, Err}
-use Rattle.std.specs.Prelude.{⊤, Option, option_map}
-use Rattle.std.proofs.lemmas.List.{length-map, map-append}
-use Rattle.std.proofs.lemmas.Grind.{flat_map-append, common_steps}
+use Rattle.cif_laws.proofs.Common.{◌≡◌, ℕ, ◌+◌, ◌-◌, ◌^◌, ◌≤◌, List, [], ◌∷◌, ◌++◌, length, refl, sym, ◌∙◌, ap, subst, rules, arith, append_assoc, append-nil}
+use Rattle.cif_laws.proofs.Common.{length-append, Some, None, Ok, ⊤, Option, option_map, length-map, map-append, flat_map-append, common_steps}
 use Rattle.cif_device.specs.Device.{IsEnd, Takes, TakesPart}
 use Rattle.docker_cmd.specs.Prepared.{DeviceBytes}
 use Rattle.docker_desk.specs.Lines.{AreLines, EndsLine, IsNextLine, LineView, ReadsAsked, ReadsMany}
 use Rattle.docker_desk.specs.Lines.{ReadsNext, asked_meant, cut_line}
 use Rattle.docker_desk.specs.declared.lines.Asked.{Asked}
-use Rattle.docker_desk.specs.declared.lines.InputFault.{InputFault}
-use Rattle.docker_desk.specs.declared.lines.InputFault.TheVariants.{Endless}
 use Rattle.docker_desk.specs.Replies.{answer_bytes}
 use Rattle.docker_desk.specs.declared.ending.Ending.{Ending}
 use Rattle.docker_desk.specs.declared.ending.Ending.TheVariants.{Ended, InputFailed, InputEndless, OutputFailed}
@@ -81,10 +76,6 @@ module _ (old now : DeviceBytes) (lines : List LineView) where
 pub next_read : (old new : DeviceBytes) (read : Asked) (line : LineView) → asked_meant read ≡ Some line → EndsLine old (Ok read) new → ReadsNext old line new
 next_read old new read line is ends = subst (λ (met : Option LineView). ReadsAsked old met new) is ends
 
--- if reading a line ended with `Endless`, at least 2 ^ 64 - 1 bytes were read
-pub next_endless : (old new : DeviceBytes) (fault : InputFault) → fault ≡ Endless → EndsLine old (Err fault) new → ReadsMany (2 ^ 64 - 1) old new
-next_endless old new fault is ends = subst (λ (f : InputFault). EndsLine old (Err f) new) is ends
-
 -- if at least 2 ^ 64 - 1 bytes were read from an input, the input is endless
 pub endless_line : (old new : DeviceBytes) → ReadsMany (2 ^ 64 - 1) old new → IsEndless old
 endless_line = search (rules, length-append)
@@ -117,14 +108,8 @@ pub ends_on : (ending : Ending) (steps more : List Step) (input input_now output
     → EndsSession ending input_now more output_now output_last → EndsSession ending input (steps ++ more) output output_last
 ends_on ending steps more input input_now output output_now output_last read told = by ending
   where
-    lines : lines_of steps ++ lines_of more ≡ lines_of (steps ++ more)
-    lines = sym (lines_both _ _)
-
-    begins : BeginsWith input_now (lines_of more) → BeginsWith input (lines_of (steps ++ more))
-    begins next = subst (BeginsWith input) lines (begins_more _ input_now (lines_of steps) (lines_of more) read next)
-
     gained : Takes output_now (answers_text more) output_last → Takes output (answers_text (steps ++ more)) output_last
-    gained next = subst (λ text. Takes output text output_last) (sym (told_both _ _)) (takes_more _ _ _ _ _ told next)
+    gained next = search (rules, told_both, takes_more)
 
     breaks : BreaksOff more output_now output_last → BreaksOff (steps ++ more) output output_last
     breaks next = record {
@@ -132,15 +117,15 @@ ends_on ending steps more input input_now output output_now output_last read tol
       last = next.last;
       whole = ap (λ all. steps ++ all) next.whole ∙ sym (append_assoc steps next.earlier (next.last ∷ []));
       between = next.between;
-      told = subst (λ text. Takes output text next.between) (sym (told_both _ _)) (takes_more _ _ _ _ _ told next.told);
+      told = search (rules, told_both, takes_more);
       part = next.part;
     }
 
     by : (ending : Ending) → EndsSession ending input_now more output_now output_last → EndsSession ending input (steps ++ more) output output_last
-    by Ended ends = (subst (HasLines input) lines (has_more _ input_now (lines_of steps) (lines_of more) read ends.0), gained ends.1)
-    by InputFailed ends = (begins ends.0, gained ends.1)
-    by InputEndless ends = (begins ends.0, (endless_more input input_now (lines_of steps) read ends.1.0, gained ends.1.1))
-    by OutputFailed ends = (begins ends.0, breaks ends.1)
+    by Ended ends = (search (rules, lines_both, has_more), gained ends.1)
+    by InputFailed ends = (search (rules, lines_both, begins_more), gained ends.1)
+    by InputEndless ends = (search (rules, lines_both, begins_more), (endless_more input input_now (lines_of steps) read ends.1.0, gained ends.1.1))
+    by OutputFailed ends = (search (rules, lines_both, begins_more), breaks ends.1)
 
 -- each input begins with the empty list of lines
 pub begins_none : (input : DeviceBytes) → BeginsWith input []
@@ -179,6 +164,11 @@ ends_behind ending steps input base text = by ending
     moved : Takes (Some []) (answers_text steps) (Some text) → Takes (Some base) (answers_text steps) (Some (base ++ text))
     moved told = ap behind told
 
+    moves : (between : DeviceBytes) (before piece : List ℕ) → between ≡ Some before → Takes between piece (Some text)
+        → Takes (behind between) piece (Some (base ++ text))
+    moves None before piece is taken = let never : ⊥ = cc in absurd never
+    moves (Some bytes) before piece is taken = search (rules, append_assoc)
+
     breaks : BreaksOff steps (Some []) (Some text) → BreaksOff steps (Some base) (Some (base ++ text))
     breaks broken = record {
       earlier = broken.earlier;
@@ -186,18 +176,8 @@ ends_behind ending steps input base text = by ending
       whole = broken.whole;
       between = behind broken.between;
       told = ap behind broken.told;
-      part = part broken.part;
+      part = (broken.part.0, broken.part.1, moves broken.between (answers_text broken.earlier) _ broken.told broken.part.2);
     }
-      where
-        part : TakesPart broken.between (answer_bytes broken.last.answer) (Some text)
-            → TakesPart (behind broken.between) (answer_bytes broken.last.answer) (Some (base ++ text))
-        part (n, short, taken) = (n, short, moves broken.between (answers_text broken.earlier) broken.told taken)
-          where
-            moves : (between : DeviceBytes) (before : List ℕ) → between ≡ Some before
-                → Takes between (take n (answer_bytes broken.last.answer)) (Some text)
-                → Takes (behind between) (take n (answer_bytes broken.last.answer)) (Some (base ++ text))
-            moves None before is taken = let never : ⊥ = cc in absurd never
-            moves (Some bytes) before is taken = search (rules, append_assoc)
 
     by : (ending : Ending) → EndsSession ending input steps (Some []) (Some text) → EndsSession ending input steps (Some base) (Some (base ++ text))
     by Ended ends = (ends.0, moved ends.1)

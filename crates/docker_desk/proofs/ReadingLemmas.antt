@@ -1,6 +1,5 @@
 -- A text can be divided into lines in at most one way.
-use Rattle.std.proofs.Common.{◌≡◌, ℕ, List, [], ◌∷◌, ◌++◌, refl, sym, ◌∙◌, ap, subst, rules}
-use Rattle.std.proofs.lemmas.List.Elements.{recursion_from_All}
+use Rattle.cif_laws.proofs.Common.{◌≡◌, ℕ, List, [], ◌∷◌, ◌++◌, refl, sym, ◌∙◌, ap, subst, rules, recursion_from_All}
 use Rattle.docker_cmd.specs.JobLine.{IsJobLine, IsLineText}
 use Rattle.docker_desk.specs.Lines.{AreLines, IsBadLine, IsNextLine, IsWithoutFeed, LineView, whole_line, bad_line, cut_line}
 

@@ -1,6 +1,5 @@
 -- A draft of a desk replaces bytes that the desk has read or has placed itself.
-use Rattle.std.proofs.Common.{◌≡◌, ℕ, ◌+◌, List, [], ◌∷◌, ◌++◌, length, inl, inr, ap, sym, subst, ◌∙◌, append_assoc, length-append}
-use Rattle.std.proofs.Common.{rules}
+use Rattle.cif_laws.proofs.Common.{◌≡◌, ℕ, ◌+◌, List, [], ◌∷◌, ◌++◌, length, inl, inr, ap, sym, subst, ◌∙◌, append_assoc, length-append, rules}
 use Rattle.docker_host.specs.Asked.{IsUnplaced}
 use Rattle.docker_host.specs.History.{Event, Text, closed, drafted, looked, opened}
 use Rattle.docker_host.specs.Standing.{IsStandingOf, IsStill, Standing}

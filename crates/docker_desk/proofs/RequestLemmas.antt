@@ -1,9 +1,6 @@
 -- The words of a line determine its request.
-use Rattle.std.proofs.Common.{◌≡◌, ℕ, Bool, true, false, cond, List, [], ◌∷◌, Some, None, refl, sym, subst, rules}
-use Rattle.std.specs.Prelude.{Option, find}
-use Rattle.std.specs.Str.{bytes_eq}
-use Rattle.std.proofs.lemmas.Slice.Eq.{bytes_eq-Decides}
-use Rattle.docker_model.specs.records.Date.{IsDay}
+use Rattle.cif_laws.proofs.Common.{◌≡◌, ℕ, Bool, true, false, cond, List, [], ◌∷◌, Some, None, refl, sym, subst, rules, Option, find, bytes_eq}
+use Rattle.cif_laws.proofs.Common.{bytes_eq-Decides, IsDay}
 use Rattle.docker_cmd.specs.Words.{NamesDay, OfOne, Text, word_named}
 use Rattle.docker_desk.specs.Requests.{AsksFor, FindsRequest, IsRequestOf, MakesRequest, RequestView, after_word, first_word, horizon_request, is_writing}
 use Rattle.docker_desk.specs.Requests.{name_of, verb_named, verbs}
@@ -19,12 +16,11 @@ named_back = search rules
 -- if looking up a name returns a verb, the verb has that name
 found_name : (word : Text) (v : Verb) (vs : List Verb) → find (λ u. bytes_eq (name_of u) word) vs ≡ Some v → word ≡ name_of v
 found_name word v [] found = absurd (cc)
-found_name word v (u ∷ vs) found = by (bytes_eq (name_of u) word) refl found (found_name word v vs)
-  where
-    by : (test : Bool) → bytes_eq (name_of u) word ≡ test → cond test (Some u) (find (λ w. bytes_eq (name_of w) word) vs) ≡ Some v
-        → (find (λ w. bytes_eq (name_of w) word) vs ≡ Some v → word ≡ name_of v) → word ≡ name_of v
-    by true same one rest = search (rules, bytes_eq-Decides)
-    by false differ found rest = rest found
+found_name word v (u ∷ vs) found = (elim (bytes_eq (name_of u) word) as (λ test. bytes_eq (name_of u) word ≡ test
+    → cond test (Some u) (find (λ w. bytes_eq (name_of w) word) vs) ≡ Some v → word ≡ name_of v) [
+      | true ↦ λ same one. search (rules, bytes_eq-Decides)
+      | false ↦ λ differ rest. found_name word v vs rest
+    ]) refl found
 
 name_back : (word : Text) (v : Verb) → verb_named word ≡ Some v → word ≡ name_of v
 unfolding word_named

@@ -1,21 +1,16 @@
 -- How a session ends.
-use Rattle.std.proofs.Common.{◌≡◌, ◌+◌, ℕ, Bool, List, ◌++◌, [], length, arith, inl, inr, Ok, ap, append-nil, subst, ◌∙◌, false, true}
-use Rattle.std.proofs.Common.{rules}
-use Rattle.std.specs.Prelude.{◌&&◌}
+use Rattle.cif_laws.proofs.Common.{◌≡◌, ◌+◌, ℕ, Bool, List, ◌++◌, [], length, arith, inl, inr, Ok, ap, append-nil, subst, ◌∙◌, rules}
 use Rattle.cif_device.specs.Device.{Takes, TakesPart}
 use Rattle.docker_host.specs.History.{Event, Text}
 use Rattle.docker_host.specs.SessionHost.{SessionHostView}
-use Rattle.docker_desk.specs.Answering.{AnswersLines, CountsStreams, LeavesNone}
 use Rattle.docker_cmd.specs.FaultLine.{IsCounted, fault_line, status_of}
 use Rattle.docker_office.specs.declared.fault.OfficeFault.{OfficeFault}
 use Rattle.docker_cmd.specs.declared.fault.Fault.TheVariants.{Office}
 use Rattle.docker_host.specs.FaultSink.{FaultsView, TellsText}
 use Rattle.docker_desk.specs.Desk.{DeskView, IsWhyNot, RefusesToReceive}
 use Rattle.docker_desk.specs.Reading.{LooksAndOpens}
-use Rattle.docker_desk.specs.declared.ending.Ending.{Ending}
-use Rattle.docker_desk.specs.declared.ending.Ending.TheVariants.{Ended}
-use Rattle.docker_desk.specs.SessionViews.{SessionView, session_view, setting}
-use Rattle.docker_desk.specs.Serving.{BeginsAt, EndsOpening, EndsWithStatus, NamesSession, ServesSession}
+use Rattle.docker_desk.specs.SessionViews.{session_view}
+use Rattle.docker_desk.specs.Serving.{BeginsAt, EndsOpening, IsServed, NamesSession, ServesSession}
 use Rattle.docker_desk.proofs.WritingLemmas.{both_taken, part_of_back, part_of_front}
 
 -- if a text was written and then a second text, their concatenation was written
@@ -44,55 +39,11 @@ begins = search rules
 pub still : (before after : ℕ) → IsCounted 0 before after → after ≡ before
 still before after counted = counted.1 (λ four. omega arith)
 
--- if a session started, its lines were answered and its end was reported, the session was served as
--- the contract of `serve_session` says
-pub served : (words : List Text) (names_bytes : Bool) (old new : SessionHostView) (status : ℕ) (name : Text) (may_write : Bool) (first last : SessionView)
-    (ending : Ending) (unsaved : Bool)
-    → NamesSession words name may_write → BeginsAt name old.history first → first.failures ≡ old.folder_failures
-    → AnswersLines (setting name may_write names_bytes) first last old.streams.input old.streams.output new.streams.output [] old.streams.exchanges
-    new.streams.exchanges ending
-    → new.history ≡ last.history → new.folder_failures ≡ last.failures
-    → CountsStreams ending old.streams.input_failures new.streams.input_failures old.streams.output_failures new.streams.output_failures
-    → (old.streams.ended ≡ false → new.streams.passed ≡ old.streams.passed) → (old.streams.ended ≡ false → ending ≡ Ended → new.streams.ended ≡ true)
-    → (ending ≡ Ended → LeavesNone old.streams.input new.streams.input) → EndsWithStatus ending unsaved status old.faults new.faults
-    → unsaved ≡ may_write && last.desk.unsaved → ServesSession words names_bytes old new status
-served words names_bytes old new status name may_write first last ending unsaved named begins none answers history failures counts not_passed told left
-    ends same =
-    inr (inr (record {
-      name = name;
-      may_write = may_write;
-      words_are = named;
-      first = first;
-      begins = begins;
-      none = none;
-      last = last;
-      ending = ending;
-      answers = answers;
-      history = history;
-      failures = failures;
-      counts = counts;
-      not_passed = not_passed;
-      told = told;
-      left = left;
-      ends = subst (λ (u : Bool). EndsWithStatus ending u status old.faults new.faults) same ends;
-    }))
-
--- the same as `served`, for a host `seen` that equals the old host
-pub served_as : (words : List Text) (names_bytes : Bool) (seen old new : SessionHostView) (status : ℕ) (name : Text) (may_write : Bool)
-    (first last : SessionView) (ending : Ending) (unsaved : Bool) → seen ≡ old
-    → NamesSession words name may_write → BeginsAt name seen.history first → first.failures ≡ seen.folder_failures
-    → AnswersLines (setting name may_write names_bytes) first last seen.streams.input seen.streams.output new.streams.output [] seen.streams.exchanges
-    new.streams.exchanges ending
-    → new.history ≡ last.history → new.folder_failures ≡ last.failures
-    → CountsStreams ending seen.streams.input_failures new.streams.input_failures seen.streams.output_failures new.streams.output_failures
-    → (seen.streams.ended ≡ false → new.streams.passed ≡ seen.streams.passed) → (seen.streams.ended ≡ false → ending ≡ Ended → new.streams.ended ≡ true)
-    → (ending ≡ Ended → LeavesNone seen.streams.input new.streams.input) → EndsWithStatus ending unsaved status seen.faults new.faults
-    → unsaved ≡ may_write && last.desk.unsaved → ServesSession words names_bytes old new status
-served_as words names_bytes seen old new status name may_write first last ending unsaved is named begins none answers history failures counts stops told
-    left ends same =
-    subst (λ (host : SessionHostView). ServesSession words names_bytes host new status) is
-    (served words names_bytes seen new status name may_write first last ending unsaved named begins none answers history failures counts stops told left
-    ends same)
+-- if a session was served, the contract of `serve_session` holds. The host `seen` equals the old host
+pub served_as : (words : List Text) (names_bytes : Bool) (seen old new : SessionHostView) (status : ℕ) → seen ≡ old
+    → IsServed words names_bytes seen new status → ServesSession words names_bytes old new status
+served_as words names_bytes seen old new status is served =
+    subst (λ (host : SessionHostView). ServesSession words names_bytes host new status) is (inr (inr served))
 
 -- if the state's file was looked at, but no state could be read from it, the start was refused as the
 -- contract of `serve_session` says. The host `seen` equals the old host

@@ -1,7 +1,5 @@
 -- The words of a session: the words with which a desk is started.
-use Rattle.std.proofs.Common.{◌≡◌, ◌<◌, ◌≤◌, Bool, true, List, [], ◌∷◌, length, get_or, arith, Bor, rules}
-use Rattle.std.proofs.lemmas.Grind.{common_steps}
-use Rattle.std.specs.Prelude.{Option, IfSome, codes}
+use Rattle.cif_laws.proofs.Common.{◌≡◌, ◌<◌, ◌≤◌, Bool, true, List, [], ◌∷◌, length, get_or, arith, Bor, rules, common_steps, Option, IfSome, codes}
 use Rattle.docker_cmd.specs.Words.{Text, texts}
 use Rattle.docker_desk.specs.Requests.{NamesFile}
 use Rattle.docker_desk.specs.Serving.{NamesSession}

@@ -1,8 +1,5 @@
 -- How queries are answered.
-use Rattle.std.proofs.Common.{◌≡◌, ℕ, List, [], Some, IsOk, IsErr, subst, rules}
-use Rattle.std.specs.Prelude.{OnOk, Result, ⊤}
-use Rattle.docker_model.specs.state.Lapse.{IsDayRefused}
-use Rattle.docker_model.specs.state.State.{State, live_table}
+use Rattle.cif_laws.proofs.Common.{◌≡◌, ℕ, List, [], Some, IsOk, IsErr, subst, rules, OnOk, Result, ⊤, IsDayRefused, State, live_table}
 use Rattle.cif_device.specs.Device.{Takes}
 use Rattle.docker_office.specs.declared.fault.OfficeFault.TheVariants as office
 use Rattle.docker_desk.specs.Desk.{IsAnswer, IsShown}

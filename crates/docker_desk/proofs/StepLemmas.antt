@@ -1,15 +1,13 @@
 -- Appending one more answered line to a session.
-use Rattle.std.proofs.Common.{◌≡◌, ◌≢◌, ℕ, ◌+◌, ◌-◌, ◌^◌, List, [], ◌∷◌, ◌++◌, length, take, refl, sym, ◌∙◌, ap, subst, rules}
-use Rattle.std.proofs.lemmas.Grind.{common_steps}
-use Rattle.std.proofs.Common.{arith, length-append, Some, None, Ok, Err, true, false, inl, inr}
-use Rattle.std.specs.Prelude.{Option, Result}
+use Rattle.cif_laws.proofs.Common.{◌≡◌, ◌≢◌, ℕ, ◌+◌, ◌-◌, ◌^◌, List, [], ◌∷◌, ◌++◌, length, take, refl, sym, ◌∙◌, ap, subst, rules, common_steps, arith}
+use Rattle.cif_laws.proofs.Common.{length-append, Some, None, Ok, Err, true, false, inl, inr, Option, Result}
 use Rattle.cif_device.specs.Device.{Takes}
 use Rattle.docker_cmd.specs.Prepared.{DeviceBytes}
 use Rattle.docker_cmd.specs.FaultLine.{IsCounted}
 use Rattle.docker_host.specs.History.{Text}
 use Rattle.docker_host.specs.Exchanges.{Exchange, bytes_read}
 use Rattle.docker_host.specs.Streams.{StreamsView, WritesPart, WritesWhole}
-use Rattle.docker_desk.specs.Lines.{EndsLine, LineView, MeetsEnd, ReadsAsked, UsesLine}
+use Rattle.docker_desk.specs.Lines.{EndsLine, LineView, MeetsEnd, UsesLine}
 use Rattle.docker_desk.specs.Lines.{ReadsNext, asked_meant, is_end_of_lines, with_ahead, whole_line, bad_line, cut_line}
 use Rattle.docker_desk.specs.declared.lines.Asked.{Asked}
 use Rattle.docker_desk.specs.declared.lines.InputFault.{InputFault}
@@ -127,18 +125,14 @@ module _ (setting : Setting) (now : SessionView) (ahead ahead_now : Text) (old m
 
   -- if the input is at its end, the session ends without another line
   pub ends_before : (read : Asked) → result ≡ Ok read → asked_meant read ≡ None → ServesNext setting now now ahead ahead_now old mid (Some Ended)
-  ends_before read is meant = record {
-    steps = [];
-    are = refl;
-    ends = (has_none _ (subst met meant (ends_as (Ok read) is)).0, told_none);
-    turns = ended_unread _ ahead_now _ mid _ uses _ (has_none (Some (ahead ++ bytes_read uses.gained)) (subst used meant (used_as _ is)).0, refl);
-  }
-    where
-      met : Option LineView → Type 0
-      met line = ReadsAsked (with_ahead ahead old.input) line (with_ahead ahead_now mid.input)
-
-      used : Option LineView → Type 0
-      used line = ReadsAsked (Some (ahead ++ bytes_read uses.gained)) line (Some ahead_now)
+  ends_before read is meant =
+      let here = rw meant at (ends_as (Ok read) is) in
+      let used = rw meant at (used_as (Ok read) is) in record {
+        steps = [];
+        are = refl;
+        ends = (has_none _ here.0, told_none);
+        turns = ended_unread _ ahead_now _ mid _ uses _ (has_none (Some (ahead ++ bytes_read uses.gained)) used.0, refl);
+      }
 
   pub fails_before : ServesNext setting now now ahead ahead_now old mid (Some InputFailed)
   fails_before = record {

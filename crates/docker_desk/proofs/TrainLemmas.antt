@@ -1,17 +1,11 @@
 -- The known files determine the schedules that `train` shows, and the trains that `trains` lists.
-use Rattle.std.proofs.Common.{◌≡◌, ◌≤◌, ℕ, List, Some, subst, rules}
-use Rattle.std.specs.Prelude.{Option, option_map}
-use Rattle.docker_model.specs.records.Date.{IsDay}
-use Rattle.docker_model.specs.docker.Choice.{IsChosenOn}
-use Rattle.docker_model.specs.run.Knowledge.{HaveSameFiles}
-use Rattle.docker_model.specs.run.Run.{Files, Known}
-use Rattle.docker_model.specs.state.State.{State, live_table}
-use Rattle.docker_model.specs.state.Summary.{HaveDistinctMoments, IsSummary}
-use Rattle.docker_model.specs.state.Table.{IsPlainTable, Table}
+use Rattle.cif_laws.proofs.Common.{◌≡◌, ◌≤◌, ℕ, List, Some, subst, rules, Option, option_map, IsDay, IsChosenOn, HaveSameFiles, Known, State, live_table}
+use Rattle.cif_laws.proofs.Common.{HaveDistinctMoments, IsSummary, IsPlainTable, Table, IsTrainText, Stamped}
+use Rattle.docker_model.specs.run.Run.{Files}
 use Rattle.state_laws.proofs.states.OnePlainTable.{some_plain_table}
 use Rattle.docker_train.specs.Origin.{CameFrom}
 use Rattle.docker_model.specs.lists.TrainsText.{IsTrainsText}
-use Rattle.docker_model.specs.lists.TrainText.{IsFoundFor, IsTrainText, Stamped}
+use Rattle.docker_model.specs.lists.TrainText.{IsFoundFor}
 use Rattle.docker_desk.specs.Learning.{IsKnown, IsTrainOf, ListsTrainsAs}
 
 -- each schedule that is found in a summary came from one of the summary's files

@@ -1,10 +1,8 @@
 -- The order of the reads and the writes of a session.
-use Rattle.std.proofs.Common.{◌≡◌, ◌-◌, ◌^◌, List, [], ◌∷◌, ◌++◌, length, take, refl, sym, ◌∙◌, ap, subst, arith, rules}
-use Rattle.std.proofs.lemmas.Grind.{common_steps}
-use Rattle.std.proofs.Common.{append_assoc, append-nil, Some, Ok, inl, inr}
-use Rattle.std.specs.Prelude.{Result, ◌⊎◌}
+use Rattle.cif_laws.proofs.Common.{◌≡◌, ◌-◌, ◌^◌, List, [], ◌∷◌, ◌++◌, length, take, refl, sym, ◌∙◌, ap, subst, arith, rules, common_steps, append_assoc}
+use Rattle.cif_laws.proofs.Common.{append-nil, Some, Ok, inl, inr, Result, ◌⊎◌}
 use Rattle.docker_host.specs.History.{Text}
-use Rattle.docker_host.specs.Exchanges.{Exchange, IsRead, IsWrite, AreReads, AreWrites, read, unread, wrote, unwritten, bytes_read, bytes_written}
+use Rattle.docker_host.specs.Exchanges.{Exchange, IsRead, IsWrite, AreReads, AreWrites, read, unread, bytes_read, bytes_written}
 use Rattle.docker_host.specs.Streams.{StreamsView, Writes, WritesPart, WritesWhole}
 use Rattle.docker_host.proofs.StreamsLemmas.{read_append, reads_write_none, writes_read_none, written_append}
 use Rattle.docker_desk.specs.Lines.{EndsLine, IsNextLine, IsWithoutFeed, LineView, ReadsInLine, ReadsNext, UsesLine}
@@ -17,8 +15,8 @@ use Rattle.docker_desk.specs.declared.ending.Ending.TheVariants.{Ended, InputEnd
 use Rattle.docker_desk.specs.SessionViews.{Step}
 use Rattle.docker_desk.specs.Answering.{AnswersBeforeReading, AreFirstLines, EndsSession, HasAnswered, IsFollowed, TakesOneTurn, TakesTurns}
 use Rattle.docker_desk.specs.Answering.{answers_text, lines_of}
-use Rattle.docker_desk.proofs.ReadLinesLemmas.{begins_so_far, broken_at, ended_at, endless_lines, ends_behind, ends_on, first_lines_more, lines_both}
-use Rattle.docker_desk.proofs.ReadLinesLemmas.{many_lines, told_both}
+use Rattle.docker_desk.proofs.ReadLinesLemmas.{ReadsFirst, begins_so_far, broken_at, ended_at, endless_lines, ends_behind, ends_on, first_lines_more}
+use Rattle.docker_desk.proofs.ReadLinesLemmas.{lines_both, many_lines, told_both}
 use Rattle.docker_desk.proofs.UseLemmas.{in_line_are_reads}
 
 -- ---- lines that are followed by another line
@@ -76,14 +74,11 @@ in_line_at : (text : Text) (before : List Exchange) (exchange : Exchange) (after
     → IsWithoutFeed (text ++ bytes_read before) × AreReads before
 in_line_at text [] (read bytes) after reads = (subst IsWithoutFeed (sym (append-nil text)) reads.0, tt)
 in_line_at text [] unread after reads = (subst IsWithoutFeed (sym (append-nil text)) reads.0, tt)
-in_line_at text [] (wrote bytes) after reads = absurd reads
-in_line_at text [] unwritten after reads = absurd reads
+in_line_at text [] _ after reads = absurd reads
 in_line_at text (read bytes ∷ before) exchange after reads =
-    let rest = in_line_at (text ++ bytes) before exchange after reads.1 in
-    (subst IsWithoutFeed (append_assoc text bytes (bytes_read before)) rest.0, (tt, rest.1))
+    let rest = in_line_at (text ++ bytes) before exchange after reads.1 in (rw (← append_assoc text bytes (bytes_read before)) rest.0, (tt, rest.1))
 in_line_at text (unread ∷ before) exchange after reads = let rest = in_line_at text before exchange after reads.1 in (rest.0, (tt, rest.1))
-in_line_at text (wrote bytes ∷ before) exchange after reads = absurd reads
-in_line_at text (unwritten ∷ before) exchange after reads = absurd reads
+in_line_at text (_ ∷ before) exchange after reads = absurd reads
 
 write_at : (before : List Exchange) (exchange : Exchange) (after : List Exchange) → AreWrites (before ++ exchange ∷ after) → IsWrite exchange
 write_at [] exchange after are = are.0
@@ -201,21 +196,14 @@ module _ (steps : List Step) (ahead : Text) (exchanges exchanges_now : List Exch
 
   -- after 2 ^ 64 - 1 lines, the session ends because its input is endless
   pub turned_endless : length steps ≡ 2 ^ 64 - 1 → TakesTurns InputEndless [] steps exchanges exchanges_now
-  turned_endless full = record {
-    gained = turned.gained;
-    exchanged = turned.exchanged;
-    ends = (
-      begins_so_far (Some (bytes_read turned.gained)) (Some ahead) (lines_of steps) first,
-      (
-        endless_lines (Some (bytes_read turned.gained)) (Some ahead) (lines_of steps) first (many_lines steps (2 ^ 64 - 1) full),
-        ap Some turned.told,
-      ),
-    );
-    order = turned.order;
-  }
-    where
-      first : (rest : Text) × (AreFirstLines (bytes_read turned.gained) (lines_of steps) rest × (Some ahead ≡ Some rest))
-      first = (ahead, (open_first (bytes_read turned.gained) (lines_of steps) ahead turned.lines, refl))
+  turned_endless full =
+      let first : ReadsFirst (Some (bytes_read turned.gained)) (lines_of steps) (Some ahead) =
+      (ahead, (open_first (bytes_read turned.gained) (lines_of steps) ahead turned.lines, refl)) in record {
+        gained = turned.gained;
+        exchanged = turned.exchanged;
+        ends = search (rules, begins_so_far, endless_lines, many_lines);
+        order = turned.order;
+      }
 
 -- ---- one line
 

@@ -1,28 +1,24 @@
 -- At every point of a session at which nothing is unsaved, the state's file has held the text of the
 -- desk's state.
-use Rattle.std.proofs.Common.{◌≡◌, ℕ, ◌+◌, List, [], ◌∷◌, ◌++◌, length, refl, sym, ◌∙◌, ap, subst, arith, append_assoc, append-nil, length-append}
-use Rattle.std.proofs.Common.{Some, None, Ok, Err, inl, inr, true≢false, rules}
-use Rattle.std.specs.Prelude.{Option, Result, ⊤, Bool, true, false}
-use Rattle.docker_model.specs.state.State.{State}
-use Rattle.docker_model.specs.state.StateText.{dks_2, state_text}
+use Rattle.cif_laws.proofs.Common.{◌≡◌, ℕ, ◌+◌, List, [], ◌∷◌, ◌++◌, length, refl, sym, ◌∙◌, ap, subst, append_assoc, append-nil, Some, None, Ok, Err, inl, inr}
+use Rattle.cif_laws.proofs.Common.{true≢false, rules, Option, Result, ⊤, Bool, true, false, State, dks_2, state_text}
 use Rattle.docker_bytes.specs.SourceRead.{ReadsState}
 use Rattle.docker_cmd.specs.Prepared.{most_bytes}
 use Rattle.cif_device.specs.Device.{Held}
 use Rattle.docker_host.specs.History.{Bytes, Event, Text, closed, drafted, looked, named_if, opened, placed}
-use Rattle.docker_host.specs.Asked.{FailsToStore}
 use Rattle.docker_host.specs.Standing.{IsStandingOf, IsStill, Standing}
 use Rattle.docker_office.specs.declared.fault.OfficeFault.{OfficeFault}
-use Rattle.docker_office.specs.declared.fault.OfficeFault.TheVariants as office
 use Rattle.docker_desk.specs.Desk.{DeskView, EndsReceiving, EndsRenewing, EndsSaving, EndsTaking, IsFound, look_by, unsaved_by, unsaved_if}
 use Rattle.docker_desk.specs.Reading.{Reading, opening_of}
 use Rattle.docker_desk.specs.declared.compared.Compared.{Compared}
 use Rattle.docker_desk.specs.declared.compared.Compared.TheVariants as compared
-use Rattle.docker_desk.specs.Requests.{RequestView, show_request, renew_request, take_request, merge_request, horizon_request, save_request}
+use Rattle.docker_desk.specs.Requests.{RequestView, renew_request, show_request, take_request, merge_request, horizon_request, save_request}
 use Rattle.docker_desk.specs.Replies.{AnswerView, refused_for}
 use Rattle.docker_desk.specs.SessionViews.{SessionView, Setting, Step}
-use Rattle.docker_desk.specs.Doing.{AreSteps, DoesAsked, DoesRequest, desk_by}
+use Rattle.docker_desk.specs.Doing.{AreSteps, DoesRequest, desk_by}
 use Rattle.docker_desk.specs.Looking.{IsOwnText, WasInState}
 use Rattle.docker_desk.specs.Serving.{BeginsAt}
+use Rattle.docker_desk.proofs.LookLemmas.{grown_unsaved, kept_steps, placing_at}
 use Rattle.docker_desk.proofs.ReplacingLemmas.{opened_own, placed_own}
 
 -- the flag isn't set, so it isn't `true`
@@ -42,14 +38,8 @@ read_text (Some bytes) state reads = reads.held ∙ reads.is.is
 module _ (name : Text) where
   -- what the desk last read or placed stays so after events are added to the history
   own_more : (old new more : List Event) (look : ℕ) (text : Text) → new ≡ old ++ more → IsOwnText name old look text → IsOwnText name new look text
-  own_more old new more look text grown (inl (before, is)) = inl (
-    search (rules, append_assoc),
-    is,
-  )
-  own_more old new more look text grown (inr (placing, is)) = inr (
-    search (rules, append_assoc),
-    is,
-  )
+  own_more old new more look text grown (inl (before, is)) = inl (search (rules, append_assoc), is)
+  own_more old new more look text grown (inr (placing, is)) = inr (search (rules, append_assoc), is)
 
   -- if the look and the state are unchanged, the text of the state is still what the desk last read
   -- or placed
@@ -68,16 +58,7 @@ module _ (name : Text) where
   -- the text of a draft that replaced the file is the desk's own
   own_placed : (old new : List Event) (bytes : Bytes) (from look : ℕ) (text : Text)
       → new ≡ old ++ drafted name from ∷ placed name bytes ∷ looked name ∷ [] → look ≡ length old + 2 → Held bytes text → IsOwnText name new look text
-  own_placed old new bytes from look text grown number is = inr (
-    record {
-      earlier = old ++ drafted name from ∷ [];
-      bytes = bytes;
-      later = [];
-      whole = grown ∙ sym (append_assoc old (drafted name from ∷ []) (placed name bytes ∷ looked name ∷ []));
-      number = (let size = length-append old (drafted name from ∷ []) in omega (arith, size, number));
-    },
-    is,
-  )
+  own_placed old new bytes from look text grown number is = inr (placing_at name old new bytes from look grown number, is)
 
   -- after `take` or `merge`: if it succeeded there are unsaved changes, and if it was refused the
   -- desk is unchanged
@@ -115,14 +96,6 @@ module _ (name : Text) where
   own_kept old new more own after look look_now grown same is saved clear = own_same _ _ _ _ _ _ _ grown same (ap (λ (desk : DeskView). desk.state) is)
       (saved (sym (ap (λ (desk : DeskView). desk.unsaved) is) ∙ clear))
 
-  own_unsaved : (names_bytes : Bool) (text : List ℕ) (old new : List Event) (from : ℕ) (own after : DeskView) (look look_now : ℕ)
-      → FailsToStore names_bytes name from text old new → look_now ≡ look → after ≡ own
-      → (own.unsaved ≡ false → IsOwnText name old look (state_text dks_2 own.state)) → after.unsaved ≡ false
-      → IsOwnText name new look_now (state_text dks_2 after.state)
-  own_unsaved names_bytes text old new from own after look look_now (inl grown) same is saved clear = search (rules, own_kept)
-  own_unsaved names_bytes text old new from own after look look_now (inr (inl grown)) same is saved clear = search (rules, own_kept)
-  own_unsaved names_bytes text old new from own after look look_now (inr (inr grown)) same is saved clear = search (rules, own_kept)
-
   own_saved : (result : Result ⊤ OfficeFault) (names_bytes : Bool) (old new : List Event) (from : ℕ) (own after : DeskView) (look look_now : ℕ)
       → EndsSaving names_bytes name from (state_text dks_2 own.state) old new result → look_now ≡ look_by result (length old + 2) look
       → after ≡ desk_by result own → (own.unsaved ≡ false → IsOwnText name old look (state_text dks_2 own.state)) → after.unsaved ≡ false
@@ -130,17 +103,14 @@ module _ (name : Text) where
   own_saved (Ok done) names_bytes old new from own after look look_now grown same is saved clear =
       subst (λ (s : State). IsOwnText name new look_now (state_text dks_2 s)) (sym (ap (λ (desk : DeskView). desk.state) is))
       (search (rules, own_placed, named_text))
-  own_saved (Err office.Sink) names_bytes old new from own after look look_now failed same is saved clear = search (rules, own_unsaved)
-  own_saved (Err office.Memory) names_bytes old new from own after look look_now grown same is saved clear = search (rules, own_kept)
-  own_saved _ names_bytes old new from own after look look_now never same is saved clear = absurd never
+  own_saved (Err fault) names_bytes old new from own after look look_now failed same is saved clear =
+      let grown = grown_unsaved name names_bytes (state_text dks_2 own.state) old new fault from failed in
+      own_kept old new grown.0 own after look look_now grown.1 same is saved clear
 
 module _ (setting : Setting) where
   -- if nothing is unsaved at this point, the state's file has held the text of the desk's state
   abbrev IsSaved : SessionView → Type 0
   IsSaved point = point.desk.unsaved ≡ false → WasInState setting point
-
-  saved_kept : (before after : SessionView) → after ≡ before → IsSaved before → IsSaved after
-  saved_kept before after same saved = subst IsSaved (sym same) saved
 
   taken_same : (own after : State) (result : Result ⊤ OfficeFault) (read : Option Reading) → EndsTaking own after result read → (fault : OfficeFault)
       → result ≡ Err fault → after ≡ own
@@ -153,22 +123,12 @@ module _ (setting : Setting) where
   -- each request keeps this true
   saved_request : (request : RequestView) (before after : SessionView) (answer : AnswerView) → DoesRequest setting request before answer after → IsSaved before
       → IsSaved after
-  saved_request (show_request query) before after answer does saved = saved_kept before after does.1 saved
+  saved_request (show_request query) before after answer does saved = subst IsSaved (sym does.1) saved
   saved_request renew_request before after answer does saved = search (rules, own_renewed)
   saved_request (take_request file) before after answer does saved = search (rules, own_joined, taken_same)
   saved_request (merge_request other) before after answer does saved = search (rules, own_joined, received_same)
   saved_request (horizon_request day) before after answer does saved = search (rules, not_set)
   saved_request save_request before after answer does saved = search (rules, own_saved)
-
-  saved_asked : (request : Option RequestView) (before after : SessionView) (answer : AnswerView) → DoesAsked setting request before answer after
-      → IsSaved before → IsSaved after
-  saved_asked (Some request) before after answer does saved = saved_request request before after answer does saved
-  saved_asked None before after answer does saved = saved_kept before after does.1 saved
-
-  saved_steps : (first last : SessionView) (steps : List Step) → IsSaved first → AreSteps setting first steps last → IsSaved last
-  saved_steps first last [] saved are = saved_kept first _ are saved
-  saved_steps first last (step ∷ steps) saved are = saved_steps step.after _ steps
-      (saved_asked _ step.before _ step.answer are.1.0.does (saved_kept _ step.before are.0 saved)) are.1.1
 
   -- at the beginning of a session, the file has held the text of the desk's state
   saved_first : (old : List Event) (first : SessionView) → BeginsAt setting.name old first → IsSaved first
@@ -177,20 +137,16 @@ module _ (setting : Setting) where
   -- at every point at which nothing is unsaved, the file has held the text of the desk's state
   pub was_in_state : (old : List Event) (first last : SessionView) (steps : List Step) → BeginsAt setting.name old first → AreSteps setting first steps last
       → last.desk.unsaved ≡ false → WasInState setting last
-  was_in_state old first last steps begins are = saved_steps first last steps (saved_first old first begins) are
+  was_in_state old first last steps begins are = kept_steps setting IsSaved saved_request first last steps (saved_first old first begins) are
 
   -- if the file's bytes have stayed the same since the look, the file holds that text
   pub is_in_state : (standing : Standing) (point : SessionView) → WasInState setting point → IsStandingOf standing point.history
       → IsStill standing setting.name point.look (length point.history)
       → Held (standing (length point.history) setting.name) (state_text dks_2 point.desk.state)
   is_in_state standing point (inl (opening, is)) stands still =
-      subst (λ (bytes : Bytes). Held bytes (state_text dks_2 point.desk.state))
-      (sym (opened_own standing setting.name point.history point.look [] opening
-      (subst (IsStandingOf standing) (sym (append-nil point.history)) stands) still)) is
+      rw (opened_own standing setting.name point.history point.look [] opening (rw append-nil stands) still) is
   is_in_state standing point (inr (placing, is)) stands still =
-      subst (λ (bytes : Bytes). Held bytes (state_text dks_2 point.desk.state))
-      (sym (placed_own standing setting.name point.history point.look [] placing
-      (subst (IsStandingOf standing) (sym (append-nil point.history)) stands) still)) is
+      rw (placed_own standing setting.name point.history point.look [] placing (rw append-nil stands) still) is
 
   -- a `renew` that is refused changes neither the desk nor its look
   pub refused_renewal : (before after : SessionView) (fault : OfficeFault) → DoesRequest setting renew_request before (refused_for fault) after

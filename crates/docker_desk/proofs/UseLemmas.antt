@@ -1,8 +1,6 @@
 -- Taking bytes from streams, and the reads that this needs.
-use Rattle.std.proofs.Common.{◌≡◌, ◌≢◌, ℕ, ◌+◌, ◌-◌, ◌^◌, ◌≤◌, List, [], ◌∷◌, ◌++◌, length, refl, sym, ap, subst, arith, Some, Ok, Err}
-use Rattle.std.proofs.lemmas.Grind.{common_steps}
-use Rattle.std.proofs.Common.{append_assoc, append-nil, length-append, rules}
-use Rattle.std.specs.Prelude.{Result}
+use Rattle.cif_laws.proofs.Common.{◌≡◌, ◌≢◌, ℕ, ◌+◌, ◌-◌, ◌^◌, ◌≤◌, List, [], ◌∷◌, ◌++◌, length, refl, sym, ap, subst, arith, Some, Ok, Err, common_steps}
+use Rattle.cif_laws.proofs.Common.{append_assoc, append-nil, length-append, rules, Result}
 use Rattle.cif_device.specs.Device.{Reads}
 use Rattle.docker_host.specs.History.{Text}
 use Rattle.docker_host.specs.Exchanges.{Exchange, read, unread, AreReads, bytes_read}

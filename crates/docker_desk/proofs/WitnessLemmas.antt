@@ -1,13 +1,7 @@
 -- A session that asks for the files of a state without files.
-use Rattle.std.proofs.Common.{◌≡◌, ◌≢◌, ℕ, ◌≤◌, Bool, true, List, [], ◌∷◌, ◌++◌, length, refl, rules}
-use Rattle.std.proofs.Common.{sym, ◌∙◌, ap, subst, arith, append-nil, Some, None, ◌⊎◌, inl, inr}
-use Rattle.std.specs.Prelude.{Option, codes}
-use Rattle.std.proofs.lemmas.Fmt.{decimal_digit}
-use Rattle.std.proofs.lemmas.List.Sums.{AllPass-from_list_all}
-use Rattle.docker_model.specs.records.Record.{is_printable}
+use Rattle.cif_laws.proofs.Common.{◌≡◌, ◌≢◌, ℕ, ◌≤◌, Bool, true, List, [], ◌∷◌, ◌++◌, length, refl, rules, sym, ◌∙◌, ap, subst, arith, append-nil, Some, None}
+use Rattle.cif_laws.proofs.Common.{◌⊎◌, inl, inr, Option, codes, decimal_digit, AllPass-from_list_all, is_printable, State, IsValid, dks_2, state_text}
 use Rattle.cif_device.specs.Device.{Takes}
-use Rattle.docker_model.specs.state.State.{State, IsValid}
-use Rattle.docker_model.specs.state.StateText.{dks_2, state_text}
 use Rattle.docker_cmd.specs.FaultLine.{status_of}
 use Rattle.docker_cmd.specs.Prepared.{most_bytes}
 use Rattle.docker_cmd.specs.declared.fault.Fault.TheVariants.{Office}

@@ -1,12 +1,9 @@
 -- The words of a line: its first word, and the words after it.
-use Rattle.std.proofs.Common.{◌≡◌, ◌≢◌, ℕ, ◌<◌, List, [], ◌∷◌, ◌++◌, length, ap, ◌∙◌, refl}
-use Rattle.std.proofs.lemmas.Grind.{common_steps}
-use Rattle.std.proofs.Common.{false, cond, arith, rules, tests, append-nil, length-drop}
-use Rattle.std.specs.Prelude.{◌==◌, not, filter}
-use Rattle.std.specs.List.{position_or_len, before_first, after_first, AllByRecursion}
-use Rattle.std.proofs.lemmas.List.{length-take-le, take_all}
-use Rattle.std.proofs.lemmas.List.Elements.{All-from_recursion}
-use Rattle.std.proofs.lemmas.List.Splits.{slice_split-cons_yes, slice_split_first, slice_split_none}
+use Rattle.cif_laws.proofs.Common.{◌≡◌, ◌≢◌, ℕ, ◌<◌, List, [], ◌∷◌, ◌++◌, length, ap, ◌∙◌, refl, common_steps, false, cond, arith, rules, tests, append-nil}
+use Rattle.cif_laws.proofs.Common.{length-drop, ◌==◌, not, filter, position_or_len, AllByRecursion, length-take-le, take_all, All-from_recursion}
+use Rattle.cif_laws.proofs.Common.{slice_split-cons_yes, slice_split_none}
+use Rattle.std.specs.List.{before_first, after_first}
+use Rattle.std.proofs.lemmas.List.Splits.{slice_split_first}
 use Rattle.docker_cmd.specs.JobLine.{is_space, word_or_none, words_in}
 use Rattle.docker_desk.specs.Requests.{after_word, first_word, without_spaces}
 

@@ -1,9 +1,6 @@
 -- What a sink has taken after two writes, one after the other.
-use Rattle.std.proofs.Common.{ℕ, ◌+◌, List, ◌++◌, arith, length, Option, rules}
-use Rattle.std.proofs.Common.{sym, subst, append_assoc, length-append}
-use Rattle.std.specs.Prelude.{Result, Ok, Err, ⊤}
-use Rattle.std.proofs.lemmas.List.{take-append-le}
-use Rattle.std.proofs.Math.Seq.{take-append-add}
+use Rattle.cif_laws.proofs.Common.{ℕ, ◌+◌, List, ◌++◌, arith, length, Option, rules, sym, subst, append_assoc, length-append, Result, Ok, Err, ⊤}
+use Rattle.cif_laws.proofs.Common.{take-append-le, take-append-add}
 use Rattle.cif_device.specs.Device.{Takes, TakesPart}
 use Rattle.cif_device.specs.declared.device.Failed.{Failed}
 use Rattle.docker_host.specs.Streams.{EndsWriting, StreamsView, WritesWhole}

@@ -1,14 +1,8 @@
 -- A walk over the records of a schedule finds the record of each event, and the change en route that
 -- is in force there.
-use Rattle.std.proofs.Common.{◌≡◌, ℕ, ◌+◌, ◌<◌, ◌≤◌, cond, List, [], ◌∷◌, ◌++◌, length, take, refl, ap, sym, ◌∙◌, subst, rules}
-use Rattle.std.proofs.Common.{inl, inr, ◌⊎◌, Some, Contains, append_assoc, length-append, arith}
-use Rattle.std.specs.Prelude.{Option, nat_le}
-use Rattle.std.proofs.lemmas.Bool.{le-leb, lt-leb}
-use Rattle.std.proofs.lemmas.List.Elements.{Contains-append_cases}
-use Rattle.std.proofs.Math.Seq.{take-append_seam}
-use Rattle.docker_model.specs.file.File.{first_record}
-use Rattle.docker_model.specs.file.Journey.{Occasion, times_of}
-use Rattle.docker_model.specs.docker.Event.{Event, events_of, event_line}
+use Rattle.cif_laws.proofs.Common.{◌≡◌, ℕ, ◌+◌, ◌<◌, ◌≤◌, cond, List, [], ◌∷◌, ◌++◌, length, take, refl, ap, sym, ◌∙◌, subst, rules, inl, inr, Some, Contains}
+use Rattle.cif_laws.proofs.Common.{append_assoc, length-append, arith, Bool, Option, le-leb, lt-leb, Contains-append_cases, take-append_seam, first_record}
+use Rattle.cif_laws.proofs.Common.{Occasion, times_of, Event, events_of, event_line}
 use Rattle.docker_model.specs.docker.DetailedText.{origin_text, change_at, extra_record}
 use Rattle.cif_laws.proofs.lists.Membership.{nil-Contains}
 use Rattle.docker_laws.specs.EventWalk.{events_here, events_from, last_change}
@@ -31,13 +25,11 @@ here_is n p (time ∷ times) event among = grind (arith, (here_is (n + 1) p time
 
 from_low : (n p : ℕ) (lines : List (List ℕ)) (event : Event) → Contains (events_from n p lines) event → n ≤ event.number
 from_low n p [] event among = absurd (nil-Contains _ among)
-from_low n p (line ∷ lines) event among = by (from_low (n + length (times_of line)) _ lines _)
-    (Contains-append_cases (events_here n p (times_of line)) (events_from (n + length (times_of line)) (p + 1) lines) event among)
-  where
-    by : (Contains (events_from (n + length (times_of line)) (p + 1) lines) event → n + length (times_of line) ≤ event.number)
-        → Contains (events_here n p (times_of line)) event ⊎ Contains (events_from (n + length (times_of line)) (p + 1) lines) event → n ≤ event.number
-    by rest (inl inside) = (here_is n _ (times_of line) _ inside).low
-    by rest (inr later) = let low = rest later in omega arith
+from_low n p (line ∷ lines) event among = elim (Contains-append_cases (events_here n p (times_of line))
+    (events_from (n + length (times_of line)) (p + 1) lines) event among) [
+      | inl inside ↦ (here_is n _ (times_of line) _ inside).low
+      | inr later ↦ let low = from_low (n + length (times_of line)) _ lines _ later in omega arith
+    ]
 
 -- ---- the place of an event
 
@@ -51,18 +43,31 @@ found : (whole front lines : List (List ℕ)) (passed : ℕ) (event : Event) →
     → place_from passed (last_change front) lines event.number ≡ event_at whole event
 found whole front [] passed event is among = absurd (nil-Contains event among)
 found whole front (line ∷ lines) passed event is among =
-    by (found whole (front ++ line ∷ []) lines (passed + length (times_of line)) event (is ∙ sym (append_assoc front (line ∷ []) lines)))
-    (Contains-append_cases (events_here (passed + 1) (length front) (times_of line))
-    (events_from (passed + 1 + length (times_of line)) (length front + 1) lines) event among)
+    elim (Contains-append_cases (events_here (passed + 1) (length front) (times_of line))
+    (events_from (passed + 1 + length (times_of line)) (length front + 1) lines) event among) [
+      | inl inside ↦
+          let there = here_is (passed + 1) (length front) (times_of line) event inside in
+          let below = there.below in
+          let upto : event.number ≤ passed + length (times_of line) = omega arith in
+          (λ i. either (le-leb event.number (passed + length (times_of line)) upto i)) ∙ here there.at
+      | inr later ↦
+          let low = from_low (passed + 1 + length (times_of line)) (length front + 1) lines event later in
+          let above : passed + length (times_of line) < event.number = omega arith in
+          (λ i. either (lt-leb event.number (passed + length (times_of line)) above i))
+          ∙ (λ i. place_from (passed + length (times_of line)) (sym (change_more front line) i) lines event.number)
+          ∙ found whole (front ++ line ∷ []) lines (passed + length (times_of line)) event (is ∙ sym (append_assoc front (line ∷ []) lines))
+          (subst (λ (v : ℕ × ℕ). Contains (events_from v.0 v.1 lines) event) (λ i. (counted i, longer i)) later)
+    ]
   where
-    upto : ℕ
-    upto = passed + length (times_of line)
-
     longer : length front + 1 ≡ length (front ++ line ∷ [])
     longer = sym (length-append front (line ∷ []))
 
     counted : passed + 1 + length (times_of line) ≡ passed + length (times_of line) + 1
     counted = omega arith
+
+    either : Bool → Place
+    either b = cond b (record { change = last_change front; location = Some line })
+        (place_from (passed + length (times_of line)) (change_after line (last_change front)) lines event.number)
 
     here : event.place ≡ length front → record { change = last_change front; location = Some line } ≡ event_at whole event
     here at = λ i. record {
@@ -71,27 +76,6 @@ found whole front (line ∷ lines) passed event is among =
           ∙ ap last_change (take-append_seam front (line ∷ lines))) i;
       location = Some (sym (ap (λ (w : List (List ℕ)). event_line w event) is ∙ line_here front line lines event at) i);
     }
-
-    by : (Contains (events_from (passed + length (times_of line) + 1) (length (front ++ line ∷ [])) lines) event
-        → place_from (passed + length (times_of line)) (last_change (front ++ line ∷ [])) lines event.number ≡ event_at whole event)
-        → Contains (events_here (passed + 1) (length front) (times_of line)) event
-        ⊎ Contains (events_from (passed + 1 + length (times_of line)) (length front + 1) lines) event
-        → cond (nat_le event.number (passed + length (times_of line))) (record { change = last_change front; location = Some line })
-        (place_from (passed + length (times_of line)) (change_after line (last_change front)) lines event.number) ≡ event_at whole event
-    by rest (inl inside) =
-        let there = here_is (passed + 1) (length front) (times_of line) event inside in
-        let below = there.below in
-        let upto : event.number ≤ passed + length (times_of line) = omega arith in
-        (λ i. cond (le-leb event.number (passed + length (times_of line)) upto i) (record { change = last_change front; location = Some line })
-        (place_from (passed + length (times_of line)) (change_after line (last_change front)) lines event.number))
-        ∙ here there.at
-    by rest (inr later) =
-        let low = from_low (passed + 1 + length (times_of line)) (length front + 1) lines event later in
-        let above : passed + length (times_of line) < event.number = omega arith in
-        (λ i. cond (lt-leb event.number (passed + length (times_of line)) above i) (record { change = last_change front; location = Some line })
-        (place_from (passed + length (times_of line)) (change_after line (last_change front)) lines event.number))
-        ∙ (λ i. place_from (passed + length (times_of line)) (sym (change_more front line) i) lines event.number)
-        ∙ rest (subst (λ (v : ℕ × ℕ). Contains (events_from v.0 v.1 lines) event) (λ i. (counted i, longer i)) later)
 
 -- the place of the event with an event's number is the event's place
 pub place_is : (lines : List (List ℕ)) (event : Event) → Contains (events_of lines) event → place_in lines event.number ≡ event_at lines event

@@ -1,15 +1,7 @@
 -- What is found for a line of a docker is the line's origin.
-use Rattle.std.proofs.Common.{◌≡◌, ℕ, List, ap, sym, ◌∙◌, Some, None, Contains, rules}
-use Rattle.std.specs.Prelude.{Option, option_map}
-use Rattle.docker_model.specs.records.Record.{column, columns}
-use Rattle.docker_model.specs.state.Row.{Row, AreRowsOf}
-use Rattle.docker_model.specs.state.Table.{Table}
-use Rattle.docker_model.specs.docker.Association.{IsAssociationLine}
-use Rattle.docker_model.specs.docker.Choice.{Group, Train, group_of}
-use Rattle.docker_model.specs.docker.DetailedText.{IsOrigin, origin_text}
-use Rattle.docker_model.specs.docker.DockerLine.{DockerLine}
-use Rattle.docker_model.specs.docker.DockerList.{IsEventLine}
-use Rattle.docker_model.specs.docker.Event.{events_of, event_line}
+use Rattle.cif_laws.proofs.Common.{◌≡◌, ℕ, List, ap, sym, ◌∙◌, Some, None, Contains, rules, Option, option_map, column, columns, Row, AreRowsOf, Table}
+use Rattle.cif_laws.proofs.Common.{IsAssociationLine, Train, group_of, IsOrigin, DockerLine, IsEventLine, events_of, event_line}
+use Rattle.docker_model.specs.docker.DetailedText.{origin_text}
 use Rattle.docker_laws.specs.Gathering.{IsDockerLine}
 use Rattle.docker_laws.specs.LiveRows.{Link, train_in, link_in}
 use Rattle.docker_laws.proofs.dockers.LinkOfRows.{links_tell, one_link_answer}
@@ -50,26 +42,13 @@ module _ (live : Table) (place : List ℕ) (day : ℕ) (rows : List Row) (are : 
       train = ap (λ (u : List ℕ). train_in rows u made.start) uid
           ∙ one_train_answer _ _ _ _ _ (trains_tell _ _ are made.key.base made.start) made.base_runs
 
-      group : record {
-        base = made.base_key.uid;
-        associated = made.key.associated;
-        location = place;
-        suffix = column 10 (event_line made.base made.event);
-      } ≡ group_of made.key
-      group = λ i. record {
-        base = uid i;
-        associated = made.key.associated;
-        location = sym made.here i;
-        suffix = first.1 i;
-      }
-
       link : link_in rows (record {
         base = made.base_key.uid;
         associated = made.key.associated;
         location = place;
         suffix = column 10 (event_line made.base made.event);
       }) made.start ≡ Some (record { key = made.key; line = made.association })
-      link = ap (λ (g : Group). link_in rows g made.start) group
+      link = (λ i. link_in rows (record { base = uid i; associated = made.key.associated; location = sym made.here i; suffix = first.1 i }) made.start)
           ∙ one_link_answer _ _ _ _ _ (links_tell _ _ are (group_of made.key) made.start) made.chosen
 
   -- what is found for a docker line is its origin

@@ -1,17 +1,13 @@
 -- A docker's lines, each with its origin, are the detailed docker.
-use Rattle.std.proofs.Common.{◌≡◌, ℕ, List, [], ◌∷◌, ◌++◌, ◌+◌, ◌<◌, length, sym, ◌∙◌, subst, append_assoc, arith, rules}
-use Rattle.std.specs.Prelude.{All}
-use Rattle.std.specs.List.{AllByRecursion}
-use Rattle.std.specs.List.Sorted.{IsPermutation, IsSorted}
-use Rattle.std.proofs.lemmas.List.{get_or-map, length-map, map-append}
-use Rattle.std.proofs.lemmas.List.Sorted.{All-permutation, Contains-permutation, IsPermutation-map, IsPermutation-sym, IsPermutation-trans}
-use Rattle.std.specs.Ordering.{is_lt}
-use Rattle.docker_model.specs.state.Order.{IsBelow, IsStrictlyAscending}
-use Rattle.docker_model.specs.state.Row.{Row, AreRowsOf}
-use Rattle.docker_model.specs.state.Table.{Table}
-use Rattle.docker_model.specs.docker.DockerLine.{DockerLine, docker_line_cmp}
+use Rattle.cif_laws.proofs.Common.{◌≡◌, ℕ, List, [], ◌∷◌, ◌++◌, ◌+◌, ◌<◌, length, sym, ◌∙◌, subst, append_assoc, arith, rules, All, IsPermutation, IsSorted}
+use Rattle.cif_laws.proofs.Common.{length-map, map-append, Contains-permutation, IsPermutation-sym, IsPermutation-trans, is_lt, IsBelow, IsStrictlyAscending}
+use Rattle.cif_laws.proofs.Common.{Row, AreRowsOf, Table, DockerLine, docker_line_cmp}
+use Rattle.std.proofs.lemmas.List.{get_or-map}
+use Rattle.std.proofs.lemmas.List.Sorted.{All-permutation, IsPermutation-map}
+use Rattle.cif_laws.proofs.lists.Later.{later_weaker}
 use Rattle.cif_laws.proofs.lists.Membership.{all_members, map-Contains, member_of}
 use Rattle.cif_laws.proofs.lists.Sorted.{AreApart, sort_ascends}
+use Rattle.cif_laws.proofs.orders.Ascending.{later_of}
 use Rattle.cif_laws.proofs.orders.Orders.{docker_line_total}
 use Rattle.docker_day.specs.DockerValue.{Docker}
 use Rattle.docker_day.specs.Dockers.{IsDockerOf}
@@ -21,36 +17,29 @@ use Rattle.docker_detail.proofs.FoundOrigins.{found_is_origin}
 
 -- no two lines of a strictly ascending list tie
 ascending_apart : (lines : List DockerLine) → IsStrictlyAscending docker_line_cmp lines → AreApart docker_line_cmp lines
-ascending_apart [] up = tt
-ascending_apart (line ∷ lines) up = (below_apart lines up.0, ascending_apart lines up.1)
-  where
-    below_apart : (rest : List DockerLine) → AllByRecursion (IsBelow docker_line_cmp line) rest
-        → AllByRecursion (λ (other : DockerLine). ¬ (docker_line_cmp line other ≡ Rattle.std.specs.declared.cmp.Ordering.TheVariants.Equal)) rest
-    below_apart [] all = tt
-    below_apart (other ∷ rest) all = ((λ same. let less = all.0 in cc), below_apart rest all.1)
+ascending_apart lines up = later_weaker (IsBelow docker_line_cmp) _ lines (λ a b in_a in_b less same. cc) (later_of _ lines up)
 
 -- the lines of a docker, each with its origin, are the lines of the detailed docker
 pub detailed_is : (live : Table) (place : List ℕ) (day : ℕ) (rows : List Row) (docker : Docker) (detailed : List Detailed) → AreRowsOf live rows
     → IsDockerOf live place day docker → AreFound live docker.place docker.lines detailed → (result : DetailedDocker)
     → result ≡ record { place = docker.place; day = docker.day; description = docker.description; lines = detailed }
     → IsDetailedOf live place day result
-detailed_is live place day rows docker detailed are is made result told = subst (IsDetailedOf live place day) (sym told) (record {
-  place_is = is.place_is;
-  day_is = is.day_is;
-  described = is.described;
-  list = record {
-    ascending = sort_ascends docker_line_total docker.lines _ (ascending_apart docker.lines is.list.ascending) made.same made.sorted;
-    members = λ line. (
-      λ among. (is.list.members line).0
-          (Contains-permutation (firsts detailed) docker.lines line (IsPermutation-sym docker.lines (firsts detailed) made.same) among),
-      λ meant. Contains-permutation docker.lines (firsts detailed) line made.same ((is.list.members line).1 meant),
-    );
-  };
-  origins = all_members _ detailed (λ line among. found_is_origin _ place _ rows are _ line.1
-      ((is.list.members line.0).0 (Contains-permutation (firsts detailed) docker.lines line.0 (IsPermutation-sym docker.lines (firsts detailed) made.same)
-      (map-Contains _ detailed _ among)))
-      (subst (λ (p : List ℕ). IsLineFound live p line) is.place_is (member_of (IsLineFound live docker.place) _ line made.found among)));
-})
+detailed_is live place day rows docker detailed are is made result told =
+    let back = IsPermutation-sym docker.lines (firsts detailed) made.same in subst (IsDetailedOf live place day) (sym told) (record {
+      place_is = is.place_is;
+      day_is = is.day_is;
+      described = is.described;
+      list = record {
+        ascending = sort_ascends docker_line_total docker.lines _ (ascending_apart docker.lines is.list.ascending) made.same made.sorted;
+        members = λ line. (
+          λ among. (is.list.members line).0 (Contains-permutation (firsts detailed) docker.lines line back among),
+          λ meant. Contains-permutation docker.lines (firsts detailed) line made.same ((is.list.members line).1 meant),
+        );
+      };
+      origins = all_members _ detailed (λ line among. found_is_origin _ place _ rows are _ line.1
+          ((is.list.members line.0).0 (Contains-permutation (firsts detailed) docker.lines line.0 back (map-Contains _ detailed _ among)))
+          (subst (λ (p : List ℕ). IsLineFound live p line) is.place_is (member_of (IsLineFound live docker.place) _ line made.found among)));
+    })
 
 -- the lines that were looked up, in the order of a docker, are what is found for the lines
 pub found_in_order : (live : Table) (place : List ℕ) (lines ordered : List DockerLine) (each sorted : List Detailed) → IsPermutation lines ordered

@@ -1,8 +1,6 @@
 -- The remembered associations include the association that is asked for.
-use Rattle.std.proofs.Common.{◌≡◌, ℕ, List, ◌∙◌, subst, Some, None}
-use Rattle.std.specs.Prelude.{Option, IfSome}
+use Rattle.cif_laws.proofs.Common.{◌≡◌, ℕ, List, ◌∙◌, subst, Some, None, Option, IfSome, Row, AreRowsOf}
 use Rattle.docker_model.specs.docker.DockerLine.{partner}
-use Rattle.docker_model.specs.state.Row.{Row, AreRowsOf}
 use Rattle.docker_laws.specs.LiveRows.{link_in}
 use Rattle.docker_state.specs.Timetables.{Timetable, live_in}
 use Rattle.train_choice.specs.Known.{PlaceDay}

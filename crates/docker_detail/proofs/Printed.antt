@@ -1,12 +1,6 @@
 -- The text that the code writes for a detailed docker is its text in the definitions.
-use Rattle.std.proofs.Common.{◌≡◌, ℕ, List, [], ◌∷◌, ◌++◌, map, refl, ap, sym, ◌∙◌}
-use Rattle.std.specs.List.{AllByRecursion, AllZip, flat_map, zip}
-use Rattle.std.proofs.lemmas.List.Elements.{recursion_from_All}
-use Rattle.docker_model.specs.file.Change.{tiploc_key}
-use Rattle.docker_model.specs.state.Table.{Table}
-use Rattle.docker_model.specs.docker.DetailedText.{IsDetailedText, IsOrigin, detailed_line, padded}
-use Rattle.docker_model.specs.docker.DockerLine.{DockerLine}
-use Rattle.docker_model.specs.docker.DockerText.{description_in, ended, heading, last_line}
+use Rattle.cif_laws.proofs.Common.{◌≡◌, ℕ, List, [], ◌∷◌, ◌++◌, map, refl, ap, sym, ◌∙◌, AllByRecursion, AllZip, flat_map, zip, recursion_from_All, tiploc_key}
+use Rattle.cif_laws.proofs.Common.{Table, IsDetailedText, IsOrigin, detailed_line, padded, DockerLine, description_in, ended, heading, last_line}
 use Rattle.docker_day.specs.DockerValue.{head}
 use Rattle.docker_detail.specs.DetailedValue.{DetailedDocker, IsDetailedOf, text_of}
 use Rattle.docker_detail.specs.Finding.{Detailed}

@@ -1,11 +1,8 @@
 -- A text is put together piece by piece.
-use Rattle.std.proofs.Common.{◌≡◌, ℕ, List, [], ◌∷◌, ◌++◌, length, take, ap, ◌∙◌, append_assoc, length-append, arith, rules}
-use Rattle.std.specs.Prelude.{Option}
-use Rattle.std.proofs.Math.Seq.{take-append_seam}
+use Rattle.cif_laws.proofs.Common.{◌≡◌, ℕ, List, [], ◌∷◌, ◌++◌, length, take, ap, ◌∙◌, append_assoc, length-append, arith, rules, Option, take-append_seam}
+use Rattle.cif_laws.proofs.Common.{spaces, day_text, ended}
 use Rattle.docker_model.specs.records.PrintedNumber.{number_text}
-use Rattle.docker_model.specs.records.PrintedTime.{spaces, day_text}
 use Rattle.docker_model.specs.docker.DetailedText.{record_text}
-use Rattle.docker_model.specs.docker.DockerText.{ended}
 use Rattle.docker_detail.specs.OriginText.{found_text}
 use Rattle.docker_detail.specs.Records.{EventRecords}
 
@@ -17,15 +14,6 @@ without_feed line columns long is =
     let wide : 56 ≡ length columns = omega arith in
     ap (take 56) is ∙ ap (λ (n : ℕ). take n (ended columns)) wide ∙ take-append_seam columns (10 ∷ [])
 
--- one more piece is appended to a text
-joined : (old front piece before after : List ℕ) → before ≡ old ++ front → after ≡ before ++ piece → after ≡ old ++ (front ++ piece)
-joined old front piece before after was is = is ∙ ap (λ (text : List ℕ). text ++ piece) was ∙ append_assoc old front piece
-
--- a space and one more piece are appended to a text
-joined_apart : (old front piece before after : List ℕ) → before ≡ old ++ front → after ≡ before ++ (spaces 1 ++ piece)
-    → after ≡ old ++ (front ++ spaces 1 ++ piece)
-joined_apart = search (rules, joined, append_assoc)
-
 -- the pieces of an origin's text make up the text
 pub origin_put : (start number : ℕ) (records : EventRecords) (association : Option (List ℕ)) (day : List ℕ) (old t1 t2 t3 t4 t5 t6 t7 t8 t9 : List ℕ)
     → t1 ≡ old ++ spaces 1 → day ≡ day_text start → t2 ≡ t1 ++ day → t3 ≡ t2 ++ spaces 1 → t4 ≡ t3 ++ number_text number
@@ -34,14 +22,7 @@ pub origin_put : (start number : ℕ) (records : EventRecords) (association : Op
     → t9 ≡ t8 ++ (spaces 1 ++ record_text association) → t9 ≡ old ++ found_text start number records association
 unfolding found_text
 origin_put start number records association day old t1 t2 t3 t4 t5 t6 t7 t8 t9 p1 day_is p2 p3 p4 p5 p6 p7 p8 p9 =
-    let q2 = joined old (spaces 1) (day_text start) t1 t2 p1 (p2 ∙ ap (λ (d : List ℕ). t1 ++ d) day_is) in
-    let q3 = joined old (spaces 1 ++ day_text start) (spaces 1) t2 t3 q2 p3 in
-    let q4 = joined old (spaces 1 ++ day_text start ++ spaces 1) (number_text number) t3 t4 q3 p4 in
-    let q5 = joined_apart old _ (record_text records.basic) t4 t5 q4 p5 in
-    let q6 = joined_apart old _ (record_text records.extra) t5 t6 q5 p6 in
-    let q7 = joined_apart old _ (record_text records.change) t6 t7 q6 p7 in
-    let q8 = joined_apart old _ (record_text records.location) t7 t8 q7 p8 in
-    joined_apart old _ (record_text association) t8 t9 q8 p9
+    rw (p9, p8, p7, p6, p5, p4, p3, p2, day_is, p1) (simp append_assoc)
 
 -- the columns of a docker line, its origin and a line feed make up the line's text
 pub line_put : (columns text shown origin t0 t1 t2 t3 : List ℕ) → t0 ≡ [] → t1 ≡ t0 ++ shown → shown ≡ columns → t2 ≡ t1 ++ origin → origin ≡ text

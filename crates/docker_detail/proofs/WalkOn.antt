@@ -1,10 +1,5 @@
 -- A walk over the records of a schedule passes one record at a time.
-use Rattle.std.proofs.Common.{◌≡◌, ℕ, ◌+◌, ◌<◌, ◌≤◌, List, [], ◌∷◌, length, subst, rules}
-use Rattle.std.specs.Prelude.{Option, All}
-use Rattle.std.proofs.lemmas.Bool.{lt-leb}
-use Rattle.std.proofs.lemmas.List.Elements.{All-head, All-tail}
-use Rattle.docker_model.specs.file.Journey.{times_of}
-use Rattle.docker_model.specs.records.Field.{HasGoodFields}
+use Rattle.cif_laws.proofs.Common.{◌≡◌, ℕ, ◌+◌, ◌<◌, ◌≤◌, List, [], ◌∷◌, length, subst, rules, Option, All, lt-leb, All-head, All-tail, times_of, HasGoodFields}
 use Rattle.docker_detail.specs.Records.{change_after, first_of, place_from}
 
 -- at the end of the records the walk stands at the place that it finds

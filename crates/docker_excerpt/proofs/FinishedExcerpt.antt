@@ -1,10 +1,6 @@
 -- The finished excerpt, and the docker that is made from it.
-use Rattle.std.proofs.Common.{◌≡◌, ℕ, List, refl, ap, sym, ◌∙◌, subst, rules}
-use Rattle.std.specs.Prelude.{Option, Some}
-use Rattle.docker_model.specs.file.Change.{Key, tiploc_key}
-use Rattle.docker_model.specs.state.Op.{Entry}
-use Rattle.docker_model.specs.state.State.{State, IsValid, AreEntries, live_table, raise_horizon}
-use Rattle.docker_model.specs.docker.DockerText.{description_in}
+use Rattle.cif_laws.proofs.Common.{◌≡◌, ℕ, List, refl, ap, sym, ◌∙◌, subst, rules, Option, Some, Key, tiploc_key, Entry, State, IsValid, AreEntries, live_table}
+use Rattle.cif_laws.proofs.Common.{raise_horizon, description_in}
 use Rattle.docker_laws.specs.NearDay.{near_state}
 use Rattle.docker_laws.specs.Thinning.{shortened, excerpt_on}
 use Rattle.state_laws.proofs.joins.RaisedHorizon.{set_last}
@@ -15,17 +11,14 @@ use Rattle.docker_laws.proofs.dockers.NearState.{near_part}
 use Rattle.docker_laws.proofs.dockers.Shortened.{same_tiploc, shortened_valid, shortened_list, excerpt_on_valid}
 use Rattle.docker_state.specs.Parts.{under}
 use Rattle.state_text.specs.PartsSoFar.{horizon_meant}
+use Rattle.state_text.proofs.PartsSoFarLemmas.{under_none}
 use Rattle.docker_excerpt.specs.Values.{Excerpt, with_entries, StandsAt, IsExcerptOf}
-
--- a state without a horizon equals the same state with the horizon 0
-plain_state : (state : State) → state.horizon ≡ 0 → state ≡ under 0 state
-plain_state state none = λ i. record { horizon = none i; ledger = state.ledger; entries = state.entries }
 
 -- setting the horizon leaves all entries unchanged, because no entry has a body that ended before
 -- this horizon
 pub horizon_set : (state raised : State) (horizon : Option ℕ) (day : ℕ) → state.horizon ≡ 0 → horizon ≡ Some day
     → IsValid (under (horizon_meant horizon) state) → raised ≡ raise_horizon day state → raised ≡ under (horizon_meant horizon) state
-horizon_set state raised horizon day plain read valid set = set ∙ ap (raise_horizon day) (plain_state _ plain)
+horizon_set state raised horizon day plain read valid set = set ∙ ap (raise_horizon day) (under_none _ plain)
     ∙ set_last _ (subst (λ (h : Option ℕ). IsValid (under (horizon_meant h) state)) read valid)
     ∙ ap (λ (h : Option ℕ). under (horizon_meant h) state) (sym read)
 
@@ -53,7 +46,7 @@ module _ (place : List ℕ) (day horizon : ℕ) (told : State) (valid : IsValid 
 
   part_is : (part : State) (rows : List (Key × Entry)) → rows ≡ (excerpt_on place day told).entries → part.horizon ≡ horizon → part.ledger ≡ told.ledger
       → part.entries ≡ rows → part ≡ excerpt_on place day (under horizon told)
-  part_is part rows is same_horizon same entries = λ i. record { horizon = same_horizon i; ledger = same i; entries = (entries ∙ is) i }
+  part_is = search rules
 
   -- for the excerpt's place and day, each docker of the excerpt's state is also a docker of the
   -- state from which the excerpt was made

@@ -1,12 +1,9 @@
 -- Lemmas on taking the entries of a state one by one, after its ledger items.
-use Rattle.std.proofs.Common.{◌≡◌, ℕ, ◌-◌, List, [], ◌∷◌, ◌++◌, length, map, refl, ap, sym, ◌∙◌, subst, arith, length-append, Some, rules}
-use Rattle.std.specs.Prelude.{Option, slice_get}
+use Rattle.cif_laws.proofs.Common.{◌≡◌, ℕ, ◌-◌, List, [], ◌∷◌, ◌++◌, length, map, refl, ap, sym, ◌∙◌, subst, arith, length-append, Some, rules, Option}
+use Rattle.cif_laws.proofs.Common.{slice_get, Entry, HasNotToLapse, LedgerItem, State, IsValid, IsOpOf, AreEntries, IsStampHere}
+use Rattle.std.proofs.lemmas.List.{get_or_push}
+use Rattle.std.proofs.lemmas.Option.{slice_get_read}
 use Rattle.docker_model.specs.file.Change as model
-use Rattle.docker_model.specs.state.Op.{Entry}
-use Rattle.docker_model.specs.state.Lapse.{HasNotToLapse}
-use Rattle.docker_model.specs.state.Stamp.{LedgerItem}
-use Rattle.docker_model.specs.state.State.{State, IsValid, IsOpOf, AreEntries}
-use Rattle.docker_model.specs.state.StatePart.{IsStampHere}
 use Rattle.state_laws.proofs.joins.RaisedHorizon.{none_has_to}
 use Rattle.state_laws.proofs.texts.StateGrown.{valid_more}
 use Rattle.docker_laws.proofs.dockers.ExcerptState.{entry_behind}
@@ -31,12 +28,7 @@ valid_with parts last count entries told view is key entry here of after pushed 
 last_of : {A : Type 0} (xs : List A) (x : A) → slice_get (xs ++ x ∷ []) (length (xs ++ x ∷ []) - 1) ≡ Some x
 last_of xs x =
     let size = length-append xs (x ∷ []) in
-    let at : length (xs ++ x ∷ []) - 1 ≡ length xs = omega arith in
-    ap (slice_get (xs ++ x ∷ [])) at ∙ there xs
-  where
-    there : (ys : List _) → slice_get (ys ++ x ∷ []) (length ys) ≡ Some x
-    there [] = refl
-    there (y ∷ ys) = there ys
+    slice_get_read (xs ++ x ∷ []) _ _ x refl (omega arith) (sym (get_or_push xs x x (length (xs ++ x ∷ []) - 1) (omega arith)))
 
 -- after one more entry is appended, the last key is the key of this entry
 pub last_with : (entries after : List (model.Key × Entry)) (key : model.Key) (entry : Entry) → after ≡ entries ++ (key, entry) ∷ [] → last_key after ≡ Some key

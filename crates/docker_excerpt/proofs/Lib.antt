@@ -1,3 +1,4 @@
+pub mod SameMembers
 pub mod WalkTurns
 pub mod WalkSteps
 pub mod NameSearch

@@ -1,9 +1,6 @@
 -- Lemmas on what the reader returns at the end of a file if it kept only what the docker of a place
 -- on a day needs.
-use Rattle.std.proofs.Common.{◌≡◌, ℕ, ◌≤◌, List, subst, sym, arith, rules}
-use Rattle.std.specs.Prelude.{Option}
-use Rattle.docker_model.specs.file.File.{most_records}
-use Rattle.docker_laws.specs.Thinning.{IsThinning}
+use Rattle.cif_laws.proofs.Common.{◌≡◌, ℕ, ◌≤◌, List, subst, sym, arith, rules, Option, most_records}
 use Rattle.cif_file.specs.declared.file.ended.Ended.{Ended}
 use Rattle.docker_excerpt.specs.declared.thin_kept.ThinSoFar.{ThinSoFar}
 use Rattle.cif_file.specs.EndedRead.{IsEnded}
@@ -21,18 +18,6 @@ module _ {P : Type 0} (place : List ℕ) (day : ℕ) where
       → IsOfRecords (thin_ended ended).file records
   file_of records ended is = record { header_is = is.header_is; count_is = is.count_is; changes_are = is.kept.so_far }
 
-  -- the changes that were kept are a thinning of the file's changes for the place and the day
-  enough_of : (records : List (List ℕ)) (ended : Ended (ThinSoFar P)) (is : IsEnded (KeepsThin place day) records ended)
-      → IsThinning ended.keeper.thinned.place ended.keeper.thinned.day ended.keeper.so_far.changes is.kept.thinned.kept
-  enough_of = search rules
-
-  -- the changes that were kept for the place are kept for the place that the keeper has
-  same_of : (records : List (List ℕ)) (ended : Ended (ThinSoFar P)) (is : IsEnded (KeepsThin place day) records ended)
-      → HaveSame is.kept.thinned.kept (thin_ended ended).kept
-  same_of records ended is =
-      let has = is.kept.thinned in
-      subst (λ p. HaveSame has.kept (all_kept p ended.keeper.thinned.made ended.keeper.thinned.elsewhere)) (sym has.place_is) has.made
-
   -- if the reader returns a thin file for the text that a source held, it is a thin file of that text
   pub reads_thin : (there : List ℕ) (on : ℕ) (limit : ℕ) (left : Option (List ℕ)) (ended : Ended (ThinSoFar P)) → there ≡ place → on ≡ day
       → ReadsEnded (KeepsThin place day) limit left ended → ReadsThin there on limit left (thin_ended ended)
@@ -48,6 +33,8 @@ module _ {P : Type 0} (place : List ℕ) (day : ℕ) where
       record {
         read = record { records = is.records; of_records = file_of is.records ended is.of_records; is_file = is.is_text.is; few = omega arith };
         thinned = is.of_records.kept.thinned.kept;
-        thinning = enough_of is.records ended is.of_records;
-        same = same_of is.records ended is.of_records;
+        thinning = let has = is.of_records.kept.thinned in search rules;
+        same =
+            let has = is.of_records.kept.thinned in
+            subst (λ p. HaveSame has.kept (all_kept p ended.keeper.thinned.made ended.keeper.thinned.elsewhere)) (sym has.place_is) has.made;
       }

@@ -1,21 +1,13 @@
 -- Lemmas on why the changes that are kept are enough for the docker of one place on one day. The thin form of a change (`thin_change`) has only what this
 -- docker needs.
-use Rattle.std.proofs.Common.{◌≡◌, ℕ, ◌∙◌, inl, inr, Bool, true, false, cond, List, [], ◌∷◌, ◌++◌, rules}
-use Rattle.std.proofs.lemmas.Grind.{common_steps}
-use Rattle.std.proofs.Common.{map, subst, ap, sym, Some, None, arith, append_assoc}
-use Rattle.std.specs.Global.{Vec}
-use Rattle.std.proofs.lemmas.List.{map-append}
-use Rattle.std.specs.Prelude.{Option, Contains, ◌⊎◌, ◌||◌, ◌&&◌, not, slice_get}
+use Rattle.cif_laws.proofs.Common.{◌≡◌, ℕ, ◌∙◌, inl, inr, Bool, true, false, cond, List, [], ◌∷◌, ◌++◌, rules, common_steps, map, subst, ap, sym, Some, arith}
+use Rattle.cif_laws.proofs.Common.{append_assoc, Vec, map-append, Option, ◌⊎◌, ◌||◌, ◌&&◌, not, slice_get, Contains-append_cases, is_deletion, as_new}
+use Rattle.cif_laws.proofs.Common.{IsSchedule, first_record, calls_at, Change, schedule_body, delete, put}
 use Rattle.std.specs.BTreeSet as set
 use Rattle.std.specs.BTreeSet.{BTreeSet}
-use Rattle.std.proofs.lemmas.List.Elements.{Contains-append_left, Contains-append_right, Contains-append_cases}
-use Rattle.cif_laws.proofs.lists.Membership.{nil-Contains, Contains-single}
-use Rattle.docker_model.specs.records.Field.{is_deletion, as_new}
-use Rattle.docker_model.specs.file.File.{IsSchedule, first_record}
-use Rattle.docker_model.specs.file.Journey.{calls_at}
-use Rattle.docker_model.specs.file.Change.{Change, Act, schedule_body, delete, put}
+use Rattle.cif_laws.proofs.lists.Membership.{nil-Contains, Contains-single, same_members_turned, same_members_rotated}
 use Rattle.docker_laws.specs.NearDay.{runs_near, may_reach}
-use Rattle.docker_laws.specs.Thinning.{may_matter, thin_act, thin_change, thin_lines, lines_for, HasNoChangeOf, IsThinning}
+use Rattle.docker_laws.specs.Thinning.{may_matter, thin_act, thin_change, thin_lines, lines_for, IsThinning}
 use Rattle.docker_laws.proofs.dockers.ThinChanges.{thinning_at_first, thinning_kept, thinning_dropped, thinning_elsewhere, act_far, near_of_new}
 use Rattle.cif_change.specs.declared.change.Change as code
 use Rattle.cif_change.specs.declared.key.ScheduleKey.{ScheduleKey}
@@ -28,9 +20,10 @@ use Rattle.docker_excerpt.specs.declared.thinned.Thinned.{Thinned}
 use Rattle.docker_excerpt.specs.declared.elsewhere.Elsewhere.{Elsewhere}
 use Rattle.docker_excerpt.specs.Elsewhere.{elsewhere_meant, all_kept, HaveSame}
 use Rattle.cif_file.specs.KeeperRead.{change_opened, with_new_first}
-use Rattle.cif_file.specs.SingleChanges.{puts_schedule, PutsNoSchedule, listed_after}
+use Rattle.cif_file.specs.SingleChanges.{listed_after}
 use Rattle.docker_excerpt.specs.Midnights.{IsPutSchedule}
 use Rattle.docker_excerpt.proofs.MidnightLemmas.{put_of_new}
+use Rattle.docker_excerpt.proofs.SameMembers.{more_members}
 use Rattle.docker_excerpt.specs.ThinKept.{schedule_cmp, has_key, KnowsMore, HasKeysOf, HasThinned, Thins, ThinsAll, SaysRunsNear}
 
 abbrev Lines : Type 0
@@ -46,11 +39,10 @@ set_knows = grind (common_steps, arith, same_key)
 -- after keeping a change and adding its key to the set, the set has the keys of all kept changes
 keys_of_more : (old new : BTreeSet ScheduleKey) (added : Change) (kept : List Change) → KnowsMore old added.key new → HasKeysOf old kept
     → HasKeysOf new (kept ++ added ∷ [])
-keys_of_more old new added kept more known change among one same = by (Contains-append_cases kept (added ∷ []) change among)
-  where
-    by : Contains kept change ⊎ Contains (added ∷ []) change → has_key new one ≡ true
-    by (inl before) = more.still one (known change before one same)
-    by (inr last) = more.also one (same ∙ sym (ap (λ (c : Change). c.key) (Contains-single added change last)))
+keys_of_more old new added kept more known change among one same = elim (Contains-append_cases kept (added ∷ []) change among) [
+  | inl before ↦ more.still one (known change before one same)
+  | inr last ↦ more.also one (same ∙ sym (ap (λ (c : Change). c.key) (Contains-single added change last)))
+]
 
 -- ---- the kept changes, in any order
 
@@ -60,49 +52,15 @@ module _ (kept front back : List Change) (change : Change) (same : HaveSame kept
 
   -- a change may be appended to the first part of the kept changes
   same_in_front : HaveSame more ((front ++ change ∷ []) ++ back)
-  same_in_front other = (
-    λ among. forth (Contains-append_cases kept (change ∷ []) other among),
-    λ among. back_in (Contains-append_cases (front ++ change ∷ []) back other among),
-  )
-    where
-      old : Contains front other ⊎ Contains back other → Contains ((front ++ change ∷ []) ++ back) other
-      old (inl first) = Contains-append_left (front ++ change ∷ []) back other (Contains-append_left front (change ∷ []) other first)
-      old (inr last) = Contains-append_right (front ++ change ∷ []) back other last
-
-      forth : Contains kept other ⊎ Contains (change ∷ []) other → Contains ((front ++ change ∷ []) ++ back) other
-      forth (inl before) = old (Contains-append_cases front back other ((same other).0 before))
-      forth (inr last) = Contains-append_left (front ++ change ∷ []) back other (Contains-append_right front (change ∷ []) other last)
-
-      in_front : Contains front other ⊎ Contains (change ∷ []) other → Contains more other
-      in_front (inl first) = Contains-append_left kept (change ∷ []) other ((same other).1 (Contains-append_left front back other first))
-      in_front (inr last) = Contains-append_right kept (change ∷ []) other last
-
-      back_in : Contains (front ++ change ∷ []) other ⊎ Contains back other → Contains more other
-      back_in (inl first) = in_front (Contains-append_cases front (change ∷ []) other first)
-      back_in (inr last) = Contains-append_left kept (change ∷ []) other ((same other).1 (Contains-append_right front back other last))
+  same_in_front other =
+      let first = more_members kept (back ++ front) (change ∷ []) (λ x.
+      let turned = same_members_turned front back x in (λ among. turned.0 ((same x).0 among), λ among. (same x).1 (turned.1 among))) other in
+      let then = same_members_rotated back front (change ∷ []) other in
+      (λ among. then.0 (first.0 among), λ among. first.1 (then.1 among))
 
   -- a change may be appended to the last part of the kept changes
   same_behind : HaveSame more (front ++ (back ++ change ∷ []))
-  same_behind other = (
-    λ among. forth (Contains-append_cases kept (change ∷ []) other among),
-    λ among. back_in (Contains-append_cases front (back ++ change ∷ []) other among),
-  )
-    where
-      old : Contains front other ⊎ Contains back other → Contains (front ++ (back ++ change ∷ [])) other
-      old (inl first) = Contains-append_left front (back ++ change ∷ []) other first
-      old (inr last) = Contains-append_right front (back ++ change ∷ []) other (Contains-append_left back (change ∷ []) other last)
-
-      forth : Contains kept other ⊎ Contains (change ∷ []) other → Contains (front ++ (back ++ change ∷ [])) other
-      forth (inl before) = old (Contains-append_cases front back other ((same other).0 before))
-      forth (inr last) = Contains-append_right front (back ++ change ∷ []) other (Contains-append_right back (change ∷ []) other last)
-
-      in_back : Contains back other ⊎ Contains (change ∷ []) other → Contains more other
-      in_back (inl last) = Contains-append_left kept (change ∷ []) other ((same other).1 (Contains-append_right front back other last))
-      in_back (inr new) = Contains-append_right kept (change ∷ []) other new
-
-      back_in : Contains front other ⊎ Contains (back ++ change ∷ []) other → Contains more other
-      back_in (inl first) = Contains-append_left kept (change ∷ []) other ((same other).1 (Contains-append_left front back other first))
-      back_in (inr last) = in_back (Contains-append_cases back (change ∷ []) other last)
+  same_behind = subst (HaveSame more) (append_assoc front back (change ∷ [])) (more_members kept (front ++ back) (change ∷ []) same)
 
 -- Says that one more change was kept.
 abbrev pub KeepsMore : List ℕ → Vec code.Change → Vec Elsewhere → Change → Vec code.Change → Vec Elsewhere → Type 0
@@ -145,88 +103,51 @@ module _ (place : List ℕ) (day : ℕ) (old new : Thinned) (whole : Change) whe
     known = keys_of_more _ _ _ _ more has.known;
   }
 
-  -- a change whose key can't matter at the place can be dropped
-  pub elsewhere_dropped : new ≡ old → may_matter old.place whole.key ≡ false → Thins place day old whole new
-  elsewhere_dropped same apart all has = subst (λ (t : Thinned). HasThinned place day t (all ++ whole ∷ [])) (sym same) (record {
+  dropped : new ≡ old → ((all : List Change) (has : HasThinned place day old all) → IsThinning place day (all ++ whole ∷ []) has.kept)
+      → Thins place day old whole new
+  dropped same thins all has = subst (λ (t : Thinned). HasThinned place day t (all ++ whole ∷ [])) (sym same) (record {
     place_is = has.place_is;
     day_is = has.day_is;
     kept = has.kept;
     made = has.made;
-    thinning = thinning_elsewhere place day all has.kept whole has.thinning (ap (λ p. may_matter p whole.key) (sym has.place_is) ∙ apart);
+    thinning = thins all has;
     known = has.known;
   })
+
+  -- a change whose key can't matter at the place can be dropped
+  pub elsewhere_dropped : new ≡ old → may_matter old.place whole.key ≡ false → Thins place day old whole new
+  elsewhere_dropped same apart = dropped same (λ all has.
+      thinning_elsewhere place day all has.kept whole has.thinning (ap (λ p. may_matter p whole.key) (sym has.place_is) ∙ apart))
 
   -- a change whose thin form is a deletion can be dropped if no change to its key was kept
   pub deletion_dropped : (one : ScheduleKey) → new ≡ old → has_key old.keys one ≡ false → whole.key ≡ key_meant (key.Schedule one)
       → thin_act place day whole.act ≡ delete → Thins place day old whole new
-  deletion_dropped one same none named deletes all has = subst (λ (t : Thinned). HasThinned place day t (all ++ whole ∷ [])) (sym same) (record {
-    place_is = has.place_is;
-    day_is = has.day_is;
-    kept = has.kept;
-    made = has.made;
-    thinning = thinning_dropped place day all has.kept whole has.thinning deletes (unknown has.kept has.known);
-    known = has.known;
-  })
-    where
-      unknown : (kept : List Change) → HasKeysOf old.keys kept → HasNoChangeOf whole.key kept
-      unknown kept known change among is = let bad = known change among one (sym named ∙ sym is) in let both : true ≡ false = sym bad ∙ none in cc
-
--- an act that puts no schedule is its own thin form
-never_thin : (place : List ℕ) (day : ℕ) (act : Act) → puts_schedule act ≡ false → thin_act place day act ≡ act
-never_thin = search rules
-
--- if a change puts no schedule, the thin form of the change is the change itself
-pub never_thin_change : (place : List ℕ) (day : ℕ) (change : Change) → PutsNoSchedule change → thin_change place day change ≡ change
-never_thin_change place day change none = λ i. record { number = change.number; key = change.key; act = never_thin place day change.act none i }
+  deletion_dropped one same none named deletes = dropped same (λ all has. thinning_dropped place day all has.kept whole has.thinning deletes
+      (λ change among is. let bad = has.known change among one (sym named ∙ sym is) in let both : true ≡ false = sym bad ∙ none in cc))
 
 -- ---- the change of a schedule
 
 module _ (place : List ℕ) (day : ℕ) (opened : Opened) (near : Bool) where
-  -- if a schedule is a deletion, the thin form of its change is a deletion
-  deletes_itself : (lines : Lines) → (progress_meant opened.progress).deletion ≡ true → thin_act place day (change_opened opened lines).act ≡ delete
-  deletes_itself lines deletion = λ i. thin_act place day (cond (deletion i) delete (put (schedule_body (with_new_first lines))))
-
-  module _ (basic : List ℕ) (others : Lines) (is : SaysRunsNear day (basic ∷ others) near) where
-    abbrev renewed : Lines
-    renewed = as_new basic ∷ others
-
-    -- unless the schedule is a deletion, setting its transaction to N doesn't change whether it runs near the day
-    near_renewed : is_deletion basic ≡ false → runs_near day (as_new basic) ≡ near
-    near_renewed stays = near_of_new day basic ∙ sym (is stays)
-
-    act_put : (progress_meant opened.progress).deletion ≡ false → (change_opened opened (basic ∷ others)).act ≡ put (schedule_body renewed)
-    act_put = search rules
+  -- unless the schedule is a deletion, setting its transaction to N doesn't change whether it runs near the day
+  near_renewed : (basic : List ℕ) (others : Lines) → SaysRunsNear day (basic ∷ others) near → is_deletion basic ≡ false
+      → runs_near day (as_new basic) ≡ near
+  near_renewed basic others is stays = near_of_new day basic ∙ sym (is stays)
 
   -- the thin form of a schedule's change is a deletion if the schedule is a deletion or doesn't run near the day
   pub opened_deletes : (lines : Lines) → HasLines (progress_meant opened.progress) lines → IsSchedule lines → SaysRunsNear day lines near
       → ((progress_meant opened.progress).deletion ≡ true) ⊎ (near ≡ false) → thin_act place day (change_opened opened lines).act ≡ delete
-  opened_deletes = search (rules, deletes_itself, act_put, act_far, near_renewed)
+  opened_deletes = search (rules, act_far, near_renewed)
 
   -- if a schedule isn't a deletion and runs near the day, the thin form of its change puts only the
   -- lines that the docker of the place needs
   pub opened_puts : (lines : Lines) → HasLines (progress_meant opened.progress) lines → IsSchedule lines → SaysRunsNear day lines near
       → (progress_meant opened.progress).deletion ≡ false → near ≡ true
       → thin_act place day (change_opened opened lines).act ≡ put (schedule_body (lines_for place day (with_new_first lines)))
-  opened_puts = search (rules, act_put, near_renewed)
-
--- a key that may matter at the place of a `Thinned` may matter at the docker's place, since the two places are equal
-pub matters_here : (place : List ℕ) {day : ℕ} (change : Change) {thinned : Thinned} {all : List Change} (has : HasThinned place day thinned all)
-    → may_matter thinned.place change.key ≡ true → may_matter place change.key ≡ true
-matters_here place change has matters = ap (λ p. may_matter p change.key) (sym has.place_is) ∙ matters
-
--- a change whose thin form is a deletion can be kept as a deletion with the same number and key
-pub deletion_kept : (place : List ℕ) (day : ℕ) (whole : Change) (number : ℕ) (one : ScheduleKey) → whole.number ≡ number
-    → whole.key ≡ key_meant (key.Schedule one) → thin_act place day whole.act ≡ delete
-    → thin_change place day whole ≡ record { number = number; key = key_meant (key.Schedule one); act = delete }
-deletion_kept place day whole number one numbered named deletes = λ i. record { number = numbered i; key = named i; act = deletes i }
+  opened_puts = search (rules, near_of_new)
 
 -- ---- the changes of a record that is a unit by itself
 
 module _ (place : List ℕ) (day : ℕ) (old new : Thinned) (first : Option code.Change) (last : Change) where
-  -- if a record makes one change, a `Thinned` that has received this change has received all changes of the record
-  pub one_taken : first ≡ None → Thins place day old last new → ThinsAll place day old (listed_after first last) new
-  one_taken none thins = subst (λ f. ThinsAll place day old (listed_after f last) new) (sym none) thins
-
   -- if a record makes two changes, a `Thinned` that has received one after the other has received all changes of the record
   pub two_taken : (change : code.Change) (between : Thinned) → first ≡ Some change → Thins place day old (change_meant change) between
       → Thins place day between last new → ThinsAll place day old (listed_after first last) new
@@ -237,10 +158,6 @@ module _ (place : List ℕ) (day : ℕ) (old new : Thinned) (first : Option code
 -- if `a || not b` is true, `a` is true or `b` is false
 pub either : (a b : Bool) → (a || not b) ≡ true → (a ≡ true) ⊎ (b ≡ false)
 either = search rules
-
--- if `a || not b` is false, `a` is false and `b` is true
-pub neither : (a b : Bool) → (a || not b) ≡ false → (a ≡ false) × (b ≡ true)
-neither = search rules
 
 module _ (place : List ℕ) (day : ℕ) (opened : Opened) (near : Bool) (lines : Lines) (read : HasLines (progress_meant opened.progress) lines)
     (whole : IsSchedule lines) (is : SaysRunsNear day lines near) (stays : (progress_meant opened.progress).deletion ≡ false) (runs : near ≡ true)

@@ -1,11 +1,6 @@
 -- The changes that the docker of one place and day needs of a thin file make a valid state. They are the wanted changes of a thinning, in any order.
-use Rattle.std.proofs.Common.{◌≡◌, ℕ, List, [], ◌∷◌, map, ap, ◌∙◌, subst, Contains}
-use Rattle.std.specs.Prelude.{◌↔◌, filter, slice_index_or}
-use Rattle.std.specs.Global.{Vec}
-use Rattle.docker_model.specs.file.Change.{Key, Change, changes}
-use Rattle.docker_model.specs.state.Stamp.{LedgerItem, ledger_item_of}
-use Rattle.docker_model.specs.state.Op.{Entry}
-use Rattle.docker_model.specs.state.State.{State, IsGreatestAmong}
+use Rattle.cif_laws.proofs.Common.{◌≡◌, ℕ, List, [], ◌∷◌, map, ap, ◌∙◌, subst, Contains, ◌↔◌, filter, slice_index_or, Vec, Key, Change, changes, LedgerItem}
+use Rattle.cif_laws.proofs.Common.{ledger_item_of, Entry, State, IsGreatestAmong}
 use Rattle.docker_laws.specs.Thinning.{IsThinning, IsStateOfChanges, HasUidsOf, is_wanted, wanted_changes}
 use Rattle.docker_laws.proofs.dockers.NeededChanges.{wanted_valid}
 use Rattle.docker_laws.proofs.dockers.ThinState.{kept_good}

@@ -1,9 +1,6 @@
 -- How each step of the code's walk changes the kept rows, `run` and `names`. `run` has the
 -- schedules of one UID, and `names` has the UIDs of associated trains.
-use Rattle.std.proofs.Common.{◌≡◌, ℕ, List, [], ◌∷◌, ◌++◌, map, ap, sym, ◌∙◌, Bool, cond, rules}
-use Rattle.std.specs.Prelude.{Option, Some, None}
-use Rattle.std.specs.Option.{option_to_list}
-use Rattle.std.proofs.lemmas.List.{append-nil, map-append}
+use Rattle.cif_laws.proofs.Common.{◌≡◌, ℕ, List, [], ◌∷◌, ◌++◌, map, Bool, cond, rules, Option, Some, None, option_to_list, append-nil, map-append}
 use Rattle.docker_model.specs.file.Change as model
 use Rattle.docker_model.specs.state.Op as ops
 use Rattle.cif_change.specs.declared.key.Key.{Key}
@@ -20,17 +17,17 @@ rows_more = search (rules, map-append)
 -- if an entry has an associated train, the UID of this train is appended to the list `names`
 pub names_with_some : (names after : List (List ℕ)) (name : List ℕ) (found told : Option (List ℕ)) → after ≡ names ++ name ∷ [] → found ≡ Some name
     → found ≡ told → after ≡ names ++ option_to_list told
-names_with_some names after name found told pushed is same = pushed ∙ ap (λ (one : Option (List ℕ)). names ++ option_to_list one) (sym is ∙ same)
+names_with_some = search rules
 
 -- if an entry has no associated train, the list `names` is unchanged
 pub names_with_none : (names : List (List ℕ)) (found told : Option (List ℕ)) → found ≡ None → found ≡ told → names ≡ names ++ option_to_list told
 names_with_none = search (rules, append-nil)
 
 -- if two walks have equal fields and `IsWalk` holds for one of them, it holds for the other
-pub walk_by : (place : List ℕ) (entries kept run other_kept other_run : List (model.Key × ops.Entry)) (needed other_needed : Bool)
-    (names other_names : List (List ℕ))
-    → other_kept ≡ kept → other_run ≡ run → other_needed ≡ needed → other_names ≡ names → IsWalk place entries kept run needed names
-    → IsWalk place entries other_kept other_run other_needed other_names
+pub walk_by : {place other_place : List ℕ} {entries kept run other_kept other_run : List (model.Key × ops.Entry)} {needed other_needed : Bool}
+    {names other_names : List (List ℕ)}
+    → other_place ≡ place → other_kept ≡ kept → other_run ≡ run → other_needed ≡ needed → other_names ≡ names
+    → IsWalk place entries kept run needed names → IsWalk other_place entries other_kept other_run other_needed other_names
 walk_by = search rules
 
 -- after the last schedule of a UID, the rows of this UID's schedules are appended to the kept rows if they are needed, and dropped otherwise

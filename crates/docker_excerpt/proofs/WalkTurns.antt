@@ -1,29 +1,16 @@
 -- Each step of a walk that makes an excerpt preserves the properties of the walk that are proved
 -- here. `run` has the schedules of one UID, and `names` has the UIDs of associated trains.
-use Rattle.std.proofs.Common.{◌≡◌, ℕ, List, [], ◌∷◌, ◌++◌, ap, sym, ◌∙◌, subst, inl, inr, ◌⊎◌, Bool, true, false, cond, Contains, arith}
-use Rattle.std.proofs.lemmas.Grind.{common_steps}
-use Rattle.std.proofs.Common.{rules}
-use Rattle.std.specs.Prelude.{◌||◌, ◌↔◌}
-use Rattle.std.specs.Option.{option_to_list}
-use Rattle.std.specs.List.Sorted.{IsSorted, IsPermutation}
-use Rattle.std.proofs.lemmas.List.Elements.{Contains-append_left, Contains-append_right, Contains-append_cases}
-use Rattle.std.proofs.lemmas.List.Sorted.{Contains-permutation, IsPermutation-sym}
-use Rattle.docker_model.specs.file.Change.{Key, schedule_key, ScheduleKey}
-use Rattle.docker_model.specs.state.Op.{Entry}
-use Rattle.docker_model.specs.state.Order.{bytes_cmp}
-use Rattle.docker_model.specs.state.State.{State}
-use Rattle.docker_model.specs.state.StatePart.{IsAboveEntries}
+use Rattle.cif_laws.proofs.Common.{◌≡◌, ℕ, List, [], ◌∷◌, ◌++◌, ap, sym, ◌∙◌, subst, inl, inr, Bool, true, false, cond, Contains, arith, common_steps, rules}
+use Rattle.cif_laws.proofs.Common.{◌||◌, ◌↔◌, option_to_list, IsSorted, IsPermutation, Key, schedule_key, ScheduleKey, Entry, bytes_cmp, State, IsAboveEntries}
+use Rattle.cif_laws.proofs.lists.Membership.{SameMembers}
 use Rattle.docker_laws.specs.ExcerptWalk.{ExcerptSoFar, is_here, has_uid, name_in, names_in, is_call, goes_on, HasKept}
 use Rattle.docker_laws.proofs.dockers.ExcerptTurns.{kept_alone, kept_here, kept_elsewhere, kept_joins, kept_begins}
 use Rattle.docker_laws.proofs.dockers.ExcerptSteps.{names_stay, names_with}
 use Rattle.docker_excerpt.specs.Walked.{AreNames, IsWalk}
+use Rattle.docker_excerpt.proofs.SameMembers.{more_members, sorted_members}
 
 abbrev Keyed : Type 0
 Keyed = Key × Entry
-
--- if `run` has no schedules, `needed` is false
-unneeded : (place : List ℕ) (entries kept run : List Keyed) (needed : Bool) → HasKept place entries kept run needed → run ≡ [] → needed ≡ false
-unneeded = search rules
 
 -- a list with a single entry names only the UID of the entry's associated train, or no UID if the
 -- entry has no associated train
@@ -33,18 +20,9 @@ names_of_one = search rules
 -- if one more entry is kept, the UID of the entry's associated train, if any, is appended to the list `names`
 names_more : (names : List (List ℕ)) (kept : List Keyed) (key : Key) (entry : Entry) → AreNames names kept
     → AreNames (names ++ option_to_list (name_in key entry.op)) (kept ++ (key, entry) ∷ [])
-names_more names kept key entry are uid =
-    subst (λ (all : List (List ℕ)). Contains (names ++ option_to_list (name_in key entry.op)) uid ↔ Contains all uid)
+names_more names kept key entry are = subst (SameMembers (names ++ option_to_list (name_in key entry.op)))
     (sym (names_with kept (key, entry) ∙ ap (λ (one : List (List ℕ)). names_in kept ++ one) (names_of_one key entry)))
-    (across names (names_in kept) (are uid).0, across (names_in kept) names (are uid).1)
-  where
-    across : (xs ys : List (List ℕ)) → (Contains xs uid → Contains ys uid) → Contains (xs ++ option_to_list (name_in key entry.op)) uid
-        → Contains (ys ++ option_to_list (name_in key entry.op)) uid
-    across xs ys to among = by (Contains-append_cases xs (option_to_list (name_in key entry.op)) uid among)
-      where
-        by : Contains xs uid ⊎ Contains (option_to_list (name_in key entry.op)) uid → Contains (ys ++ option_to_list (name_in key entry.op)) uid
-        by (inl front) = Contains-append_left ys (option_to_list (name_in key entry.op)) uid (to front)
-        by (inr last) = Contains-append_right ys (option_to_list (name_in key entry.op)) uid last
+    (more_members names (names_in kept) (option_to_list (name_in key entry.op)) are)
 
 module _ (place : List ℕ) (state : State) (kept run : List Keyed) (needed : Bool) (names : List (List ℕ))
     (is : IsWalk place state.entries kept run needed names) where
@@ -53,7 +31,7 @@ module _ (place : List ℕ) (state : State) (kept run : List Keyed) (needed : Bo
   alone = kept_alone place state kept run needed is.has_kept
 
   as_it_was : (entries after : List Keyed) → run ≡ [] → HasKept place entries after [] false → HasKept place entries after run needed
-  as_it_was = search (rules, unneeded)
+  as_it_was = search rules
 
   -- a TIPLOC or an association at the place is kept, and the UID of the association's associated train is appended to the list `names`
   pub walk_here : (key : Key) (entry : Entry) → IsAboveEntries state key → ((uid : List ℕ) → has_uid uid key ≡ false) → is_here place key ≡ true
@@ -83,7 +61,7 @@ module _ (place : List ℕ) (state : State) (kept run : List Keyed) (needed : Bo
       (named || is_call place entry.op) names
   walk_begins key entry named stops sorted tells = record {
     has_kept = begun;
-    told = λ uid. subst (λ (all : List (List ℕ)). Contains names uid ↔ Contains all uid) (sym still) (is.told uid);
+    told = subst (SameMembers names) (sym still) is.told;
     sorted = inr sorted;
   }
     where
@@ -100,11 +78,5 @@ module _ (place : List ℕ) (state : State) (kept run : List Keyed) (needed : Bo
   -- sorting the list `names` preserves `IsWalk`: it changes neither the passed entries nor the kept
   -- entries of the walk
   pub walk_sorted : (after : List (List ℕ)) → IsPermutation names after → IsSorted bytes_cmp after → IsWalk place state.entries kept run needed after
-  walk_sorted after moved sorted = record {
-    has_kept = is.has_kept;
-    told = λ uid. (
-      λ among. (is.told uid).0 (Contains-permutation after names uid (IsPermutation-sym names after moved) among),
-      λ among. Contains-permutation names after uid moved ((is.told uid).1 among),
-    );
-    sorted = inr sorted;
-  }
+  walk_sorted after moved sorted =
+      record { has_kept = is.has_kept; told = sorted_members names after (names_in kept) moved is.told; sorted = inr sorted }

@@ -1,8 +1,7 @@
 -- The calls to a shelf preserve its invariant: the shelf agrees with its history.
-use Rattle.std.proofs.Common.{◌≡◌, ℕ, ◌+◌, ◌-◌, ◌^◌, ◌<◌, ◌≤◌, Bool, true, false, List, [], ◌∷◌, ◌++◌, rules}
+use Rattle.std.proofs.Common.{◌≡◌, ℕ, ◌+◌, ◌-◌, ◌^◌, ◌<◌, ◌≤◌, Bool, true, false, List, [], ◌∷◌, ◌++◌, rules, length, if◌then◌else◌, Some, arith, refl, sym, ap}
+use Rattle.std.proofs.Common.{subst, ◌∙◌, string_bytes, length-append, bytes_eq}
 use Rattle.std.proofs.lemmas.Grind.{common_steps}
-use Rattle.std.proofs.Common.{length, if◌then◌else◌, Some, arith, refl, sym, ap, subst, ◌∙◌, string_bytes, length-append}
-use Rattle.std.specs.Str.{bytes_eq}
 use Rattle.std.proofs.lemmas.List.{take-append-le, take_all}
 use Rattle.std.proofs.Math.Nat.{eq-or-lt_of_le}
 use Rattle.std.proofs.lemmas.Slice.Eq.{bytes_eq-Decides}
@@ -11,7 +10,7 @@ use Rattle.docker_host.specs.History.{Text, Event, drafted, opened, placed}
 use Rattle.docker_host.specs.Standing.{HappensAt, IsStandingOf, IsStill}
 use Rattle.docker_host.specs.Shelf.{Texts, no_texts, with_text, after_event, after_events, IsMet, AreMet, shelf_standing, text_under}
 use Rattle.docker_host.specs.Shelf.{is_put, last_put, put_from}
-use Rattle.docker_host.specs.Places.{texts_of, since_when, HoldsSince, IsKept}
+use Rattle.docker_host.specs.Places.{since_when, HoldsSince, IsKept}
 use Rattle.docker_host.specs.declared.shelf.Place.{Place}
 use Rattle.docker_host.proofs.CountLemmas.{number_of_few}
 use Rattle.docker_host.proofs.StandingLemmas.{happen_append, happen_as}
@@ -80,11 +79,6 @@ put_before : (events : List Event) (event : Event) (name : Text) → is_put even
     → last_put (events ++ event ∷ []) name ≡ last_put events name
 put_before = search (rules, put_from-append)
 
--- an event that puts a text under this name is the last one
-put_last : (events : List Event) (event : Event) (name : Text) → is_put event name ≡ true
-    → last_put (events ++ event ∷ []) name ≡ length events + 1
-put_last = search (rules, put_from-append)
-
 -- ---- the invariant after one more event
 
 -- if an event that changes no file is appended, the shelf's invariant `IsKept` still holds
@@ -108,62 +102,39 @@ kept_still places events event kept still others met happens = record {
 pub kept_placed : (place : Place) (places : List Place) (events : List Event) (name text : Text) → IsKept places events
     → string_bytes place.name ≡ name → place.text.items ≡ text → IsCountOf place.since (length events + 1)
     → IsKept (place ∷ places) (events ++ placed name (Some text) ∷ [])
-kept_placed place places events name text kept named held counted = record {
-  met = AreMet-append no_texts _ (placed name (Some text)) kept.met tt;
-  standing = standing_append _ (placed name (Some text)) kept.standing now_there;
-  same = λ other. ap (λ (n : Text). with_text n place.text.items (texts_of places) other) named
-      ∙ ap (λ (t : Text). with_text name t (texts_of places) other) held
-      ∙ with_same name text other (texts_of places) (after_events no_texts events) (kept.same other)
-      ∙ sym (after other);
-  since = λ other few. by other (bytes_eq (string_bytes place.name) other) refl few;
-  counted = λ other. count other (bytes_eq (string_bytes place.name) other) refl;
-}
+kept_placed place places events name text kept named held counted =
+    subst (λ (n : Text). IsKept (place ∷ places) (events ++ placed n (Some text) ∷ [])) named
+    (subst (λ (bytes : Text). IsKept (place ∷ places) (events ++ placed own (Some bytes) ∷ [])) held (record {
+      met = AreMet-append no_texts _ _ kept.met tt;
+      standing = standing_append _ _ kept.standing now_there;
+      same = λ other. rw (after other, ← kept.same other) refl;
+      since = λ other few. since other (bytes_eq own other) refl few;
+      counted = λ other. rw put_from-append (count other (bytes_eq own other));
+    }))
   where
-    all : List Event
-    all = events ++ placed name (Some text) ∷ []
+    own : Text
+    own = string_bytes place.name
 
-    after : (other : Text) → text_under all other ≡ with_text name text (after_events no_texts events) other
+    all : List Event
+    all = events ++ placed own (Some place.text.items) ∷ []
+
+    after : (other : Text) → text_under all other ≡ with_text own place.text.items (after_events no_texts events) other
     after other = ap (λ (texts : Texts). texts other) (after_events-append _ events _)
 
-    with_same : (name text other : Text) (texts texts' : Texts) → texts other ≡ texts' other
-        → with_text name text texts other ≡ with_text name text texts' other
-    with_same name text other texts texts' same = rw same refl
+    now_there : shelf_standing all (length events + 1) own ≡ Some place.text.items
+    now_there = ap (λ (n : ℕ). shelf_standing all n own) (sym (length-append events (placed own (Some place.text.items) ∷ [])))
+        ∙ last_standing all _ ∙ after own
+        ∙ (let same : bytes_eq own own ≡ true = (bytes_eq-Decides own own).1 refl in rw same refl)
 
-    long : length all ≡ length events + 1
-    long = length-append events (placed name (Some text) ∷ [])
+    since : (other : Text) (is : Bool) → bytes_eq own other ≡ is → (if is then place.since else since_when places other) < 2 ^ 64 - 1
+        → HoldsSince all other (if is then place.since else since_when places other)
+    since other true is few = since_last all _ _ (search (rules, number_of_few, length-append))
+    since other false is few = since_append _ _ _ _ (search (rules, after)) (kept.since other few)
 
-    own : (n : Text) (texts : Texts) → with_text n text texts n ≡ Some text
-    own n texts = let same : bytes_eq n n ≡ true = (bytes_eq-Decides n n).1 refl in rw same refl
-
-    now_there : shelf_standing all (length events + 1) name ≡ Some text
-    now_there = ap (λ (n : ℕ). shelf_standing all n name) (sym long) ∙ last_standing all _ ∙ after name ∙ own name (after_events no_texts events)
-
-    other_text : (other : Text) → bytes_eq (string_bytes place.name) other ≡ false → text_under all other ≡ text_under events other
-    other_text other differs = after other
-        ∙ (let apart : bytes_eq name other ≡ false = subst (λ (n : Text). bytes_eq n other ≡ false) named differs in rw apart refl)
-
-    by : (other : Text) (is : Bool) → bytes_eq (string_bytes place.name) other ≡ is
-        → since_when (place ∷ places) other < 2 ^ 64 - 1 → HoldsSince all other (since_when (place ∷ places) other)
-    by other true is few =
-        let since : since_when (place ∷ places) other ≡ place.since = rw is refl in
-        subst (HoldsSince all other) (sym since) (since_last all _ place.since
-        (number_of_few _ (length events + 1) counted (subst (λ (n : ℕ). n < 2 ^ 64 - 1) since few) ∙ sym long))
-    by other false is few =
-        let since : since_when (place ∷ places) other ≡ since_when places other = rw is refl in
-        subst (HoldsSince all other) (sym since) (since_append _ (placed name (Some text)) _ (since_when places other) (other_text other is)
-        (kept.since other (subst (λ (n : ℕ). n < 2 ^ 64 - 1) since few)))
-
-    count : (other : Text) (is : Bool) → bytes_eq (string_bytes place.name) other ≡ is → IsCountOf (since_when (place ∷ places) other) (last_put all other)
-    count other true is =
-        let since : since_when (place ∷ places) other ≡ place.since = rw is refl in
-        let own : bytes_eq name other ≡ true = subst (λ (n : Text). bytes_eq n other ≡ true) named is in
-        subst (λ (n : ℕ). IsCountOf n (last_put all other)) (sym since)
-        (subst (IsCountOf place.since) (sym (put_last _ (placed name (Some text)) _ own)) counted)
-    count other false is =
-        let since : since_when (place ∷ places) other ≡ since_when places other = rw is refl in
-        let apart : bytes_eq name other ≡ false = subst (λ (n : Text). bytes_eq n other ≡ false) named is in
-        subst (λ (n : ℕ). IsCountOf n (last_put all other)) (sym since)
-        (subst (IsCountOf (since_when places other)) (sym (put_before events _ other apart)) (kept.counted other))
+    count : (other : Text) (is : Bool) → IsCountOf (if is then place.since else since_when places other)
+        (if is then 0 + length events + 1 else last_put events other)
+    count other true = omega (arith, counted)
+    count other false = kept.counted other
 
 -- if a file is opened and the event `opened` is appended, the shelf's invariant `IsKept` still
 -- holds

@@ -1,6 +1,6 @@
 -- Which events can happen at which position of a folder's history.
-use Rattle.std.proofs.Common.{◌≡◌, ℕ, ◌+◌, ◌≤◌, List, [], ◌∷◌, ◌++◌, length, arith, sym, subst, ◌∙◌, rules}
-use Rattle.docker_host.specs.History.{Text, Event, looked, opened, unopened, closed, drafted, undrafted, placed, unplaced, dropped}
+use Rattle.std.proofs.Common.{◌≡◌, ℕ, ◌+◌, ◌≤◌, List, [], ◌∷◌, ◌++◌, length, arith, sym, ◌∙◌, rules}
+use Rattle.docker_host.specs.History.{Text, Event, opened, drafted, placed}
 use Rattle.docker_host.specs.Standing.{Standing, HappensAt, HappenFrom}
 
 -- if two functions agree up to a position, events that can happen by one of them up to this position can
@@ -16,23 +16,14 @@ happen_as one two limit same now (event ∷ events) low happen =
     by (drafted name look) is = λ position from to.
         sym (same position name (omega (arith, to, low))) ∙ is position from to ∙ same look name (omega (arith, from, to, low))
     by (placed name bytes) is = sym (same (now + 1) name (omega arith)) ∙ is
-    by (looked name) is = tt
-    by (unopened name) is = tt
-    by (closed left) is = tt
-    by (undrafted name look) is = tt
-    by (unplaced name bytes) is = tt
-    by (dropped name) is = tt
+    by _ is = tt
 
 -- if these events can happen, and then one more event, they can all happen
 pub happen_append : (standing : Standing) (now : ℕ) (events : List Event) (event : Event) → HappenFrom standing now events
     → HappensAt standing (now + length events) event → HappenFrom standing now (events ++ event ∷ [])
 happen_append standing now [] event happen last = search rules
-happen_append standing now (first ∷ events) event happen last = (
-  happen.0,
-  happen_append standing (now + 1) events event happen.1
-      (subst (λ (n : ℕ). HappensAt standing n event)
-      (let same : now + length (first ∷ events) ≡ now + 1 + length events = omega arith in same) last),
-)
+happen_append standing now (first ∷ events) event happen last =
+    grind (arith, (happen_append standing (now + 1) events event happen.1))
 
 -- if these events can happen, the event `event` can happen at its position
 pub happens_at : (standing : Standing) (now : ℕ) (front : List Event) (event : Event) (more : List Event)

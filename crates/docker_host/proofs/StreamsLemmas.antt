@@ -1,7 +1,6 @@
 -- Several writes to the output of streams, one after another, and the exchanges that they add.
-use Rattle.std.proofs.Common.{◌≡◌, ℕ, ◌+◌, ◌≤◌, ◌<◌, List, [], ◌∷◌, ◌++◌, length, take, drop, refl, sym, ap, subst, ◌∙◌, arith, rules}
+use Rattle.std.proofs.Common.{◌≡◌, ℕ, ◌+◌, ◌≤◌, ◌<◌, List, [], ◌∷◌, ◌++◌, length, take, drop, refl, arith, rules, append_assoc, append-nil, length-append}
 use Rattle.std.proofs.lemmas.Grind.{common_steps}
-use Rattle.std.proofs.Common.{append_assoc, append-nil, length-append}
 use Rattle.std.proofs.lemmas.List.{take-append-le}
 use Rattle.std.proofs.Math.Seq.{take-add, take-append-add, take-length}
 use Rattle.docker_host.specs.History.{Bytes, Text}
@@ -14,17 +13,13 @@ use Rattle.docker_host.specs.Streams.{StreamsView, Writes, WritesPart, WritesWho
 pub read_append : (one two : List Exchange) → bytes_read (one ++ two) ≡ bytes_read one ++ bytes_read two
 read_append [] two = refl
 read_append (read bytes ∷ one) two = grind (arith, append_assoc, (read_append one two))
-read_append (unread ∷ one) two = read_append one two
-read_append (wrote bytes ∷ one) two = read_append one two
-read_append (unwritten ∷ one) two = read_append one two
+read_append (_ ∷ one) two = read_append one two
 
 -- the bytes written in two lists of exchanges are the bytes written in their concatenation
 pub written_append : (one two : List Exchange) → bytes_written (one ++ two) ≡ bytes_written one ++ bytes_written two
 written_append [] two = refl
 written_append (wrote bytes ∷ one) two = grind (arith, append_assoc, (written_append one two))
-written_append (read bytes ∷ one) two = written_append one two
-written_append (unread ∷ one) two = written_append one two
-written_append (unwritten ∷ one) two = written_append one two
+written_append (_ ∷ one) two = written_append one two
 
 pub writes_append : (one two : List Exchange) → AreWrites one → AreWrites two → AreWrites (one ++ two)
 writes_append [] two first second = second
@@ -74,8 +69,8 @@ pub whole_both : (first second : Text) (old mid new : StreamsView) → WritesWho
     → WritesWhole (first ++ second) old new
 whole_both first second old mid new one two = record {
   gained = one.gained ++ two.gained;
-  writes = writes_both first second one.gained two.gained old mid new one.writes two.writes;
-  failures = two.failures ∙ one.failures;
+  writes = search (rules, writes_both);
+  failures = cc;
 }
 
 -- if the output took a whole text and then a proper prefix of another text, it took a proper prefix
@@ -84,11 +79,10 @@ pub part_of_second : (first second : Text) (old mid new : StreamsView) → Write
     → WritesPart (first ++ second) old new
 part_of_second first second old mid new one two = record {
   n = length first + two.n;
-  short = (let short = two.short in let long = length-append first second in omega (arith, short, long));
+  short = simp length-append (omega arith);
   gained = one.gained ++ two.gained;
-  writes = subst (λ (bytes : Text). Writes bytes (one.gained ++ two.gained) old new) (sym (take-append-add first second two.n))
-      (writes_both _ _ _ _ _ _ _ one.writes two.writes);
-  failures = two.failures ∙ ap (λ (n : ℕ). n + 1) one.failures;
+  writes = rw take-append-add (writes_both _ _ _ _ _ _ _ one.writes two.writes);
+  failures = cc;
 }
 
 -- if the output took a proper prefix of a text, it took a proper prefix of each longer text that begins
@@ -113,9 +107,8 @@ part_fails text done old mid new short one same = record {
   n = done;
   short = short;
   gained = one.gained ++ unwritten ∷ [];
-  writes = subst (λ (bytes : Text). Writes bytes (one.gained ++ unwritten ∷ []) old new) (append-nil (take done text))
-      (writes_both _ _ _ _ _ _ _ one.writes (failed_write _ _ same));
-  failures = ap (λ (s : StreamsView). s.output_failures) same ∙ ap (λ (n : ℕ). n + 1) one.failures;
+  writes = rw append-nil at (writes_both _ _ _ _ _ _ _ one.writes (failed_write _ _ same));
+  failures = cc;
 }
 
 -- once all bytes of a text are written, the whole text is written

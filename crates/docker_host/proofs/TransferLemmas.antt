@@ -1,6 +1,5 @@
 -- Interrupted reads and writes leave known bytes as they are.
-use Rattle.std.proofs.Common.{ℕ, List, Option, rules}
-use Rattle.std.specs.Prelude.{Result}
+use Rattle.std.proofs.Common.{ℕ, List, Option, rules, Result}
 use Rattle.std.specs.Io.KnownBytes.{Appends, Consumes, Keeps, ReadConsumes, WriteAppends}
 
 pub keeps_itself : (bytes : Option (List ℕ)) → Keeps bytes bytes

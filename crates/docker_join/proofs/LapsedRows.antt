@@ -1,13 +1,8 @@
 -- Lemmas on letting the entries of rows lapse one by one, from the first row to the last.
-use Rattle.std.proofs.Common.{◌≡◌, ℕ, ◌≤◌, List, ◌++◌, map, length, take, drop, sym, subst}
-use Rattle.std.proofs.Common.{rules}
-use Rattle.std.specs.declared.cmp.Ordering.{Ordering}
-use Rattle.std.proofs.lemmas.List.{take_all, drop_all, append-nil}
+use Rattle.cif_laws.proofs.Common.{◌≡◌, ℕ, ◌≤◌, List, ◌++◌, map, length, take, drop, sym, subst, rules, Ordering, take_all, drop_all, append-nil, key_cmp}
+use Rattle.cif_laws.proofs.Common.{lapse_entries, IsStrictlyAscending}
 use Rattle.docker_model.specs.file.Change as model
 use Rattle.docker_model.specs.state.Op as ops
-use Rattle.docker_model.specs.state.Op.{key_cmp}
-use Rattle.docker_model.specs.state.Lapse.{lapse_entries}
-use Rattle.docker_model.specs.state.Order.{IsStrictlyAscending}
 use Rattle.state_laws.proofs.states.KeptEntries.{lapse_ascends}
 use Rattle.cif_change.specs.declared.key.Key.{Key}
 use Rattle.docker_join.specs.declared.entry.Entry.{Entry}

@@ -1,4 +1,3 @@
-pub mod MergedRows
 pub mod Lookup
 pub mod MeantOrder
 pub mod LapsedRows

@@ -1,17 +1,10 @@
 -- Lemmas on what a binary search in the rows of a table finds.
-use Rattle.std.proofs.Common.{◌≡◌, ℕ, zero, suc, ◌<◌, ◌≤◌, List, [], ◌∷◌, length, get_or, refl, ap, sym, ◌∙◌, subst, Some, None, inl, inr, ◌⊎◌, arith}
-use Rattle.std.proofs.lemmas.Grind.{common_steps}
-use Rattle.std.proofs.lemmas.Bool.{cases_lt}
-use Rattle.std.specs.Prelude.{Option}
-use Rattle.std.specs.List.{AllByRecursion}
-use Rattle.std.specs.List.Sorted.{IsNonDecreasingBy, IsPartitionPoint}
-use Rattle.std.specs.declared.cmp.Ordering.{Ordering}
-use Rattle.std.specs.declared.cmp.Ordering.TheVariants.{Less, Equal, Greater}
-use Rattle.std.specs.Ordering.{ordering_index, ordering_reverse}
-use Rattle.std.specs.Cmp.{tied_itself}
+use Rattle.cif_laws.proofs.Common.{rules, ◌+◌, ◌-◌, false, ◌≡◌, ℕ, ◌<◌, ◌≤◌, List, length, get_or, refl, ap, sym, ◌∙◌, subst, Some, None, inl, inr, arith}
+use Rattle.cif_laws.proofs.Common.{cases_lt, searchable_from_sorted, AllPairs, is_lt, IsNonDecreasingBy, IsPartitionPoint, Ordering, Less, Equal, Greater}
+use Rattle.cif_laws.proofs.Common.{ordering_index, ordering_reverse, tied_itself, key_cmp, IsBelow}
+use Rattle.cif_laws.proofs.lists.Later.{pairs_from_later}
+use Rattle.cif_laws.proofs.orders.Ascending.{later_of}
 use Rattle.docker_model.specs.file.Change as model
-use Rattle.docker_model.specs.state.Op.{key_cmp}
-use Rattle.docker_model.specs.state.Order.{IsBelow}
 use Rattle.cif_laws.proofs.orders.Orders.{key_total, exact_key}
 use Rattle.cif_change.specs.declared.key.Key.{Key}
 use Rattle.cif_change.specs.Meaning.{key_meant}
@@ -23,45 +16,34 @@ abbrev pub by_key : {E : Type 0} → model.Key → Key × E → Ordering
 by_key key row = key_cmp (key_meant row.0) key
 
 module _ {E : Type 0} where
-  above_at : (low : Key × E) (rows : List (Key × E)) (j : ℕ) (d : Key × E) → AllByRecursion (IsBelow row_cmp low) rows → j < length rows
-      → row_cmp low (get_or rows j d) ≡ Less
-  above_at = grind (common_steps, arith)
-
   -- in ascending rows, each row is below any later row
-  below_at : (rows : List (Key × E)) (i j : ℕ) (d : Key × E) → AreAscending rows → i < j → j < length rows → row_cmp (get_or rows i d) (get_or rows j d) ≡ Less
-  below_at [] i j d up before within = absurd (let none : j < length {A = ℕ} [] = within in omega arith)
-  below_at (row ∷ rows) i zero d up before within = absurd (omega arith)
-  below_at (row ∷ rows) zero (suc j) d up before within = above_at row rows j d up.0 (omega arith)
-  below_at (row ∷ rows) (suc i) (suc j) d up before within = below_at rows i j d up.1 (omega arith) (omega arith)
+  pub below_at : (rows : List (Key × E)) → AreAscending rows → AllPairs (IsBelow row_cmp) rows
+  below_at rows up = pairs_from_later (IsBelow row_cmp) rows (later_of row_cmp rows up)
 
-  -- the comparison with a key is monotone. If a row is below a second row, comparing the first row
-  -- with the key doesn't give a greater result than comparing the second row with the key
-  rises : (key : model.Key) (x y : Key × E) → row_cmp x y ≡ Less → ordering_index (by_key key x) ≤ ordering_index (by_key key y)
-  rises key x y below = by (by_key key x) refl (by_key key y) refl
-    where
-      by : (o : Ordering) → by_key key x ≡ o → (p : Ordering) → by_key key y ≡ p → ordering_index o ≤ ordering_index p
-      by Less at_x p at_y = omega arith
-      by Equal at_x Less at_y =
-          absurd (let same = key_total.congr (key_meant x.0) key (key_meant y.0) at_x in let back = key_total.antisymm (key_meant y.0) key in
-          let r = ap ordering_reverse (sym same ∙ below) in cc)
-      by Equal at_x Equal at_y = omega arith
-      by Equal at_x Greater at_y = omega arith
-      by Greater at_x Less at_y = absurd (let far = key_total.trans (key_meant x.0) (key_meant y.0) key below at_y in cc)
-      by Greater at_x Equal at_y =
-          absurd (let far = key_total.antisymm (key_meant x.0) key in let same = key_total.congr (key_meant y.0) key (key_meant x.0) at_y in
-          let turned = key_total.antisymm (key_meant y.0) (key_meant x.0) in let r = ap ordering_reverse below in cc)
-      by Greater at_x Greater at_y = omega arith
+  -- the comparison of rows is antisymmetric: no row is below a row that is below it
+  pub not_back : (x y : Key × E) → row_cmp x y ≡ Less → is_lt (row_cmp y x) ≡ false
+  not_back x y below = ap is_lt (key_total.antisymm (key_meant y.0) (key_meant x.0) ∙ ap ordering_reverse below)
 
   -- in ascending rows, the comparison with a key is monotone from one row to the next
   pub rows_rise : (rows : List (Key × E)) (key : model.Key) → AreAscending rows → IsNonDecreasingBy (λ row. ordering_index (by_key key row)) rows
-  rows_rise rows key up = λ i j d before within. by i j d before within (cases_lt i j)
+  rows_rise rows key up = searchable_from_sorted key_total (λ (row : Key × E). key_meant row.0) rows key (λ k d low within.
+      not_back (get_or rows k d) (get_or rows (k + 1) d) (below_at rows up k (k + 1) d (omega arith) within))
+
+  -- suppose that a key is above the row just before an index, and below the row at the index. Then it is above all rows before the index, and below all other
+  -- rows
+  pub parts_at : (rows : List (Key × E)) (key : model.Key) (at : ℕ) → AreAscending rows → at ≤ length rows
+      → ((d : Key × E) → 0 < at → by_key key (get_or rows (at - 1) d) ≡ Less) → ((d : Key × E) → at < length rows → by_key key (get_or rows at d) ≡ Greater)
+      → IsPartitionPoint (λ row. by_key key row ≡ Less) (λ row. by_key key row ≡ Greater) rows at
+  parts_at rows key at up within before after = (
+    λ i d low high. least _ _ (rows_rise rows key up i (at - 1) d (omega arith) (omega arith)) (before d (omega arith)),
+    λ i d low high. most _ _ (rows_rise rows key up at i d low high) (after d (omega arith)),
+  )
     where
-      by : (i j : ℕ) (d : Key × E) → i ≤ j → j < length rows → (i < j) ⊎ (j ≤ i)
-          → ordering_index (by_key key (get_or rows i d)) ≤ ordering_index (by_key key (get_or rows j d))
-      by i j d before within (inl strictly) = rises key (get_or rows i d) (get_or rows j d) (below_at rows i j d up strictly within)
-      by i j d before within (inr after) =
-          let same : i ≡ j = omega arith in
-          subst (λ k. ordering_index (by_key key (get_or rows i d)) ≤ ordering_index (by_key key (get_or rows k d))) same (omega arith)
+      least : (o p : Ordering) → ordering_index o ≤ ordering_index p → p ≡ Less → o ≡ Less
+      least = search rules
+
+      most : (o p : Ordering) → ordering_index o ≤ ordering_index p → o ≡ Greater → p ≡ Greater
+      most = search rules
 
   -- if the search finds a row with the key, the value in this row is the value at the key
   pub row_found : (rows : List (Key × E)) (key : model.Key) (at : ℕ) (row : Key × E) → AreAscending rows → at < length rows → row ≡ get_or rows at row
@@ -73,14 +55,14 @@ module _ {E : Type 0} where
   -- if each row is either below or above the key, the rows don't have the key
   pub row_missing : (rows : List (Key × E)) (key : model.Key) (at : ℕ) → AreAscending rows
       → IsPartitionPoint (λ row. by_key key row ≡ Less) (λ row. by_key key row ≡ Greater) rows at → None ≡ value_at rows key
-  row_missing rows key at up parts = by (value_at rows key) refl
-    where
-      nowhere : (row : Key × E) (i : ℕ) → i < length rows → get_or rows i row ≡ row → by_key key row ≡ Equal → (i < at) ⊎ (at ≤ i) → ⊥
-      nowhere row i within is tied (inl before) = let below = parts.0 i row (omega arith) before in let same = ap (by_key key) is in cc
-      nowhere row i within is tied (inr after) = let above = parts.1 i row after within in let same = ap (by_key key) is in cc
-
-      by : (o : Option E) → value_at rows key ≡ o → None ≡ o
-      by None is = refl
-      by (Some value) is =
-          let row = row_of rows key value is in
-          absurd (nowhere row.0 row.1.0 row.1.1 row.1.2 (ap (λ k. key_cmp k key) row.2 ∙ tied_itself key_total key) (cases_lt row.1.0 at))
+  row_missing rows key at up parts = (elim (value_at rows key) as (λ o. value_at rows key ≡ o → None ≡ o) [
+    | None ↦ λ is. refl
+    | Some value ↦ λ is.
+        let row = row_of rows key value is in
+        let tied = ap (λ k. key_cmp k key) row.2 ∙ tied_itself key_total key in
+        let same = ap (by_key key) row.1.2 in
+        absurd (elim (cases_lt row.1.0 at) [
+          | inl before ↦ let below = parts.0 row.1.0 row.0 (omega arith) before in cc
+          | inr after ↦ let above = parts.1 row.1.0 row.0 after row.1.1 in cc
+        ])
+  ]) refl

@@ -1,8 +1,5 @@
 -- Lists whose elements ascend by the values of a function.
-use Rattle.std.proofs.Common.{List, [], ◌∷◌, map}
-use Rattle.std.specs.List.{AllByRecursion}
-use Rattle.std.specs.declared.cmp.Ordering.{Ordering}
-use Rattle.docker_model.specs.state.Order.{IsBelow, IsStrictlyAscending}
+use Rattle.cif_laws.proofs.Common.{List, [], ◌∷◌, map, AllByRecursion, Ordering, IsBelow, IsStrictlyAscending}
 use Rattle.cif_laws.proofs.lists.AllOf.{all_map}
 
 -- if the elements of a list ascend by the values of `f`, the list of these values ascends

@@ -1,79 +1,47 @@
--- Joining two tables by placing rows, from the greatest key to the smallest, has the same result as
--- `walk` in `MergedRows`.
-use Rattle.std.proofs.Common.{◌≡◌, ℕ, zero, suc, ◌+◌, ◌-◌, ◌<◌, ◌≤◌, List, [], ◌∷◌, ◌++◌, length, get_or, take, drop, refl, ap, sym, rules}
-use Rattle.std.proofs.lemmas.Grind.{common_steps}
-use Rattle.std.proofs.Common.{◌∙◌, subst, append_assoc, length-append, length-drop, arith, true, false, Some, MatchOption}
-use Rattle.std.specs.Prelude.{Option}
-use Rattle.std.proofs.lemmas.List.{append-nil, get_or-append_right, get_or-drop, get_or-take, length-take-le, take-append-drop, take_all, take_more}
-use Rattle.std.proofs.Math.Seq.{drop-append_seam, take-append_seam}
-use Rattle.std.specs.List.{AllByRecursion}
-use Rattle.std.specs.declared.cmp.Ordering.{Ordering}
-use Rattle.std.specs.declared.cmp.Ordering.TheVariants.{Less, Equal, Greater}
-use Rattle.std.specs.Ordering.{is_eq, is_gt, ordering_reverse}
-use Rattle.docker_model.specs.state.Op.{key_cmp}
-use Rattle.docker_model.specs.state.Order.{IsBelow}
+-- Joining two tables by placing rows, from the greatest key to the smallest: after each step the placed rows are right.
+use Rattle.cif_laws.proofs.Common.{◌≡◌, ℕ, ◌+◌, ◌-◌, ◌<◌, ◌≤◌, List, [], ◌∷◌, ◌++◌, length, get_or, take, drop, refl, ap, sym, rules, common_steps, ◌∙◌, subst}
+use Rattle.cif_laws.proofs.Common.{append_assoc, length-append, length-drop, arith, true, false, cond, Some, None, MatchOption, Bool, Option, not, append-nil}
+use Rattle.cif_laws.proofs.Common.{get_or-drop, get_or-take, length-take-le, take-append-drop, take_more, take-append_seam, AllByRecursion, recursion_from_All}
+use Rattle.cif_laws.proofs.Common.{Ordering, Less, Equal, Greater, is_eq, is_lt, ordering_reverse, IsTotalOrder, tied_itself, key_cmp, IsBelow}
+use Rattle.std.proofs.lemmas.List.{get_or-append_right}
+use Rattle.std.proofs.lemmas.List.{drop-drop, same_from_push}
+use Rattle.std.proofs.lemmas.List.Folds.{find-append}
+use Rattle.std.proofs.Math.Seq.{drop-append_seam, take-add}
+use Rattle.std.specs.Ordering.{is_gt}
+use Rattle.std.specs.Cmp.{alike_right}
+use Rattle.docker_model.specs.file.Change as model
 use Rattle.cif_laws.proofs.orders.Orders.{key_total, exact_key}
-use Rattle.cif_laws.proofs.lists.AllOf.{all_front, all_behind}
+use Rattle.cif_laws.proofs.orders.Ascending.{later_of, ascending_of, below_next}
+use Rattle.cif_laws.proofs.lists.AllOf.{all_append, all_front, all_weaker}
+use Rattle.cif_laws.proofs.lists.Later.{later_append}
+use Rattle.cif_laws.proofs.lists.Membership.{below_by_recursion, each_member}
+use Rattle.state_laws.proofs.joins.KeyedRows as keyed
 use Rattle.cif_change.specs.declared.key.Key.{Key}
 use Rattle.cif_change.specs.Meaning.{key_meant}
-use Rattle.docker_join.specs.Rows.{row_cmp, AreAscending, IsJoinOfRows}
-use Rattle.docker_join.specs.RowLaws.{same_rows}
+use Rattle.docker_join.specs.Rows.{row_cmp, AreAscending, IsJoinOfRows, value_at, picked_value}
+use Rattle.docker_join.specs.RowLaws.{value_of, row_of}
 use Rattle.docker_join.specs.Placing.{left_rows, is_level_at, IsRunAbove, IsJoinWith, IsPlaced}
-use Rattle.docker_join.proofs.MergedRows.{row_out, walk_from, walk, walk_joins, Above, above_lower}
-
--- Says that each row of the first list is below each row of the second list.
-abbrev AllBelow : {E : Type 0} → List (Key × E) → List (Key × E) → Type 0
-AllBelow lows highs = AllByRecursion (λ low. Above low highs) lows
-
--- the final join, if the rows `rest` of the second table aren't placed yet: the walk over the remaining rows of both tables, followed by the placed rows
-abbrev joined_with : {E : Type 0} → (E → E → E) → ℕ → List (Key × E) → List (Key × E) → List (Key × E)
-joined_with picked left rows rest = walk picked (left_rows left rows) rest ++ take (length rows - left) rows
-
--- Says that a row was placed, as `IsPlaced` does, but in terms of the walk instead of the join.
-record WalksOn {E : Type 0} (picked : E → E → E) (old : List (Key × E)) (left : ℕ) (row : Key × E) (new : List (Key × E)) (later : ℕ) : Type 0 where
-  ascends : AreAscending (left_rows left old) → AreAscending (left_rows later new)
-  joined : AreAscending (left_rows left old) → (rest : List (Key × E)) → AreAscending (rest ++ row ∷ [])
-      → joined_with picked later new rest ≡ joined_with picked left old (rest ++ row ∷ [])
-
--- the comparison of rows is antisymmetric: if b is less than a, then a is greater than b
-above_turned : {E : Type 0} (a b : Key × E) → row_cmp b a ≡ Less → row_cmp a b ≡ Greater
-above_turned a b below = key_total.antisymm (key_meant a.0) (key_meant b.0) ∙ ap ordering_reverse below
-
-module _ {E : Type 0} (picked : E → E → E) where
-  -- the walk over a table and an empty table returns the table
-  pub walk_none : (xs : List (Key × E)) → walk picked xs [] ≡ xs
-  walk_none [] = refl
-  walk_none (x ∷ xs) = ap (λ rest. x ∷ rest) (walk_none xs)
-
-  out_first : (o : Ordering) (a b : Key × E) (less equal greater behind : List (Key × E))
-      → row_out picked o a b (less ++ behind) (equal ++ behind) (greater ++ behind) ≡ row_out picked o a b less equal greater ++ behind
-  out_first = search rules
-
-  -- if the first rows of the second table are below all rows of the first table, the walk over both tables returns these rows first
-  lower_first : (x b y : List (Key × E)) → AllBelow b x → walk picked x (b ++ y) ≡ b ++ walk picked x y
-  lower_first x [] y below = refl
-  lower_first [] (b ∷ others) y below = refl
-  lower_first (x ∷ xs) (b ∷ others) y below = grind (arith, row_out, above_turned, walk, walk_from, (lower_first (x ∷ xs) others y below.1))
-
-  -- Suppose that both tables consist of two parts, and that each first part is below the other
-  -- table's second part. Then the walk over the tables is the walk over the first parts, followed
-  -- by the walk over the second parts.
-  from_split : (a : Key × E) (rows x : List (Key × E))
-      → ((b y : List (Key × E)) → AllBelow rows y → AllBelow b x → walk picked (rows ++ x) (b ++ y) ≡ walk picked rows b ++ walk picked x y)
-      → (b y : List (Key × E)) → Above a y → AllBelow rows y → AllBelow b x
-      → walk_from picked a (walk picked (rows ++ x)) (b ++ y) ≡ walk_from picked a (walk picked rows) b ++ walk picked x y
-  from_split a rows x behind [] [] above below below_x = ap (λ rest. a ∷ rest) (behind [] [] below tt)
-  from_split a rows x behind [] (y ∷ ys) above below below_x = search (rules, row_out, walk, walk_from)
-  from_split a rows x behind (b ∷ others) y above below below_x =
-      (λ i. row_out picked (row_cmp a b) a b (behind (b ∷ others) y below below_x i) (behind others y below below_x.1 i)
-      (from_split a rows x behind others y above below below_x.1 i))
-      ∙ out_first (row_cmp a b) a b (walk picked rows (b ∷ others)) (walk picked rows others) (walk_from picked a (walk picked rows) others) (walk picked x y)
-
-  pub walk_split : (a x b y : List (Key × E)) → AllBelow a y → AllBelow b x → walk picked (a ++ x) (b ++ y) ≡ walk picked a b ++ walk picked x y
-  walk_split [] x b y below below_x = lower_first x _ y below_x
-  walk_split (a ∷ rows) x b y below below_x = from_split _ rows _ (λ others ys low high. walk_split rows _ others _ low high) b _ below.0 below.1 below_x
+use Rattle.docker_join.proofs.Lookup.{by_key, not_back, parts_at}
 
 module _ {E : Type 0} where
+  -- Says that the key of each row passes the test.
+  abbrev Each : (model.Key → Bool) → List (Key × E) → Type 0
+  Each test rows = AllByRecursion (λ row. test (key_meant row.0) ≡ true) rows
+
+  -- if the key of each row passes a test, the rows have no value at a key that fails it
+  lacks : (test : model.Key → Bool) (rows : List (Key × E)) (key : model.Key) → Each test rows → test key ≡ false → value_at rows key ≡ None
+  lacks test rows key each fails = (elim (value_at rows key) as (λ o. value_at rows key ≡ o → o ≡ None) [
+    | None ↦ λ is. refl
+    | Some value ↦ λ is. let row = row_of rows key value is in absurd
+        (let passes = below_by_recursion _ rows row.0 each row.1 in let same = ap test row.2 in cc)
+  ]) refl
+
+  -- suppose that the keys of the first part pass a test, and that the keys of the second part fail it. Then the test of a key shows in which part its value is
+  value_split : (test : model.Key → Bool) (xs ys : List (Key × E)) (key : model.Key) (t : Bool) → test key ≡ t → Each test xs
+      → Each (λ other. not (test other)) ys → value_at (xs ++ ys) key ≡ cond t (value_at xs key) (value_at ys key)
+  value_split test xs ys key true is front back = let none = lacks (λ other. not (test other)) ys key back (ap not is) in search (rules, find-append)
+  value_split test xs ys key false is front back = let none = lacks test xs key front is in search (rules, find-append)
+
   -- if a list of rows ascends, so does its first part
   pub front_ascends : (xs ys : List (Key × E)) → AreAscending (xs ++ ys) → AreAscending xs
   front_ascends [] ys up = tt
@@ -84,141 +52,112 @@ module _ {E : Type 0} where
   behind_ascends [] ys up = up
   behind_ascends (x ∷ xs) ys up = behind_ascends xs ys up.1
 
-  -- if a list of rows ascends, each row of its first part is below each row of its second part
-  first_below : (xs ys : List (Key × E)) → AreAscending (xs ++ ys) → AllBelow xs ys
-  first_below [] ys up = tt
-  first_below (x ∷ xs) ys up = (all_behind (IsBelow row_cmp x) xs ys up.0, first_below xs ys up.1)
-
-  -- suppose that all rows of one list are below a row, and all rows of a second list are above it.
-  -- Then each row of the first list is below each row of the second list
-  below_higher : (lows highs : List (Key × E)) (row : Key × E) → AllBelow lows (row ∷ []) → Above row highs → AllBelow lows highs
-  below_higher [] highs row below above = tt
-  below_higher (low ∷ lows) highs row below above = (above_lower low row highs below.0.0 above, below_higher lows highs row below.1 above)
-
-  -- if the first row of an ascending list is above a given row, all rows of the list are above it
-  above_row : (rows : List (Key × E)) (row d : Key × E) → AreAscending rows → (0 < length rows → row_cmp (get_or rows 0 d) row ≡ Greater) → Above row rows
-  above_row = grind (common_steps, arith, key_total, above_lower)
-
-  -- if the last row of an ascending list is below a given row, all rows of the list are below it
-  below_row : (rows : List (Key × E)) (last : ℕ) (row d : Key × E) → AreAscending rows
-      → (0 < length rows → (last + 1 ≡ length rows) × (row_cmp (get_or rows last d) row ≡ Less)) → AllBelow rows (row ∷ [])
-  below_row [] last row d up under = tt
-  below_row (x ∷ []) zero row d up under = (((under (omega arith)).1, tt), tt)
-  below_row (x ∷ []) (suc last) row d up under = absurd (let size = (under (omega arith)).0 in omega arith)
-  below_row (x ∷ y ∷ rows) zero row d up under = absurd (let size = (under (omega arith)).0 in omega arith)
-  below_row (x ∷ y ∷ rows) (suc last) row d up under =
-      let known = under (omega arith) in
-      let size = known.0 in
-      let rest = below_row (y ∷ rows) last row d up.1 (λ _. (omega arith, known.1)) in
-      ((key_total.trans (key_meant x.0) (key_meant y.0) (key_meant row.0) up.0.0 rest.0.0, tt), rest)
-
-  -- if the concatenation of two lists is cut so that the second part is as long as the second list, the two parts are the two lists
-  parts : (front back : List (Key × E)) (m : ℕ) → m ≡ length back
-      → (drop (length (front ++ back) - m) (front ++ back) ≡ back) × (take (length (front ++ back) - m) (front ++ back) ≡ front)
+  -- if the ring buffer's rows are `front` followed by `back`, and as many rows remain to be placed as `back` has, then `back` remains to be placed
+  parts : (rows front back : List (Key × E)) (m : ℕ) → rows ≡ front ++ back → m ≡ length back
+      → (left_rows m rows ≡ back) × (take (length rows - m) rows ≡ front)
   parts = grind (common_steps, arith, length-append, drop-append_seam, take-append_seam)
 
 module _ {E : Type 0} (picked : E → E → E) where
-  -- if a row is below all rows of a table, the walk over the table and this row returns the row, followed by the table
-  walk_row : (rows : List (Key × E)) (row : Key × E) → Above row rows → walk picked rows (row ∷ []) ≡ row ∷ rows
-  walk_row rows row above = lower_first picked rows (row ∷ []) [] (above, tt) ∙ ap (λ rest. row ∷ rest) (walk_none picked rows)
+  -- if the keys of two tables pass a test, so do the keys of their join
+  join_each : (test : model.Key → Bool) (a c joined : List (Key × E)) → Each test a → Each test c → IsJoinOfRows picked a c joined → Each test joined
+  join_each test a c joined each_a each_c is = each_member _ joined (λ row among. (elim (test (key_meant row.0)) as (λ t. test (key_meant row.0) ≡ t
+      → t ≡ true) [
+        | true ↦ λ passes. refl
+        | false ↦ λ fails.
+            let none_a = lacks test a (key_meant row.0) each_a fails in
+            let none_c = lacks test c (key_meant row.0) each_c fails in
+            absurd (let some = value_of joined row is.ascends among in let joins = is.values (key_meant row.0) in cc)
+      ]) refl)
 
-  -- suppose that the first table doesn't have the key of the second table's last row. Then the walk returns this row just before the rows of the first table
-  -- that have greater keys
-  none_out : (a r rest : List (Key × E)) (row : Key × E) → AllBelow a (row ∷ []) → Above row r → AllBelow rest (row ∷ [])
-      → walk picked (a ++ r) (rest ++ row ∷ []) ≡ walk picked a rest ++ (row ∷ r)
-  none_out = search (rules, walk_split, below_higher, walk, walk_row)
-
-  -- if the first table has the key of the second table's last row, the walk returns the join of the two rows just before the rows that are above them
-  level_out : (b r rest : List (Key × E)) (own row : Key × E) → row_cmp own row ≡ Equal → AllBelow b (own ∷ []) → Above own r → AllBelow rest (row ∷ [])
-      → walk picked (b ++ (own ∷ r)) (rest ++ row ∷ []) ≡ walk picked b rest ++ ((own.0, picked own.1 row.1) ∷ r)
-  level_out b r rest own row level below above rest_below =
-      walk_split picked b (own ∷ r) rest (row ∷ []) (row_below b below) (rest_under rest rest_below)
-      ∙ ap (λ out. walk picked b rest ++ out) (
-      (λ i. row_out picked (level i) own row (walk picked r (row ∷ [])) (walk picked r []) (walk_from picked own (walk picked r) []))
-      ∙ ap (λ out. (own.0, picked own.1 row.1) ∷ out) (walk_none picked r)
-      )
+  -- suppose that the keys of the first parts of two tables are below the keys of their second parts. Then the join of the tables is the join of the first
+  -- parts, followed by the join of the second parts
+  joins_append : (test : model.Key → Bool) → ((x y : model.Key) → test x ≡ true → not (test y) ≡ true → key_cmp x y ≡ Less)
+      → (a b c d lower upper : List (Key × E)) → Each test a → Each (λ key. not (test key)) b → Each test c → Each (λ key. not (test key)) d
+      → IsJoinOfRows picked a c lower → IsJoinOfRows picked b d upper → IsJoinOfRows picked (a ++ b) (c ++ d) (lower ++ upper)
+  joins_append test across a b c d lower upper each_a each_b each_c each_d is_lower is_upper = record {
+    ascends = ascending_of row_cmp (lower ++ upper) (later_append (IsBelow row_cmp) lower upper (later_of row_cmp lower is_lower.ascends)
+        (later_of row_cmp upper is_upper.ascends) (λ x y in_x in_y.
+        across (key_meant x.0) (key_meant y.0) (below_by_recursion _ lower x each_lower in_x) (below_by_recursion _ upper y each_upper in_y)));
+    values = λ key. by key (test key) refl;
+  }
     where
-      back : row_cmp row own ≡ Equal
-      back = key_total.antisymm (key_meant row.0) (key_meant own.0) ∙ ap ordering_reverse level
+      each_lower : Each test lower
+      each_lower = join_each test a c lower each_a each_c is_lower
 
-      row_below : (xs : List (Key × E)) → AllBelow xs (own ∷ []) → AllBelow xs (row ∷ [])
-      row_below [] low = tt
-      row_below (x ∷ xs) low =
-          ((subst (λ k. key_cmp (key_meant x.0) k ≡ Less) (exact_key (key_meant own.0) (key_meant row.0) level) low.0.0, tt), row_below xs low.1)
+      each_upper : Each (λ key. not (test key)) upper
+      each_upper = join_each (λ key. not (test key)) b d upper each_b each_d is_upper
 
-      rest_under : (xs : List (Key × E)) → AllBelow xs (row ∷ []) → AllBelow xs (own ∷ r)
-      rest_under [] low = tt
-      rest_under (x ∷ xs) low =
-          let under : row_cmp x own ≡ Less =
-          subst (λ k. key_cmp (key_meant x.0) k ≡ Less) (sym (exact_key (key_meant own.0) (key_meant row.0) level)) low.0.0 in
-          ((under, above_lower x own r under above), rest_under xs low.1)
+      by : (key : model.Key) (t : Bool) → test key ≡ t → value_at (lower ++ upper) key ≡ picked_value picked (value_at (a ++ b) key) (value_at (c ++ d) key)
+      by key true is = search (
+        rules,
+        (value_split test lower upper key true is each_lower each_upper),
+        (value_split test a b key true is each_a each_b),
+        (value_split test c d key true is each_c each_d),
+        is_lower.values,
+      )
+      by key false is = search (
+        rules,
+        (value_split test lower upper key false is each_lower each_upper),
+        (value_split test a b key false is each_a each_b),
+        (value_split test c d key false is each_c each_d),
+        is_upper.values,
+      )
 
-  -- if the ring buffer's rows are `front` followed by `back`, and as many rows remain to be placed as `back` has, then `back` remains to be placed
-  left_is : (rows front back : List (Key × E)) (m : ℕ) → rows ≡ front ++ back → m ≡ length back → left_rows m rows ≡ back
-  left_is rows front back m is size = ap (λ xs. drop (length xs - m) xs) is ∙ (parts front back m size).0
+-- whether a key is below the key of a row
+abbrev is_under : {E : Type 0} → Key × E → model.Key → Bool
+is_under row key = is_lt (key_cmp key (key_meant row.0))
 
-  joined_is : (rows front back rest : List (Key × E)) (m : ℕ) → rows ≡ front ++ back → m ≡ length back
-      → joined_with picked m rows rest ≡ walk picked back rest ++ front
-  joined_is = search (rules, walk, parts)
+-- a value that is below another is below any value that isn't below this one
+under_first : {K : Type 0} {cmp : K → K → Ordering} (total : IsTotalOrder cmp) (x y k : K) → is_lt (cmp x k) ≡ true → not (is_lt (cmp y k)) ≡ true
+    → cmp x y ≡ Less
+under_first {K} {cmp} total x y k = grind (common_steps, arith, total.trans, total.antisymm, alike_right total)
 
-  -- if `WalksOn` holds, so does `IsPlaced`, since the join of two tables is unique
-  placed_of : (old : List (Key × E)) (left : ℕ) (row : Key × E) (new : List (Key × E)) (later : ℕ) → WalksOn picked old left row new later
-      → IsPlaced picked old left row new later
-  placed_of old left row new later on = record {
-    ascends = on.ascends;
+module _ {E : Type 0} (picked : E → E → E) where
+  -- the join of a table and an empty table is the table
+  joins_none : (a : List (Key × E)) → AreAscending a → IsJoinOfRows picked a [] a
+  joins_none a up = record { ascends = up; values = search rules }
+
+  -- suppose that all rows of a table are above a row. Then this row, followed by the table, is the join of the table with this row
+  joins_row : (r : List (Key × E)) (row : Key × E) → AreAscending r → AllByRecursion (IsBelow row_cmp row) r → IsJoinOfRows picked r (row ∷ []) (row ∷ r)
+  joins_row r row up above = record {
+    ascends = (above, up);
+    values = λ key. by key (λ tied. subst (λ k. value_at r k ≡ None) (exact_key (key_meant row.0) key tied) (keyed.value_above key_meant
+        (key_meant row.0) r above));
+  }
+    where
+      by : (key : model.Key) → (key_cmp (key_meant row.0) key ≡ Equal → value_at r key ≡ None)
+          → value_at (row ∷ r) key ≡ picked_value picked (value_at r key) (value_at (row ∷ []) key)
+      by = search (rules, keyed.value_here, keyed.value_behind)
+
+  -- the join of two rows with the same key, followed by the rows above them, is the join of the table and the second row
+  joins_level : (r : List (Key × E)) (own row : Key × E) → row_cmp own row ≡ Equal → AreAscending (own ∷ r)
+      → IsJoinOfRows picked (own ∷ r) (row ∷ []) ((own.0, picked own.1 row.1) ∷ r)
+  joins_level r own row level up = record { ascends = up; values = search (rules, key_total, keyed.value_here, keyed.value_behind, keyed.value_above) }
+
+  -- Suppose that the rows `a` remain after a row was placed before the rows `r`, and that the row is above the rows `a` and below the rows `r`. Suppose also
+  -- that the join of the first table's other rows with this row is the placed row, followed by `r`. Then the placed rows are still right
+  placed : (old new p a mid r : List (Key × E)) (left m : ℕ) (row top : Key × E) → left_rows left old ≡ a ++ (mid ++ r) → take (length old - left) old ≡ p
+      → m ≡ length a → new ≡ top ∷ (r ++ (p ++ a)) → Each (λ key. not (is_under row key)) mid
+      → (AreAscending (a ++ (mid ++ r)) → AllByRecursion (λ x. IsBelow row_cmp x row) a × AllByRecursion (IsBelow row_cmp row) r
+      × IsJoinOfRows picked (mid ++ r) (row ∷ []) (top ∷ r)) → IsPlaced picked old left row new m
+  placed old new p a mid r left m row top own_is p_is size new_is level step = record {
+    ascends = λ up. subst AreAscending (sym now.0) (front_ascends a (mid ++ r) (subst AreAscending own_is up));
     joined = λ up first second rest up_rest before. record {
-      joins = λ lower is.
-          let walked = walk_joins _ _ _ (on.ascends up) (front_ascends _ _ up_rest) in
-          let same : lower ≡ walk picked (left_rows later new) rest =
-          same_rows _ _ is.ascends walked.ascends (λ key. is.values key ∙ sym (walked.values key)) in
-          subst (IsJoinOfRows picked first second) (sym (on.joined up rest up_rest) ∙ ap (λ xs. xs ++ take (length new - later) new) (sym same))
-          (before.joins (walk picked (left_rows left old) (rest ++ row ∷ [])) (walk_joins _ _ _ up up_rest));
+      joins = λ lower is_lower.
+          let ready = step (subst AreAscending own_is up) in
+          let whole = joins_append picked (is_under row) (λ x y. under_first key_total x y (key_meant row.0)) a (mid ++ r) rest (row ∷ []) lower (top ∷ r)
+          (all_weaker _ _ (λ x below. ap is_lt below) a ready.0)
+          (all_append _ mid r level (all_weaker _ _ (λ x below. ap not (not_back row x below)) r ready.1))
+          (all_weaker _ _ (λ x below. ap is_lt below) rest (below_next row_cmp rest row [] up_rest))
+          (ap (λ o. not (is_lt o)) (tied_itself key_total (key_meant row.0)), tt) (subst (λ xs. IsJoinOfRows picked xs rest lower) now.0 is_lower) ready.2 in
+          subst (IsJoinOfRows picked first second)
+          (append_assoc lower (top ∷ r) (take (length old - left) old) ∙ ap (λ xs. lower ++ (top ∷ (r ++ xs))) p_is ∙ ap (λ xs. lower ++ xs) (sym now.1))
+          (before.joins (lower ++ top ∷ r) (subst (λ xs. IsJoinOfRows picked xs (rest ++ row ∷ []) (lower ++ (top ∷ r))) (sym own_is) whole));
     };
   }
-
-  -- if the first table doesn't have a row's key, placing the row leaves the final join of the
-  -- tables unchanged
-  none_placed : (p a r : List (Key × E)) (row : Key × E) (old new : List (Key × E)) (left later : ℕ)
-      → old ≡ p ++ (a ++ r) → left ≡ length (a ++ r) → new ≡ row ∷ (r ++ (p ++ a)) → later ≡ length a
-      → (AreAscending (a ++ r) → AllBelow a (row ∷ []) × Above row r) → WalksOn picked old left row new later
-  none_placed p a r row old new left later old_is left_size new_is later_size apart =
-      let new_parts : new ≡ row ∷ (r ++ p) ++ a = new_is ∙ ap (λ xs. row ∷ xs) (sym (append_assoc r p a)) in
-      let was = left_is old p (a ++ r) left old_is left_size in
-      record {
-        ascends = λ up. subst AreAscending (sym (left_is new (row ∷ (r ++ p)) a later new_parts later_size))
-            (front_ascends a r (subst (λ (xs : List (Key × E)). AreAscending xs) was up));
-        joined = λ up rest up_rest.
-            let sides = apart (subst (λ (xs : List (Key × E)). AreAscending xs) was up) in
-            joined_is new (row ∷ (r ++ p)) a rest later new_parts later_size
-            ∙ sym (append_assoc (walk picked a rest) (row ∷ r) p)
-            ∙ ap (λ xs. xs ++ p) (sym (none_out a r rest row sides.0 sides.1 (first_below rest (row ∷ []) up_rest)))
-            ∙ sym (joined_is old p (a ++ r) (rest ++ row ∷ []) left old_is left_size);
-      }
-
-  -- placing the join of two rows with the same key leaves the final join of the tables unchanged
-  level_placed : (p b r : List (Key × E)) (own row : Key × E) (old new : List (Key × E)) (left later : ℕ)
-      → old ≡ p ++ (b ++ (own ∷ r)) → left ≡ length (b ++ (own ∷ r)) → new ≡ (own.0, picked own.1 row.1) ∷ (r ++ (p ++ b)) → later ≡ length b
-      → row_cmp own row ≡ Equal → WalksOn picked old left row new later
-  level_placed p b r own row old new left later old_is left_size new_is later_size level =
-      let top : Key × E = (own.0, picked own.1 row.1) in
-      let new_parts : new ≡ top ∷ (r ++ p) ++ b = new_is ∙ ap (λ xs. top ∷ xs) (sym (append_assoc r p b)) in
-      let was = left_is old p (b ++ (own ∷ r)) left old_is left_size in
-      record {
-        ascends = λ up. subst AreAscending (sym (left_is new (top ∷ (r ++ p)) b later new_parts later_size))
-            (front_ascends b (own ∷ r) (subst (λ (xs : List (Key × E)). AreAscending xs) was up));
-        joined = λ up rest up_rest.
-            let rises = subst (λ (xs : List (Key × E)). AreAscending xs) was up in
-            joined_is new (top ∷ (r ++ p)) b rest later new_parts later_size
-            ∙ sym (append_assoc (walk picked b rest) (top ∷ r) p)
-            ∙ ap (λ xs. xs ++ p) (sym (level_out b r rest own row level
-            (first_below b (own ∷ []) (front_ascends (b ++ own ∷ []) r (subst AreAscending (sym (append_assoc b (own ∷ []) r)) rises)))
-            (behind_ascends b (own ∷ r) rises).0 (first_below rest (row ∷ []) up_rest)))
-            ∙ sym (joined_is old p (b ++ (own ∷ r)) (rest ++ row ∷ []) left old_is left_size);
-      }
-
--- if appending one element to each of two lists gives equal lists, the two lists are equal, and so are the two elements
-same_last : {A : Type 0} (xs ys : List A) (x y : A) → xs ++ x ∷ [] ≡ ys ++ y ∷ [] → (xs ≡ ys) × (x ≡ y)
-same_last = grind (common_steps, arith, length-append)
+    where
+      now : (left_rows m new ≡ a) × (take (length new - m) new ≡ top ∷ (r ++ p))
+      now = parts new (top ∷ (r ++ p)) a m (new_is ∙ ap (λ xs. top ∷ xs) (sym (append_assoc r p a))) size
 
 above_is : (o : Ordering) → is_gt o ≡ true → o ≡ Greater
 above_is = search rules
@@ -231,90 +170,83 @@ module _ {E : Type 0} (picked : E → E → E) (old : List (Key × E)) (n left r
     (is_run : IsRunAbove (key_meant row.0) old n left run) (turned_rows : List (Key × E)) (turned_is : turned_rows ≡ drop (n - run) old ++ take (n - run) old)
     (later_is : later ≡ left - run) where
   abbrev own : List (Key × E)
-  own = drop (n - left) old
+  own = left_rows left old
 
   abbrev p : List (Key × E)
-  p = take (n - left) old
-
-  abbrev a : List (Key × E)
-  a = take later own
+  p = take (length old - left) old
 
   abbrev r : List (Key × E)
   r = drop later own
 
+  turned_parts : turned_rows ≡ r ++ (p ++ take later own)
+  turned_parts =
+      let run_in = is_run.within in
+      let at : length old - left + later ≡ n - run = omega arith in
+      turned_is ∙ sym (λ i. (drop-drop later (length old - left) old ∙ ap (λ k. drop k old) at) i
+      ++ (sym (take-add (length old - left) later old) ∙ ap (λ k. take k old) at) i)
+
   own_size : length own ≡ left
-  own_size = length-drop (n - left) old ∙ omega arith
-
-  a_size : later ≡ length a
-  a_size = let run_in = is_run.within in let from = own_size in sym (length-take-le later own (omega arith))
-
-  whole_own : a ++ r ≡ own
-  whole_own = take-append-drop later own
-
-  whole : old ≡ p ++ (a ++ r)
-  whole = sym (take-append-drop (n - left) old) ∙ ap (λ xs. p ++ xs) (sym whole_own)
-
-  left_size : left ≡ length (a ++ r)
-  left_size = sym own_size ∙ ap length (sym whole_own)
-
-  run_size : run ≡ length r
-  run_size = let run_in = is_run.within in let cut = length-drop later own in let from = own_size in omega arith
-
-  cut : (drop (n - run) old ≡ r) × (take (n - run) old ≡ p ++ a)
-  cut = grind (common_steps, arith, whole, append_assoc, parts, run_size)
-
-  turned_parts : turned_rows ≡ r ++ (p ++ a)
-  turned_parts = turned_is ∙ (λ i. cut.0 i ++ cut.1 i)
-
-  run_above : AreAscending (a ++ r) → Above row r
-  run_above up = above_row r row row (behind_ascends a r up) (λ some.
-      let first : get_or r 0 row ≡ get_or old (n - run) row = ap (λ xs. get_or xs 0 row) (sym cut.0) ∙ get_or-drop (n - run) old 0 row
-      ∙ ap (λ k. get_or old k row) (let plain : n - run + 0 ≡ n - run = omega arith in plain) in
-      ap (λ x. row_cmp x row) first ∙ above_is (row_cmp (get_or old (n - run) row) row) (is_run.above row (let from = run_size in omega arith)))
-
-  -- after the last `run` rows were moved to the front of the ring buffer, the last row is the row that was just before them
-  last_at : (d : Key × E) → 0 < later → get_or a (later - 1) d ≡ get_or old (n - (run + 1)) d
-  last_at = search (rules, get_or-take, get_or-drop)
-
-  last_turned : (d : Key × E) → 0 < later → get_or turned_rows (n - 1) d ≡ get_or old (n - (run + 1)) d
-  last_turned = grind (common_steps, arith, length-append, run_size, length-take-le, turned_parts, append_assoc, get_or-append_right, last_at)
+  own_size = length-drop (length old - left) old ∙ omega arith
 
   pub one_placed : (new : List (Key × E)) → ((d : Key × E) → 0 < later → is_level_at (key_meant row.0) turned_rows n d ≡ false)
       → new ≡ row ∷ turned_rows → IsPlaced picked old left row new later
-  one_placed new other new_is = placed_of _ old _ row _ later
-      (none_placed picked _ a _ row _ new _ later whole left_size (new_is ∙ ap (λ xs. row ∷ xs) turned_parts) a_size (λ up. (below up, run_above up)))
+  one_placed new other new_is = placed picked old new p (take later own) [] r left later row row (sym (take-append-drop later own)) refl
+      (let run_in = is_run.within in let from = own_size in sym (length-take-le later own (omega arith)))
+      (new_is ∙ ap (λ xs. row ∷ xs) turned_parts) tt (λ up.
+      let run_in = is_run.within in
+      let from = own_size in
+      let gap = parts_at own (key_meant row.0) later (subst AreAscending (take-append-drop later own) up) (omega arith) before after in
+      let above : AllByRecursion (IsBelow row_cmp row) r = recursion_from_All _ r (λ k d within.
+      rw get_or-drop (turned row (get_or own (later + k) d) (gap.1 (later + k) d (omega arith) (let rest = length-drop later own in omega arith)))) in (
+        recursion_from_All _ (take later own) (search (rules, get_or-take, length-take-le)),
+        above,
+        joins_row picked r row (behind_ascends
+            (take later own) r up) above,
+      ))
     where
-      below : AreAscending (a ++ r) → AllBelow a (row ∷ [])
-      below up = below_row a _ row _ (front_ascends a _ up) (λ some.
-          let from = a_size in
-          let one : 0 < later = omega arith in
-          let run_in = is_run.within in (
-            omega arith,
-            below_is (row_cmp (get_or a (later - 1) row) row) (ap (λ x. is_gt (row_cmp x row)) (last_at _ one) ∙ is_run.below row (omega arith))
-                (ap (λ x. is_eq (row_cmp x row)) (last_at row one ∙ sym (last_turned _ one)) ∙ other row one),
-          ))
+      turned : (a b : Key × E) → row_cmp b a ≡ Greater → row_cmp a b ≡ Less
+      turned a b above = key_total.antisymm (key_meant a.0) (key_meant b.0) ∙ ap ordering_reverse above
+
+      before : (d : Key × E) → 0 < later → by_key (key_meant row.0) (get_or own (later - 1) d) ≡ Less
+      before d some =
+          let run_in = is_run.within in
+          let last : get_or turned_rows (n - 1) d ≡ get_or old (n - (run + 1)) d =
+          grind (common_steps, arith, get_or-append_right, get_or-take, length-drop) in
+          let at : get_or own (later - 1) d ≡ get_or old (n - (run + 1)) d = search (rules, get_or-drop) in
+          below_is _ (ap (λ x. is_gt (row_cmp x row)) at ∙ is_run.below d (omega arith)) (ap (λ x. is_eq (row_cmp x row)) (at ∙ sym last) ∙ other d some)
+
+      after : (d : Key × E) → later < length own → by_key (key_meant row.0) (get_or own later d) ≡ Greater
+      after d more =
+          let run_in = is_run.within in
+          let from = own_size in
+          search (rules, above_is, get_or-drop, is_run.above)
 
   pub level_is_placed : (new taken : List (Key × E)) (top : Key × E) → turned_rows ≡ taken ++ top ∷ [] → row_cmp top row ≡ Equal → 0 < later
       → new ≡ (top.0, picked top.1 row.1) ∷ taken → IsPlaced picked old left row new (later - 1)
   level_is_placed new taken top taken_is level some new_is =
-      let from = a_size in
-      let b = take (later - 1) a in
-      let end = get_or a (later - 1) top in
-      let split : a ≡ b ++ end ∷ [] =
-      sym (take_all later a (omega arith)) ∙ ap (λ k. take k a) (let one : later ≡ later - 1 + 1 = omega arith in one)
-      ∙ take_more a (later - 1) top (omega arith) in
-      let shape : turned_rows ≡ (r ++ (p ++ b)) ++ end ∷ [] =
-      turned_parts ∙ ap (λ xs. r ++ (p ++ xs)) split ∙ ap (λ xs. r ++ xs) (sym (append_assoc p b (end ∷ []))) ∙ sym (append_assoc r (p ++ b) (end ∷ [])) in
-      let both = same_last _ _ _ _ (sym taken_is ∙ shape) in
-      let whole_split : a ++ r ≡ b ++ (top ∷ r) = ap (λ xs. xs ++ r) split ∙ append_assoc b (end ∷ []) r ∙ ap (λ x. b ++ (x ∷ r)) (sym both.1) in
-      placed_of _ _ _ _ _ (later - 1) (level_placed _ _ _ _ _ _ _ _ _ (later - 1) (whole ∙ ap (λ xs. p ++ xs) whole_split) (left_size ∙ ap length whole_split)
-      (new_is ∙ ap (λ xs. (top.0, picked top.1 row.1) ∷ xs) both.0) (sym (length-take-le (later - 1) a (omega arith))) level)
+      let run_in = is_run.within in
+      let from = own_size in
+      let a = take (later - 1) own in
+      let split : take later own ≡ a ++ get_or own (later - 1) top ∷ [] =
+      ap (λ k. take k own) (let one : later ≡ later - 1 + 1 = omega arith in one) ∙ take_more own (later - 1) top (omega arith) in
+      let both = same_from_push taken (r ++ (p ++ a)) top (get_or own (later - 1) top) (sym taken_is ∙ turned_parts ∙ ap (λ xs. r ++ (p ++ xs)) split
+      ∙ simp append_assoc) in
+      let same = exact_key (key_meant top.0) (key_meant row.0) level in
+      placed picked old new p a (top ∷ []) r left (later - 1) row (top.0, picked top.1 row.1)
+      (sym (take-append-drop later own) ∙ ap (λ xs. xs ++ r) (split ∙ ap (λ x. a ++ x ∷ []) (sym both.1)) ∙ append_assoc a (top ∷ []) r) refl
+      (sym (length-take-le (later - 1) own (omega arith))) (new_is ∙ ap (λ xs. (top.0, picked top.1 row.1) ∷ xs) both.0)
+      (ap (λ o. not (is_lt o)) level, tt) (λ up.
+      let rises = behind_ascends a (top ∷ r) up in (
+        subst (λ k. AllByRecursion (λ x. key_cmp (key_meant x.0) k ≡ Less) a) same (below_next row_cmp a top r up),
+        subst (λ k. AllByRecursion (λ x. key_cmp k (key_meant x.0) ≡ Less) r) same rises.0,
+        joins_level picked r top row level rises,
+      ))
 
 -- when no row of the second table remains, the remaining rows of the first table, followed by the placed rows, are the join
 pub all_placed : {E : Type 0} (picked : E → E → E) (first second rows rest turned out : List (Key × E)) (n left : ℕ) → n ≡ length rows → rest ≡ []
     → AreAscending (left_rows left rows) → IsJoinWith picked first second left rows rest → out ≡ turned
     → turned ≡ drop (n - left) rows ++ take (n - left) rows → IsJoinOfRows picked first second out
-all_placed = search (rules, walk_none, walk_joins, whole)
+all_placed = search (rules, joins_none)
 
 -- at first all rows of the first table remain, and no row is placed
 pub none_yet : {E : Type 0} (picked : E → E → E) (first second rows : List (Key × E)) (left : ℕ) → rows ≡ first → left ≡ length first

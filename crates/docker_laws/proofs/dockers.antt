@@ -2,6 +2,7 @@ pub mod Events
 pub mod EventWalk
 pub mod FewMidnights
 pub mod StartDays
+pub mod NearStarts
 pub mod KeptSchedules
 pub mod OneChoice
 pub mod OneDockerLine
@@ -14,8 +15,9 @@ pub mod RowSegments
 pub mod ScheduleLines
 pub mod AssociationLines
 pub mod GatheredLines
-pub mod NearStarts
 pub mod IndexedWalk
+pub mod SameDocker
+pub mod NearDocker
 pub mod LapsedChoice
 pub mod LapsedDocker
 pub mod StateChoice
@@ -25,7 +27,6 @@ pub mod ExcerptState
 pub mod ExcerptWalk
 pub mod ExcerptSteps
 pub mod ExcerptTurns
-pub mod NearDocker
 pub mod NearState
 pub mod ThinBody
 pub mod ThinDocker

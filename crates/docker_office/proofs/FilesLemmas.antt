@@ -1,7 +1,6 @@
 -- Writing the lines of ledger items, one after the other.
-use Rattle.std.proofs.Common.{◌≡◌, ℕ, suc, ◌+◌, ◌<◌, ◌≤◌, List, [], ◌∷◌, ◌++◌, length, take, drop, map, get_or, All, rules}
-use Rattle.std.proofs.Common.{ap, sym, ◌∙◌, subst, arith, append_assoc, append-nil, length-append}
-use Rattle.std.specs.Prelude.{Option, Result, OnErr}
+use Rattle.std.proofs.Common.{◌≡◌, ℕ, suc, ◌+◌, ◌<◌, ◌≤◌, List, [], ◌∷◌, ◌++◌, length, take, drop, map, get_or, All, rules, ap, sym, ◌∙◌, arith, append_assoc}
+use Rattle.std.proofs.Common.{append-nil, length-append, Option, Result, OnErr}
 use Rattle.std.proofs.Math.ListN.{get_or-map, drop_of_length-le}
 use Rattle.std.proofs.Math.Seq.{take-suc, take-append-add}
 use Rattle.std.proofs.lemmas.List.{map-append, length-map, take-append-le, take-append-drop}
@@ -39,8 +38,7 @@ pub minute_at : (items : List LedgerItem) (i : ℕ) (item : LedgerItem) → All 
 minute_at items i item all below at =
     let size = length-map items item_meant in
     let same : get_or (map item_meant items) i (item_meant item) ≡ item_meant item = get_or-map item_meant items i item ∙ ap item_meant (sym at) in
-    let good : IsGoodItem (item_meant item) = subst IsGoodItem same (all i (item_meant item) (omega arith)) in
-    good.minute
+    (rw same at (all i (item_meant item) (omega arith))).minute
 
 -- the lemmas of this module assume that the lines of the items before item `i` have been written
 module _ (items : List LedgerItem) (i : ℕ) (item : LedgerItem) (line : List ℕ) (first now next : Option (List ℕ)) (below : i < length items)
@@ -56,7 +54,7 @@ module _ (items : List LedgerItem) (i : ℕ) (item : LedgerItem) (line : List �
   -- after the line of item `i` has been written, the lines up to and including this line have been
   -- written
   pub line_taken : Takes now line next → Takes first (text_of (take (i + 1) items)) next
-  line_taken taken = subst (λ bytes. Takes first bytes next) (sym front_and_line) (taken_then first now next (text_of (take i items)) line so_far taken)
+  line_taken taken = rw front_and_line (taken_then first now next (text_of (take i items)) line so_far taken)
 
   whole : text_of items ≡ text_of (take i items) ++ (line ++ text_of (drop (i + 1) items))
   whole = ap text_of (sym (take-append-drop (i + 1) items)) ∙ text_joined _ _
@@ -73,12 +71,8 @@ module _ (items : List LedgerItem) (i : ℕ) (item : LedgerItem) (line : List �
       let two = length-append line rest in
       let size : length (text_of items) ≡ length (front ++ (line ++ rest)) = ap length whole in
       let within : take n (line ++ rest) ≡ take n line = take-append-le n line rest (omega arith) in
-      let cut : take (length front + n) (text_of items) ≡ front ++ take n line =
-      ap (take (length front + n)) whole ∙ take-append-add front (line ++ rest) n ∙ ap (λ bytes. front ++ bytes) within in (
-        length front + n,
-        omega arith,
-        subst (λ bytes. Takes first bytes next) (sym cut) (taken_then _ _ _ _ _ so_far taken),
-      )
+      let cut : take (length front + n) (text_of items) ≡ front ++ take n line = rw (whole, take-append-add, within) in
+      (length front + n, omega arith, rw cut (taken_then _ _ _ _ _ so_far taken))
 
 -- after the last item, the whole text has been written
 pub all_taken : (items : List LedgerItem) (i : ℕ) (first now : Option (List ℕ)) → length items ≤ i → Takes first (text_of (take i items)) now

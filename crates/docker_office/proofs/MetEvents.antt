@@ -1,7 +1,7 @@
 -- The definitions allow each reply that is made from the result of a call to an office.
-use Rattle.std.proofs.Common.{◌≡◌, ℕ, ◌^◌, ◌<◌, ◌≤◌, List, [], ◌∷◌, ◌++◌, length, set, get_or, refl, sym, ◌∙◌, rules}
+use Rattle.std.proofs.Common.{◌≡◌, ℕ, ◌^◌, ◌<◌, ◌≤◌, List, [], ◌∷◌, ◌++◌, length, set, get_or, refl, sym, ◌∙◌, rules, ap, arith, Option, Some, None, Result, Ok}
+use Rattle.std.proofs.Common.{Err, IsOk, IsErr, IfErr}
 use Rattle.std.proofs.lemmas.Grind.{common_steps}
-use Rattle.std.proofs.Common.{ap, subst, arith, Option, Some, None, Result, Ok, Err, IsOk, IsErr, IfErr}
 use Rattle.std.proofs.lemmas.List.{length-map, set-get_or, map-append}
 use Rattle.cif_device.specs.Device.{Store}
 use Rattle.cif_file.specs.declared.fault.FileFault.{FileFault}
@@ -10,16 +10,14 @@ use Rattle.docker_bytes.specs.declared.fault.StateFault.{StateFault}
 use Rattle.docker_bytes.specs.SourceRead.{IsCauseOf, JoinsState, ReadsState, RefusesState}
 use Rattle.docker_model.specs.records.Date.{last_day}
 use Rattle.docker_model.specs.file.Text.{lines_of}
-use Rattle.docker_model.specs.file.File.{IsFile}
-use Rattle.docker_model.specs.file.FileFault.{IsFileFault, IsFileText}
+use Rattle.docker_model.specs.file.FileFault.{IsFileText}
 use Rattle.docker_model.specs.state.State.{State, raise_horizon}
 use Rattle.docker_model.specs.state.StateFault as states
 use Rattle.docker_model.specs.state.StateFault.{IsStateText}
 use Rattle.docker_model.specs.state.StateText.{dks_2, state_text}
-use Rattle.docker_model.specs.state.Summary.{IsSummary}
 use Rattle.docker_model.specs.run.Run as model
 use Rattle.docker_model.specs.run.Run.{take_file, send_state, deliver, reload, horizon_event, refused, no_office, no_message, KnownSets}
-use Rattle.docker_model.specs.run.Run.{IsOffice, IsMessage, IsOfficeReply, IsMessageReply, IsFileReply, IsDoneOrNoMemory, after_done}
+use Rattle.docker_model.specs.run.Run.{IsOffice, IsMessage, IsOfficeReply, IsMessageReply, IsDoneOrNoMemory}
 use Rattle.docker_model.specs.run.Knowledge.{message_text}
 use Rattle.docker_laws.specs.RunInvariant.{Holds}
 use Rattle.docker_laws.proofs.runs.RunSteps.{sizes, message_reads, after_take, after_send, after_delivery, after_reload, after_horizon}
@@ -27,22 +25,15 @@ use Rattle.state_laws.proofs.texts.OneStateFault.{no_fault_of_state}
 use Rattle.state_text.specs.FaultMeaning.{cause_meant as state_cause_meant}
 use Rattle.docker_office.specs.declared.fault.OfficeFault.{OfficeFault}
 use Rattle.docker_office.specs.declared.fault.OfficeFault.TheVariants as why
-use Rattle.docker_office.specs.Faults.{IsOfFile, IsOfState, IsTextCause}
+use Rattle.docker_office.specs.Faults.{IsOfFile, IsOfState}
 use Rattle.docker_office.specs.Office.{TakesFile, no_state}
 use Rattle.docker_office.specs.declared.reply.Reply.{Reply}
 use Rattle.docker_office.specs.declared.reply.Reply.TheVariants.{Done, Refused}
 use Rattle.docker_office.specs.declared.reply.RunFault.{RunFault}
 use Rattle.docker_office.specs.declared.reply.RunFault.TheVariants.{NoOffice, Office}
 use Rattle.docker_office.specs.declared.steps.Holdings.{Holdings}
-use Rattle.docker_office.specs.RunMeaning.{IsMissing, refusal_of_file, reply_for, texts_of}
+use Rattle.docker_office.specs.RunMeaning.{IsMissing, reply_for, texts_of}
 use Rattle.docker_office.specs.RunSteps.{AreOf, MeetsEvent}
-
--- suppose that a source holds this text. If the reader of the source returns a fault, the text has
--- this fault
-pub refused_text : (limit : ℕ) (left text : List ℕ) (answer : Result Unit OfficeFault) → left ≡ text
-    → ((fault : StateFault) → answer ≡ Err (why.State fault) → RefusesState dks_2 limit (Some left) fault)
-    → (fault : StateFault) → answer ≡ Err (why.State fault) → RefusesState dks_2 limit (Some text) fault
-refused_text limit left text answer same refuses fault is = subst (λ t. RefusesState dks_2 limit (Some t) fault) same (refuses fault is)
 
 module _ (known : KnownSets) (held : Holdings) (holds : AreOf known held) where
   -- ---- offices and messages
@@ -63,7 +54,7 @@ module _ (known : KnownSets) (held : Holdings) (holds : AreOf known held) where
   is_message message sent = let many = many_messages in omega arith
 
   no_message_sent : (message : ℕ) → length held.messages.items ≤ message → IsMessageReply known message (refused no_message)
-  no_message_sent message far = let many = many_messages in record { absent = λ _. refl; there = λ sent. absurd (omega arith) }
+  no_message_sent = grind (common_steps, arith, many_messages)
 
   message_sent : (message : ℕ) (reply : model.Reply) → message < length held.messages.items → IsDoneOrNoMemory reply → IsMessageReply known message reply
   message_sent message reply sent is = record { absent = λ never. absurd (never (is_message message sent)); there = λ _. is }
@@ -77,7 +68,7 @@ module _ (known : KnownSets) (held : Holdings) (holds : AreOf known held) where
 
   -- if the office doesn't exist, `NoOffice` is an allowed reply to a `Send`
   pub send_without_office : (office : ℕ) → length held.offices.items ≤ office → MeetsEvent known (send_state office) (Refused NoOffice) held
-  send_without_office office far = record { told = tt; may = no_office_there office (IsDoneOrNoMemory (refused no_office)) far; holds = holds }
+  send_without_office = search (rules, no_office_there)
 
   -- if the office doesn't exist, `NoOffice` is an allowed reply to a `Horizon`
   pub horizon_without_office : (office day : ℕ) → length held.offices.items ≤ office → MeetsEvent known (horizon_event office day) (Refused NoOffice) held
@@ -123,30 +114,20 @@ module _ (known : KnownSets) (held : Holdings) (holds : AreOf known held) where
         → MeetsEvent known (take_file office text limit) Done after
     took low takes =
         let same : takes.file ≡ lines_of text = sym takes.is_text.lines ∙ ap lines_of (sym takes.held) in
-        let file : IsFileText limit text (lines_of text) = record {
-          lines = refl;
-          is = subst IsFile same takes.is_text.is;
-          within = subst (λ f. length f ≤ limit) same takes.is_text.within;
-        } in
+        let file : IsFileText limit text (lines_of text) = rw (← same) (search rules) in
         record {
           told = tt;
           may = office_there _ _ _ there file;
-          holds = replaced _ _ _ _ is (after_take _ _ _ _ holds _ _ _ _ _ (is_office _ there) low file
-              (subst (λ f. IsSummary (f ∷ []) 0 takes.own) same takes.of_file) takes.joined);
+          holds = replaced _ _ _ _ is (after_take _ _ _ _ holds _ _ _ _ _ (is_office _ there) low file (rw (← same) takes.of_file) takes.joined);
         }
 
     file_refused : (fault : FileFault) → now ≡ get_or held.offices.items office no_state → RefusesText limit (Some text) fault
         → MeetsEvent known (take_file office text limit) (Refused (Office (why.File fault))) after
     file_refused fault same refuses = record {
-      told = subst IsTextCause (sym refuses.is.cause_is) tt;
-      may = subst (λ cause. IsOfficeReply known office (refused (refusal_of_file fault.number cause))
-          (IsFileReply limit text (refused (refusal_of_file fault.number cause)))) (sym refuses.is.cause_is) (office_there _ _ _ there
-          (subst (λ t. IsFileFault limit t (record { number = fault.number; cause = refuses.is.cause })) (sym refuses.held) refuses.is.is));
+      told = rw refuses.is.cause_is tt;
+      may = rw refuses.is.cause_is (office_there _ _ _ there (rw refuses.held refuses.is.is));
       holds = unchanged _ _ _ is same;
     }
-
-    take_without_memory : now ≡ get_or held.offices.items office no_state → MeetsEvent known (take_file office text limit) (Refused (Office why.Memory)) after
-    take_without_memory = search (rules, office_there, unchanged)
 
     -- whatever result the office returns for a `Take`, the definitions allow the reply that is made
     -- from this result
@@ -155,20 +136,11 @@ module _ (known : KnownSets) (held : Holdings) (holds : AreOf known held) where
         → (IsErr answer → now ≡ get_or held.offices.items office no_state)
         → ((fault : FileFault) → answer ≡ Err (why.File fault) → RefusesText limit (Some text) fault) → ¬ (answer ≡ Err why.Source) → IfErr answer IsOfFile
         → MeetsEvent known (take_file office text limit) reply after
-    take_met answer reply same low ok stays file source only =
-        subst (λ r. MeetsEvent known (take_file office text limit) r after) (sym same) (by answer ok stays file source only)
-      where
-        by : (a : Result Unit OfficeFault) → (IsOk a → TakesFile limit (Some text) (get_or held.offices.items office no_state) now)
-            → (IsErr a → now ≡ get_or held.offices.items office no_state)
-            → ((fault : FileFault) → a ≡ Err (why.File fault) → RefusesText limit (Some text) fault) → ¬ (a ≡ Err why.Source) → IfErr a IsOfFile
-            → MeetsEvent known (take_file office text limit) (reply_for a) after
-        by (Ok unit) ok stays file source only = took low (ok refl)
-        by (Err (why.File fault)) ok stays file source only = file_refused fault (stays refl) (file fault refl)
-        by (Err why.Memory) ok stays file source only = take_without_memory (stays refl)
-        by (Err why.Source) ok stays file source only = absurd (source refl)
-        by (Err (why.State fault)) ok stays file source only = absurd only
-        by (Err why.Lapsed) ok stays file source only = absurd only
-        by (Err why.Sink) ok stays file source only = absurd only
+    take_met (Ok unit) reply same low ok stays file source only = rw same (took low (ok refl))
+    take_met (Err (why.File fault)) reply same low ok stays file source only = rw same (file_refused fault (stays refl) (file fault refl))
+    take_met (Err why.Memory) reply same low ok stays file source only = rw same (search (rules, office_there, unchanged))
+    take_met (Err why.Source) reply same low ok stays file source only = absurd (source refl)
+    take_met (Err other) reply same low ok stays file source only = absurd only
 
   -- ---- a state is sent
 
@@ -179,10 +151,7 @@ module _ (known : KnownSets) (held : Holdings) (holds : AreOf known held) where
   send_met office message after there same more is = record {
     told = tt;
     may = office_there _ _ _ there tt;
-    holds = subst (λ states. Holds dks_2 (after_done known (send_state office)) states (texts_of after.messages.items)) (sym same)
-        (subst (Holds dks_2 (after_done known (send_state office)) held.offices.items)
-        (sym (ap texts_of more ∙ map-append (λ (kept : Store). kept.taken) held.messages.items (message ∷ [])
-        ∙ ap (λ text. texts_of held.messages.items ++ text ∷ []) is)) (after_send _ _ _ _ holds _ (is_office _ there)));
+    holds = rw (same, more, map-append (λ (kept : Store). kept.taken), is) (after_send _ _ _ _ holds _ (is_office _ there));
   }
 
   -- if memory runs out for a `Send` and no message is appended, the definitions allow a reply that
@@ -197,9 +166,7 @@ module _ (known : KnownSets) (held : Holdings) (holds : AreOf known held) where
   horizon_met office day now after there low is raised = record {
     told = tt;
     may = office_there _ _ _ there refl;
-    holds = replaced _ _ _ _ is
-        (subst (λ s. Holds dks_2 (after_done known (horizon_event office day)) (set held.offices.items office s) (texts_of held.messages.items)) (sym raised)
-        (after_horizon _ _ _ _ holds _ _ (is_office _ there) low));
+    holds = replaced _ _ _ _ is (rw raised (after_horizon _ _ _ _ holds _ _ (is_office _ there) low));
   }
 
   -- ---- a message is read
@@ -211,19 +178,17 @@ module _ (known : KnownSets) (held : Holdings) (holds : AreOf known held) where
     no_fault fault refuses = by (state_cause_meant fault.cause) refuses.is
       where
         reads : (state : State) × IsStateText dks_2 (length text) text state
-        reads = subst (λ t. (state : State) × IsStateText dks_2 (length t) t state) (sym text_is)
-            (let read = message_reads _ _ _ _ holds _ (is_message _ sent) (subst (λ t. length t < 2 ^ 64) text_is short) in (read.0, read.2))
+        reads = rw text_is (let read = message_reads _ _ _ _ holds _ (is_message _ sent) (rw (← text_is) short) in (read.0, read.2))
 
         by : (cause : Option states.StateCause) → IsCauseOf dks_2 (length text) refuses.text fault.at cause → ⊥
         by None is = is
-        by (Some cause) is =
-            no_fault_of_state dks_2 (length text) text reads.0 (record { at = fault.at; cause = cause }) reads.1
-            (subst (λ t. states.IsStateFault dks_2 (length text) t (record { at = fault.at; cause = cause })) (sym refuses.held) is)
+        by (Some cause) is = no_fault_of_state dks_2 (length text) text reads.0 (record { at = fault.at; cause = cause }) reads.1
+            (rw (← refuses.held) at is)
 
     -- the message is the text of the state that was read from the message
     read_of : (state : State) → (read : ReadsState dks_2 (length text) (Some text) state)
         → IsStateText dks_2 (length text) (message_text (texts_of held.messages.items) message) state
-    read_of state read = subst (λ t. IsStateText dks_2 (length text) t state) (sym read.held ∙ text_is) read.is
+    read_of = search rules
 
     module _ (now : State) (after : Holdings) (is : IsReplaced office now after) where
       delivered : JoinsState dks_2 (length text) (Some text) (get_or held.offices.items office no_state) now
@@ -232,25 +197,18 @@ module _ (known : KnownSets) (held : Holdings) (holds : AreOf known held) where
         told = tt;
         may = office_there _ _ _ there (message_sent _ _ sent tt);
         holds = replaced _ _ _ _ is (after_delivery _ _ _ _ holds _ _ _ _ _
-            (is_office _ there) (is_message _ sent) (subst (λ t. length t < 2 ^ 64) text_is short) (read_of _ joins.read) joins.join);
+            (is_office _ there) (is_message _ sent) (rw (← text_is) short) (read_of _ joins.read) joins.join);
       }
 
       reloaded : ReadsState dks_2 (length text) (Some text) now → MeetsEvent known (reload office message) Done after
       reloaded reads = record {
         told = tt;
         may = office_there _ _ _ there (message_sent _ _ sent tt);
-        holds = replaced _ _ _ _ is (after_reload _ _ _ _ holds _ _ _ _
-            (is_office _ there) (is_message _ sent) (subst (λ t. length t < 2 ^ 64) text_is short) (read_of _ reads));
+        holds = replaced _ _ _ _ is (after_reload _ _ _ _ holds _ _ _ _ (is_office _ there) (is_message _ sent) (rw (← text_is) short) (read_of _ reads));
       }
 
       no_memory_there : IsOfficeReply known office (refused model.no_memory) (IsMessageReply known message (refused model.no_memory))
       no_memory_there = search (rules, office_there, message_sent)
-
-      delivery_without_memory : now ≡ get_or held.offices.items office no_state → MeetsEvent known (deliver office message) (Refused (Office why.Memory)) after
-      delivery_without_memory same = record { told = tt; may = no_memory_there; holds = unchanged office now after is same }
-
-      reload_without_memory : now ≡ get_or held.offices.items office no_state → MeetsEvent known (reload office message) (Refused (Office why.Memory)) after
-      reload_without_memory same = record { told = tt; may = no_memory_there; holds = unchanged office now after is same }
 
       -- whatever result the office returns for a `Deliver`, the definitions allow the reply that is
       -- made from this result
@@ -259,20 +217,11 @@ module _ (known : KnownSets) (held : Holdings) (holds : AreOf known held) where
           → (IsErr answer → now ≡ get_or held.offices.items office no_state)
           → ((fault : StateFault) → answer ≡ Err (why.State fault) → RefusesState dks_2 (length text) (Some text) fault) → ¬ (answer ≡ Err why.Source)
           → IfErr answer IsOfState → MeetsEvent known (deliver office message) reply after
-      delivery_met answer reply same ok stays state source only =
-          subst (λ r. MeetsEvent known (deliver office message) r after) (sym same) (by answer ok stays state source only)
-        where
-          by : (a : Result Unit OfficeFault) → (IsOk a → JoinsState dks_2 (length text) (Some text) (get_or held.offices.items office no_state) now)
-              → (IsErr a → now ≡ get_or held.offices.items office no_state)
-              → ((fault : StateFault) → a ≡ Err (why.State fault) → RefusesState dks_2 (length text) (Some text) fault) → ¬ (a ≡ Err why.Source)
-              → IfErr a IsOfState → MeetsEvent known (deliver office message) (reply_for a) after
-          by (Ok unit) ok stays state source only = delivered (ok refl)
-          by (Err why.Memory) ok stays state source only = delivery_without_memory (stays refl)
-          by (Err (why.State fault)) ok stays state source only = absurd (no_fault fault (state fault refl))
-          by (Err why.Source) ok stays state source only = absurd (source refl)
-          by (Err (why.File fault)) ok stays state source only = absurd only
-          by (Err why.Lapsed) ok stays state source only = absurd only
-          by (Err why.Sink) ok stays state source only = absurd only
+      delivery_met (Ok unit) reply same ok stays state source only = rw same (delivered (ok refl))
+      delivery_met (Err why.Memory) reply same ok stays state source only = rw same (search (rules, no_memory_there, unchanged))
+      delivery_met (Err (why.State fault)) reply same ok stays state source only = absurd (no_fault fault (state fault refl))
+      delivery_met (Err why.Source) reply same ok stays state source only = absurd (source refl)
+      delivery_met (Err other) reply same ok stays state source only = absurd only
 
       -- whatever result the office returns for a `Reload`, the definitions allow the reply that is
       -- made from this result
@@ -280,17 +229,8 @@ module _ (known : KnownSets) (held : Holdings) (holds : AreOf known held) where
           → (IsOk answer → ReadsState dks_2 (length text) (Some text) now) → (IsErr answer → now ≡ get_or held.offices.items office no_state)
           → ((fault : StateFault) → answer ≡ Err (why.State fault) → RefusesState dks_2 (length text) (Some text) fault) → ¬ (answer ≡ Err why.Source)
           → IfErr answer IsOfState → MeetsEvent known (reload office message) reply after
-      reload_met answer reply same ok stays state source only =
-          subst (λ r. MeetsEvent known (reload office message) r after) (sym same) (by answer ok stays state source only)
-        where
-          by : (a : Result Unit OfficeFault) → (IsOk a → ReadsState dks_2 (length text) (Some text) now)
-              → (IsErr a → now ≡ get_or held.offices.items office no_state)
-              → ((fault : StateFault) → a ≡ Err (why.State fault) → RefusesState dks_2 (length text) (Some text) fault) → ¬ (a ≡ Err why.Source)
-              → IfErr a IsOfState → MeetsEvent known (reload office message) (reply_for a) after
-          by (Ok unit) ok stays state source only = reloaded (ok refl)
-          by (Err why.Memory) ok stays state source only = reload_without_memory (stays refl)
-          by (Err (why.State fault)) ok stays state source only = absurd (no_fault fault (state fault refl))
-          by (Err why.Source) ok stays state source only = absurd (source refl)
-          by (Err (why.File fault)) ok stays state source only = absurd only
-          by (Err why.Lapsed) ok stays state source only = absurd only
-          by (Err why.Sink) ok stays state source only = absurd only
+      reload_met (Ok unit) reply same ok stays state source only = rw same (reloaded (ok refl))
+      reload_met (Err why.Memory) reply same ok stays state source only = rw same (search (rules, no_memory_there, unchanged))
+      reload_met (Err (why.State fault)) reply same ok stays state source only = absurd (no_fault fault (state fault refl))
+      reload_met (Err why.Source) reply same ok stays state source only = absurd (source refl)
+      reload_met (Err other) reply same ok stays state source only = absurd only

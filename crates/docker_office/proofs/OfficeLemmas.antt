@@ -1,7 +1,6 @@
 -- The contracts of an office's methods follow from the contracts of the functions that they call.
-use Rattle.std.proofs.Common.{◌≡◌, ◌≢◌, ℕ, ◌+◌, ◌≤◌, List, [], ◌∷◌, ◌++◌, ap, arith, sym, ◌∙◌, subst, Some, Ok, Err, rules}
-use Rattle.std.specs.Prelude.{Option, Result, max, IsOk, IfErr, OnOk, OnErr}
-use Rattle.std.specs.Result.{is_ok}
+use Rattle.std.proofs.Common.{◌≡◌, ◌≢◌, ℕ, ◌≤◌, List, [], ◌∷◌, ◌++◌, ap, arith, sym, ◌∙◌, subst, Some, Ok, Err, rules, Option, Result, max, IsOk, IfErr, OnOk}
+use Rattle.std.proofs.Common.{OnErr, is_ok}
 use Rattle.std.proofs.Math.Nat.{zero-max}
 use Rattle.docker_model.specs.file.File.{most_records}
 use Rattle.docker_model.specs.state.State.{State, IsJoin, IsValid, raise_horizon}
@@ -12,14 +11,13 @@ use Rattle.state_laws.proofs.states.SummaryLaws.{join_is_summary}
 use Rattle.state_laws.proofs.texts.TextsApart.{one_text}
 use Rattle.cif_file.specs.FileRead.{FileRead, IsOfRecords}
 use Rattle.cif_file.specs.FileEnds.{CountsWhyNoFile, IsWhyNoFile, StopsReadingFile}
-use Rattle.cif_file.specs.SourceRead.{ReadsText, RefusesText, WantsMemory}
-use Rattle.cif_file.specs.declared.fault.FileFault.{FileFault}
+use Rattle.cif_file.specs.SourceRead.{ReadsText, WantsMemory}
 use Rattle.cif_file.specs.declared.fault.FileReadFault as files
 use Rattle.docker_bytes.specs.Excerpts.{IsExcerptAt}
 use Rattle.cif_device.specs.Device.{IsEnd, Held}
 use Rattle.docker_bytes.specs.ReadEnds.{BytesLeft, CountsOutcome, CountsWhy, IsOutcome, IsWhyUnread, StopsReading, Wanting}
-use Rattle.docker_bytes.specs.SourceRead.{RaisesState, ReadsMade, ReadsState, RefusesState, JoinsState}
-use Rattle.docker_bytes.specs.declared.fault.StateFault.{StateFault}
+use Rattle.docker_bytes.specs.SourceRead.{RaisesState, ReadsMade, ReadsState, JoinsState}
+use Rattle.docker_bytes.specs.SourceRead as Unread
 use Rattle.docker_laws.specs.FileSummary.{summary_of}
 use Rattle.docker_laws.proofs.dockers.FileSummary.{join_of_nothing, summary_is, summary_valid}
 use Rattle.docker_excerpt.specs.Values.{Excerpt}
@@ -40,15 +38,13 @@ on_ok_with = search rules
 -- suppose that two results are both `Ok` or both `Err`, and that `P` holds if the first is `Ok`. If
 -- the second is `Ok`, then the first is `Ok` too, so `P` holds
 pub of_ok : {A B E F : Type 0} (P : Type 0) (first : Result A E) (second : Result B F) → is_ok second ≡ is_ok first → OnOk first P → IsOk second → P
-of_ok P (Ok a) second same holds is = holds
-of_ok P (Err e) second same holds is = let never : ⊥ = cc in absurd never
+of_ok = search rules
 
 -- suppose that two results are both `Ok` or both `Err`, and that `P` holds if the first is `Err`.
 -- If the second is `Err`, then the first is `Err` too, so `P` holds
 pub of_err : {A B E F : Type 0} (P : Type 0) (first : Result A E) (second : Result B F) → is_ok second ≡ is_ok first → OnErr first P → (e : F) → second ≡ Err e
     → P
-of_err P (Err e) second same holds fault is = holds
-of_err P (Ok a) second same holds fault is = let never : ⊥ = cc in absurd never
+of_err = search rules
 
 -- ---- how reading ends
 
@@ -57,10 +53,12 @@ pub holds_file : (limit : ℕ) (left : BytesLeft) (read : FileRead) → ReadsTex
 holds_file = search rules
 
 -- if the reader of states returns a fault, the office returns a fault with the same meaning
-pub unread_by_office : (wants : Wanting) (format : Format) (limit : ℕ) (left left_now : BytesLeft) (failures failures_now : ℕ) (cause : states.ReadFault)
-    → StopsReading format limit left left_now (IsWhyUnread wants format limit left left_now (Some cause)) (CountsWhy (Some cause) failures failures_now)
-    → StopsReading format limit left left_now (IsWhyUnread wants format limit left left_now (why_unread (office_fault_of_state cause)))
-    (CountsWhy (why_unread (office_fault_of_state cause)) failures failures_now)
+pub unread_by_office : {S : Type 0} (left : S → BytesLeft) (failures : S → ℕ) (format : Format) (limit : ℕ) (old new : S) (cause : states.ReadFault)
+    → StopsReading format limit (left old) (left new) (IsWhyUnread Unread.WantsMemory format limit (left old) (left new) (Some cause))
+    (CountsWhy (Some cause) (failures old) (failures new))
+    → StopsReading format limit (left old) (left new)
+    (IsWhyUnread Unread.WantsMemory format limit (left old) (left new) (why_unread (office_fault_of_state cause)))
+    (CountsWhy (why_unread (office_fault_of_state cause)) (failures old) (failures new))
 unread_by_office = search rules
 
 -- if the reader of files returns a fault, the office returns a fault with the same meaning
@@ -139,16 +137,6 @@ joins_summaries limit left old new joins files others g h sent of_files of_other
 
 -- ---- excerpts
 
--- an excerpt that was read for a place is an excerpt for this place
-pub place_read : (place : List ℕ) (day limit : ℕ) (left : Option (List ℕ)) (excerpt : Excerpt)
-    → ReadsMade (IsExcerptAt place day) dks_2 limit left excerpt → excerpt.place ≡ place
-place_read place day limit left excerpt reads = ap (λ (it : Excerpt). it.place) reads.of.made_of
-
--- an excerpt that was read for a day is an excerpt for this day
-pub day_read : (place : List ℕ) (day limit : ℕ) (left : Option (List ℕ)) (excerpt : Excerpt)
-    → ReadsMade (IsExcerptAt place day) dks_2 limit left excerpt → excerpt.day ≡ day
-day_read place day limit left excerpt reads = ap (λ (it : Excerpt). it.day) reads.of.made_of
-
 -- in contracts, the value of an excerpt that was read includes the whole state whose text the
 -- source held
 pub state_read : (place : List ℕ) (day limit : ℕ) (left : Option (List ℕ)) (excerpt : Excerpt)
@@ -167,15 +155,7 @@ one_excerpt = search (rules, one_read, state_read)
 -- if reading a state has ended with a value, the promise `IsMade` about this value holds
 pub read_ok : {A : Type 0} (wants : Wanting) (format : Format) (limit : ℕ) (IsMade : Type 0) (left left_now : BytesLeft) (result : Result A OfficeFault)
     → IsOutcome wants why_unread format limit (λ _. IsMade) left left_now result → IsOk result → IsMade
-read_ok wants format limit IsMade left left_now (Ok made) outcome is = outcome
-read_ok wants format limit IsMade left left_now (Err fault) outcome is = let never : ⊥ = cc in absurd never
-
--- if reading a state has ended with a fault of the text, the source held a text with this fault
-pub read_refused : {A : Type 0} (wants : Wanting) (format : Format) (limit : ℕ) (IsMade : A → Type 0) (left left_now : BytesLeft)
-    (result : Result A OfficeFault)
-    → IsOutcome wants why_unread format limit IsMade left left_now result → (fault : StateFault) → result ≡ Err (office.State fault)
-    → RefusesState format limit left fault
-read_refused wants format limit IsMade left left_now result outcome fault is = subst (IsOutcome wants why_unread format limit IsMade left left_now) is outcome
+read_ok = search rules
 
 -- if the source's failure count is unchanged, reading a state hasn't ended with a failure of the
 -- source
@@ -191,18 +171,12 @@ read_only = search rules
 -- if taking a file has ended with a value, the promise `IsMade` about this value holds
 pub taken_ok : {A : Type 0} (limit : ℕ) (IsMade : Type 0) (left left_now : BytesLeft) (result : Result A OfficeFault)
     → IsTakingOutcome limit (λ _. IsMade) left left_now result → IsOk result → IsMade
-taken_ok limit IsMade left left_now (Ok made) outcome is = outcome.0
-taken_ok limit IsMade left left_now (Err fault) outcome is = let never : ⊥ = cc in absurd never
-
--- if taking a file has ended with a fault of the text, the source held a text with this fault
-pub taken_refused : {A : Type 0} (limit : ℕ) (IsMade : A → Type 0) (left left_now : BytesLeft) (result : Result A OfficeFault)
-    → IsTakingOutcome limit IsMade left left_now result → (fault : FileFault) → result ≡ Err (office.File fault) → RefusesText limit left fault
-taken_refused limit IsMade left left_now result outcome fault is = subst (IsTakingOutcome limit IsMade left left_now) is outcome
+taken_ok = search rules
 
 -- if the source's failure count is unchanged, taking a file hasn't ended with a failure of the
 -- source
 pub taken_unfailed : {A : Type 0} (failures : ℕ) (result : Result A OfficeFault) → CountsTaking failures failures result → result ≢ Err office.Source
-taken_unfailed failures result counted is = let more : failures ≡ failures + 1 = subst (CountsTaking failures failures) is counted in absurd (omega arith)
+taken_unfailed = search rules
 
 -- taking a file can end only with a value, a fault of the text, a failure of the source, or the
 -- fault `Memory`

@@ -1,7 +1,5 @@
 -- Properties of a run's result, for each event, each office and each message.
-use Rattle.std.proofs.Common.{◌≡◌, ℕ, zero, suc, ◌<◌, List, [], ◌∷◌, length, take, sym, ◌∙◌, arith, rules}
-use Rattle.std.specs.Prelude.{fold}
-use Rattle.std.specs.List.{zip}
+use Rattle.std.proofs.Common.{◌≡◌, ℕ, zero, suc, ◌<◌, List, [], ◌∷◌, length, take, sym, ◌∙◌, arith, rules, fold, zip}
 use Rattle.docker_model.specs.state.StateText.{dks_2}
 use Rattle.docker_model.specs.run.Run.{RunEvent, Reply, Exchange, KnownSets, IsReply, AreReplies, after_reply, none_known}
 use Rattle.docker_model.specs.run.Knowledge.{sets_of, sent_count}

@@ -1,17 +1,8 @@
 -- What the office of a command knows follows from what the command's sources held.
-use Rattle.std.proofs.Common.{◌≡◌, ◌≤◌, ◌<◌, ◌^◌, ℕ, List, [], ◌∷◌, Some, None, length, refl, sym, ◌∙◌, subst, arith, append-nil, rules}
-use Rattle.std.specs.Prelude.{Option}
-use Rattle.std.proofs.lemmas.List.Elements.{All-cons, All-nil}
+use Rattle.cif_laws.proofs.Common.{◌≡◌, ◌≤◌, ◌<◌, ◌^◌, ℕ, List, [], ◌∷◌, Some, None, length, refl, sym, ◌∙◌, subst, arith, append-nil, rules, Option, All-cons}
+use Rattle.cif_laws.proofs.Common.{All-nil, IsDay, IsFile, most_records, IsDayRefused, State, IsJoin, raise_horizon, IsStateText, Format, dks_1, dks_2}
+use Rattle.cif_laws.proofs.Common.{state_text, IsSummary, Known, IsStateOf, nothing, united, IsGoodKnown}
 use Rattle.cif_laws.proofs.lists.Membership.{nil-Contains}
-use Rattle.docker_model.specs.records.Date.{IsDay}
-use Rattle.docker_model.specs.file.File.{IsFile, most_records}
-use Rattle.docker_model.specs.state.Lapse.{IsDayRefused}
-use Rattle.docker_model.specs.state.State.{State, IsJoin, raise_horizon}
-use Rattle.docker_model.specs.state.StateFault.{IsStateText}
-use Rattle.docker_model.specs.state.StateText.{Format, dks_1, dks_2, state_text}
-use Rattle.docker_model.specs.state.Summary.{IsSummary}
-use Rattle.docker_model.specs.run.Run.{Known, IsStateOf, nothing, united}
-use Rattle.docker_model.specs.run.Knowledge.{IsGoodKnown}
 use Rattle.docker_laws.proofs.runs.GoodKnowledge.{horizon_good, nothing_good, united_good}
 use Rattle.docker_laws.proofs.runs.MessageTexts.{counts_fit, summary_told}
 use Rattle.state_laws.proofs.states.SummaryLaws.{join_is_summary, raised_summary}
@@ -172,18 +163,14 @@ written_of_state (horizon_task day) first second state text known days reads is 
     (known_raised knows.0 day reads.own (days day refl) (known_held knows.0 first reads.own knows.1 reads.reads)))) is
 written_of_state migrate_task first second state text known days reads is allowed knows = search (rules, known_text, known_older)
 
--- only `check` reads a file without making a state, and `WritesKnown` allows any text as the output
--- of `check`
-written_of_file : (task : TaskView) (known : Known) (text : List ℕ) → task ≡ check_task → WritesKnown task known text
-written_of_file task known text is = subst (λ (t : TaskView). WritesKnown t known text) (sym is) tt
-
--- if a job writes a text, and the job isn't a `check`, the text is made from what the job's office
--- knows
+-- if a job writes a text, the text is made from what the job's office knows. Only `check` reads a
+-- file without making a state, and `WritesKnown` allows any text as the output of `check`
 written_known : (task : TaskView) (first second : Bytes) (what : ReadView) (text : List ℕ) (known : Known)
     → ((day : ℕ) → task ≡ horizon_task day → IsDay day) → IsReadOf task first second what
     → IsOutputText (output_of task) what text → ¬ IsRefusedDocker (output_of task) what
     → Knows task first second known → WritesKnown task known text
-written_known task first second (file_read file) text known days reads is allowed knows = written_of_file task known text reads.0
+written_known task first second (file_read file) text known days reads is allowed knows =
+    subst (λ (t : TaskView). WritesKnown t known text) (sym reads.0) tt
 written_known task first second (office_read state) text known days reads is allowed knows = search (rules, written_of_state)
 
 -- the words of a requested job name the job's task

@@ -1,6 +1,6 @@
 -- What a command stored or printed follows from how the command ended.
-use Rattle.std.proofs.Common.{◌≡◌, ◌≢◌, ℕ, List, [], ◌∷◌, ◌++◌, Option, None, Some, length, refl, rules}
-use Rattle.std.proofs.Common.{sym, ◌∙◌, subst, inl, inr, append-nil, append_assoc}
+use Rattle.cif_laws.proofs.Common.{◌≡◌, ◌≢◌, ℕ, List, [], ◌∷◌, ◌++◌, Option, None, Some, length, refl, rules, sym, ◌∙◌, subst, inl, inr, append-nil}
+use Rattle.cif_laws.proofs.Common.{append_assoc}
 use Rattle.docker_host.specs.Asked.{IsStored}
 use Rattle.docker_host.specs.History.{Bytes, Event, looked, drafted, undrafted, dropped}
 use Rattle.docker_office.specs.declared.fault.OfficeFault.TheVariants as office

@@ -1,6 +1,5 @@
 -- Words that are too many for a job, or that couldn't be read.
-use Rattle.std.proofs.Common.{◌≡◌, ◌≤◌, ◌<◌, ℕ, Bool, List, Some, arith, refl, sym, subst, length, string_bytes, rules}
-use Rattle.std.proofs.lemmas.List.{length-map}
+use Rattle.cif_laws.proofs.Common.{◌≡◌, ◌≤◌, ◌<◌, ℕ, Bool, List, Some, arith, refl, sym, subst, length, string_bytes, rules, length-map}
 use Rattle.std.specs.Prelude.{String}
 use Rattle.std.specs.Global.{Global}
 use Rattle.docker_host.specs.History.{Bytes}

@@ -1,7 +1,5 @@
 -- What was read from a job's files and from standard input is what the job's sources held.
-use Rattle.std.proofs.Common.{◌≡◌, List, [], ◌∷◌, ◌++◌, refl, append_assoc, inr, Ok, Err, Some}
-use Rattle.std.proofs.Common.{rules}
-use Rattle.std.specs.Prelude.{Result}
+use Rattle.cif_laws.proofs.Common.{◌≡◌, List, [], ◌∷◌, ◌++◌, refl, append_assoc, inr, Ok, Err, Some, rules, Result}
 use Rattle.docker_host.specs.History.{Bytes, Event}
 use Rattle.docker_host.specs.Opening.{one_of}
 use Rattle.docker_host.specs.declared.folder.OpenFault.{OpenFault}

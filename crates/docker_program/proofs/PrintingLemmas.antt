@@ -1,6 +1,5 @@
 -- How a job that prints ends, given the contract of `emit`.
-use Rattle.std.proofs.Common.{◌≡◌, ℕ, List, None, Ok, Err, refl, ap, subst, rules}
-use Rattle.std.specs.Prelude.{Option, Result, ⊤}
+use Rattle.cif_laws.proofs.Common.{◌≡◌, ℕ, List, None, Ok, Err, refl, ap, subst, rules, Option, Result, ⊤}
 use Rattle.docker_host.specs.History.{Bytes, Event}
 use Rattle.docker_office.specs.declared.fault.OfficeFault.{OfficeFault}
 use Rattle.docker_office.specs.declared.fault.OfficeFault.TheVariants as office

@@ -1,6 +1,5 @@
 -- How the program ends depends on which step of its job failed, if any.
-use Rattle.std.proofs.Common.{◌≡◌, ◌≢◌, ◌≤◌, ◌↔◌, ℕ, Bool, List, [], Option, None, Some, Err, ap, sym, ◌∙◌, subst}
-use Rattle.std.proofs.Common.{rules}
+use Rattle.cif_laws.proofs.Common.{◌≡◌, ◌≢◌, ◌≤◌, ◌↔◌, ℕ, Bool, List, [], Option, None, Some, Err, ap, sym, ◌∙◌, subst, rules}
 use Rattle.cif_device.specs.Device.{IsNotPassed}
 use Rattle.docker_host.specs.History.{Bytes, Event}
 use Rattle.docker_host.specs.FaultSink.{FaultsView, TellsText, faults_of, faults_view}

@@ -1,6 +1,5 @@
 -- A draft of a command replaces the bytes that the command opened and read.
-use Rattle.std.proofs.Common.{◌≡◌, ℕ, List, [], ◌∷◌, ◌++◌, length, Option, None, Some, rules}
-use Rattle.std.proofs.Common.{ap, append_assoc, length-append}
+use Rattle.cif_laws.proofs.Common.{◌≡◌, ℕ, List, [], ◌∷◌, ◌++◌, length, Option, None, Some, rules, ap, append_assoc, length-append}
 use Rattle.docker_host.specs.History.{Bytes, Event, closed, drafted, looked, opened}
 use Rattle.docker_host.specs.Standing.{IsStandingOf, IsStill, Standing}
 use Rattle.docker_host.proofs.StandingLemmas.{happens_at}

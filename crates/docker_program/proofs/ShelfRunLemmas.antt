@@ -1,9 +1,6 @@
 -- What commands leave on a shelf follows from the contract of `perform`.
-use Rattle.std.proofs.Common.{◌≡◌, ℕ, true, List, [], ◌∷◌, ◌++◌, Option, None, Some, length, refl, sym, ◌∙◌, ap, subst, inl, inr, codes}
-use Rattle.std.proofs.Common.{rules}
-use Rattle.docker_model.specs.file.Change.{changes}
-use Rattle.docker_model.specs.file.Text.{lines_of}
-use Rattle.docker_model.specs.state.StateText.{dks_2}
+use Rattle.cif_laws.proofs.Common.{◌≡◌, ℕ, true, List, [], ◌∷◌, ◌++◌, Option, None, Some, length, refl, sym, ◌∙◌, ap, subst, inl, inr, codes, rules, changes}
+use Rattle.cif_laws.proofs.Common.{lines_of, dks_2}
 use Rattle.cif_device.specs.Device.{IsEnd, Reads}
 use Rattle.docker_host.specs.History.{Bytes, Event, closed, drafted, looked, opened, placed}
 use Rattle.docker_host.specs.Host.{HostView}

@@ -1,17 +1,8 @@
 -- What the versions of STATE files know. This knowledge determines their texts.
-use Rattle.std.proofs.Common.{◌≡◌, Some, ◌<◌, ◌⊎◌, ℕ, List, [], ◌∷◌, ◌++◌, length, map, refl, sym, ◌∙◌, ap, subst, arith, inl, inr, append-nil, append_assoc}
-use Rattle.std.proofs.Common.{rules}
-use Rattle.std.specs.Prelude.{slice_index_or}
-use Rattle.std.specs.List.{AllZip}
-use Rattle.std.proofs.lemmas.List.{length-map}
+use Rattle.cif_laws.proofs.Common.{◌≡◌, Some, ◌<◌, ◌⊎◌, ℕ, List, [], ◌∷◌, ◌++◌, length, map, refl, sym, ◌∙◌, ap, subst, arith, inl, inr, append-nil}
+use Rattle.cif_laws.proofs.Common.{append_assoc, rules, slice_index_or, AllZip, length-map, State, dks_2, state_text, HaveDistinctMoments, IsSummary, Table}
+use Rattle.cif_laws.proofs.Common.{IsPlainTable, IsDockerText, Known, nothing, united, AreOneKnowledge, HaveSameFiles}
 use Rattle.cif_laws.proofs.lists.ZipSteps.{zip_at, zip_end, zip_long}
-use Rattle.docker_model.specs.state.State.{State}
-use Rattle.docker_model.specs.state.StateText.{dks_2, state_text}
-use Rattle.docker_model.specs.state.Summary.{HaveDistinctMoments, IsSummary}
-use Rattle.docker_model.specs.state.Table.{Table, IsPlainTable}
-use Rattle.docker_model.specs.docker.DockerText.{IsDockerText}
-use Rattle.docker_model.specs.run.Run.{Known, nothing, united}
-use Rattle.docker_model.specs.run.Knowledge.{AreOneKnowledge, HaveSameFiles}
 use Rattle.docker_laws.proofs.dockers.PrintedDocker.{printed_is_plain}
 use Rattle.docker_laws.proofs.runs.RunEnd.{docker_of_files}
 use Rattle.state_laws.proofs.states.OnePlainTable.{some_plain_table}

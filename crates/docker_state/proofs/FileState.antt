@@ -1,21 +1,15 @@
 -- The state made from one file has the file's ledger item and, for each key, the greatest entry that the file's changes make.
-use Rattle.std.proofs.Common.{◌≡◌, ℕ, ◌≤◌, List, [], ◌∷◌, ◌++◌, map, length, rules}
-use Rattle.std.proofs.Common.{refl, ap, sym, ◌∙◌, subst, inl, inr, Contains, All, Some, None, arith}
-use Rattle.std.specs.Prelude.{Option, ◌↔◌, slice_index_or}
-use Rattle.std.specs.Cmp.{tied_itself}
-use Rattle.std.proofs.lemmas.Bool.Decides.{eqb_tells}
+use Rattle.cif_laws.proofs.Common.{◌≡◌, ℕ, ◌≤◌, List, [], ◌∷◌, ◌++◌, map, length, rules, refl, ap, sym, ◌∙◌, subst, inl, inr, Contains, All, Some, None, arith}
+use Rattle.cif_laws.proofs.Common.{Option, ◌↔◌, slice_index_or, eqb_tells, changes, IsFile, first_record, most_records, FileStamp, ledger_item_cmp}
+use Rattle.cif_laws.proofs.Common.{file_stamp_cmp, file_stamp_of, ledger_item_of, IsFull, IsFloor, IsKept, key_cmp, op_of, IsAtMost, IsStrictlyAscending, State}
+use Rattle.cif_laws.proofs.Common.{IsValid, IsGreatestAmong, IsSummary, IsKeptFile, IsEntryOf, entry_of}
 use Rattle.docker_model.specs.file.Change as model
-use Rattle.docker_model.specs.file.Change.{changes}
-use Rattle.docker_model.specs.file.File.{IsFile, first_record, most_records}
 use Rattle.docker_model.specs.state.Stamp as stamps
-use Rattle.docker_model.specs.state.Stamp.{FileStamp, ledger_item_cmp, file_stamp_cmp, file_stamp_of, ledger_item_of, IsFull, IsFloor, IsKept}
 use Rattle.docker_model.specs.state.Op as ops
-use Rattle.docker_model.specs.state.Op.{key_cmp, op_of}
-use Rattle.docker_model.specs.state.Order.{IsAtMost, IsStrictlyAscending}
-use Rattle.docker_model.specs.state.State.{State, IsValid, IsGreatestAmong}
-use Rattle.docker_model.specs.state.Summary.{IsSummary, IsKeptFile, IsEntryOf, entry_of}
+use Rattle.cif_laws.proofs.lists.Membership.{Contains-single}
+use Rattle.cif_laws.proofs.orders.AtMost.{at_most_itself}
 use Rattle.cif_laws.proofs.orders.Orders.{file_stamp_total}
-use Rattle.cif_laws.proofs.lists.Membership.{cons-Contains-first, nil-Contains, Contains-map, map-Contains, all_members}
+use Rattle.cif_laws.proofs.lists.Membership.{cons-Contains-first, Contains-map, map-Contains, all_members}
 use Rattle.cif_laws.proofs.files.FileChanges.{file_change}
 use Rattle.state_laws.proofs.states.SummaryValid.{summary_is_valid}
 use Rattle.state_laws.proofs.joins.RaisedHorizon.{plain_summary}
@@ -41,14 +35,6 @@ use Rattle.docker_state.proofs.StateJoin.{op_records}
 pub first_is : (lines : List (List ℕ)) → slice_index_or lines 0 [] ≡ first_record lines
 first_is = search rules
 
--- a member of a list of one element is equal to this element
-pub only : {A : Type 0} (x z : A) → Contains (x ∷ []) z → x ≡ z
-only = search (rules, nil-Contains)
-
--- no stamp is above itself
-not_above_itself : (stamp : FileStamp) → IsAtMost file_stamp_cmp stamp stamp
-not_above_itself stamp above = let tied = tied_itself file_stamp_total stamp in cc
-
 -- Says that the item isn't below the floor of a ledger that has only this item.
 abbrev OneFloor : stamps.LedgerItem → Type 0
 OneFloor item = (floor : Option FileStamp) × IsFloor (item ∷ []) floor × IsKept floor item.stamp
@@ -62,12 +48,12 @@ one_floor item = elim (eqb_tells item.indicator 70) [
       among = cons-Contains-first item [];
       is_full = full.1;
       stamped = refl;
-      greatest = λ other among is_full. subst (λ (i : stamps.LedgerItem). IsAtMost file_stamp_cmp i.stamp item.stamp) (only item other among)
-          (not_above_itself item.stamp);
+      greatest = λ other among is_full. subst (λ (i : stamps.LedgerItem). IsAtMost file_stamp_cmp i.stamp item.stamp) (Contains-single item other among)
+          (at_most_itself file_stamp_total item.stamp);
     },
-    not_above_itself item.stamp,
+    at_most_itself file_stamp_total item.stamp,
   )
-  | inr update ↦ (None, λ other among is_full. update.1 (subst (λ (i : stamps.LedgerItem). IsFull i) (sym (only item other among)) is_full), tt)
+  | inr update ↦ (None, λ other among is_full. update.1 (subst (λ (i : stamps.LedgerItem). IsFull i) (sym (Contains-single item other among)) is_full), tt)
 ]
 
 -- if all bodies put by changes consist of records, so do the bodies in the rows that the changes
@@ -116,7 +102,7 @@ module _ (file : List (List ℕ)) (state : State) (is : IsMadeState (ledger_item
   to_made : (f : Option FileStamp) (key : model.Key) (entry : ops.Entry) → IsEntryOf (file ∷ []) f key entry
       → Contains (map (made_by (file_stamp_of file)) (changes file)) (key, entry)
   to_made f key entry of =
-      let same : file ≡ of.file = only _ _ of.kept.among in
+      let same : file ≡ of.file = Contains-single _ _ of.kept.among in
       let among : Contains (changes file) of.change = subst (λ (x : List (List ℕ)). Contains (changes x) of.change) (sym same) of.among in
       let entry_is : entry_of file of.change ≡ entry = subst (λ (x : List (List ℕ)). entry_of x of.change ≡ entry) (sym same) of.entry_is in
       let pair : made_by (file_stamp_of file) of.change ≡ (key, entry) = (λ i. (of.key_is i, entry_is i)) in
@@ -136,9 +122,9 @@ module _ (file : List (List ℕ)) (state : State) (is : IsMadeState (ledger_item
     is_floor = is_floor;
     ledger_ascends = subst (IsStrictlyAscending ledger_item_cmp) (sym is.ledger) (tt, tt);
     ledger = λ item. (
-      λ among. (file, kept_one f kept, only _ item (subst (λ (xs : List stamps.LedgerItem). Contains xs item) is.ledger among)),
+      λ among. (file, kept_one f kept, Contains-single _ item (subst (λ (xs : List stamps.LedgerItem). Contains xs item) is.ledger among)),
       λ told. subst (λ (xs : List stamps.LedgerItem). Contains xs item) (sym is.ledger)
-          (subst (λ (i : stamps.LedgerItem). Contains (ledger_item_of file ∷ []) i) (ap ledger_item_of (only _ told.0 told.1.among) ∙ told.2)
+          (subst (λ (i : stamps.LedgerItem). Contains (ledger_item_of file ∷ []) i) (ap ledger_item_of (Contains-single _ told.0 told.1.among) ∙ told.2)
           (cons-Contains-first _ [])),
     );
     entries_ascend = is.ascending;
@@ -160,8 +146,9 @@ module _ (file : List (List ℕ)) (state : State) (is : IsMadeState (ledger_item
 
   -- the state that a file's changes make is valid
   pub file_valid : IsFile file → length file ≤ most_records → IsValid state
-  file_valid is_file few = summary_is_valid (file ∷ []) _ state (omega arith) (all_members _ (file ∷ []) (λ f among. subst IsFile (only _ f among) is_file))
-      (all_members _ (file ∷ []) (λ f among. subst (λ (x : List (List ℕ)). length x ≤ most_records) (only _ f among) few)) file_summary
+  file_valid is_file few = summary_is_valid (file ∷ []) _ state (omega arith) (all_members _ (file ∷ []) (λ f among. subst IsFile
+      (Contains-single _ f among) is_file))
+      (all_members _ (file ∷ []) (λ f among. subst (λ (x : List (List ℕ)). length x ≤ most_records) (Contains-single _ f among) few)) file_summary
 
 -- the ledger item of a header line is the ledger item of any file that begins with this line
 pub item_is_of : (head line : List ℕ) (item : stamps.LedgerItem) (lines : List (List ℕ)) → head ≡ line → line ≡ slice_index_or lines 0 []

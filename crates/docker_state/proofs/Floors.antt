@@ -1,10 +1,9 @@
 -- The floor of two ledgers together, given the floor of each.
-use Rattle.std.proofs.Common.{List, ◌++◌, sym, ◌∙◌, inl, inr, ◌⊎◌, Contains, rules}
-use Rattle.std.specs.Ordering.{on}
-use Rattle.std.proofs.lemmas.List.Elements.{Contains-append_left, Contains-append_right, Contains-append_cases}
-use Rattle.docker_model.specs.state.Order.{IsAtMost, IsGreater}
+use Rattle.cif_laws.proofs.Common.{List, ◌++◌, sym, ◌∙◌, inl, inr, ◌⊎◌, Contains, rules, on, Contains-append_left, Contains-append_right, Contains-append_cases}
+use Rattle.cif_laws.proofs.Common.{IsAtMost, LedgerItem, file_stamp_cmp, IsFull}
+use Rattle.docker_model.specs.state.Order.{IsGreater}
 use Rattle.docker_model.specs.state.Stamp as stamps
-use Rattle.docker_model.specs.state.Stamp.{LedgerItem, file_stamp_cmp, IsFull, HasNoFull, IsGreatestFull}
+use Rattle.docker_model.specs.state.Stamp.{HasNoFull, IsGreatestFull}
 use Rattle.cif_laws.proofs.orders.Orders.{file_stamp_total}
 use Rattle.cif_laws.proofs.orders.AtMost.{at_most_trans}
 

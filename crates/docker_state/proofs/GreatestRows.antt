@@ -1,14 +1,9 @@
 -- If rows are sorted by key and then by entry, the last row for each key has the greatest entry for the key.
-use Rattle.std.proofs.Common.{◌≡◌, List, [], ◌∷◌, map, refl, ap, sym, ◌∙◌, subst, inl, inr, ◌⊎◌, Contains, Bool, true, false, cond, rules}
-use Rattle.std.specs.declared.cmp.Ordering.{Ordering}
-use Rattle.std.specs.declared.cmp.Ordering.TheVariants.{Less, Equal, Greater}
-use Rattle.std.specs.Ordering.{is_eq, is_lt}
-use Rattle.std.specs.Cmp.{IsTotalOrder, then_total, on_total, tied_itself}
+use Rattle.cif_laws.proofs.Common.{◌≡◌, List, [], ◌∷◌, map, refl, ap, sym, ◌∙◌, subst, inl, inr, ◌⊎◌, Contains, Bool, true, false, cond, rules, Equal, is_eq}
+use Rattle.cif_laws.proofs.Common.{is_lt, IsTotalOrder, then_total, on_total, tied_itself, entry_cmp, IsAtMost, IsGreatestAmong}
 use Rattle.docker_model.specs.file.Change as model
 use Rattle.docker_model.specs.state.Op as ops
-use Rattle.docker_model.specs.state.Op.{entry_cmp}
-use Rattle.docker_model.specs.state.Order.{IsAtMost}
-use Rattle.docker_model.specs.state.State.{IsGreatestAmong}
+use Rattle.cif_laws.proofs.orders.AtMost.{eq_is}
 use Rattle.cif_laws.proofs.orders.Orders.{key_total, exact_key, entry_total}
 use Rattle.cif_laws.proofs.lists.Membership.{Contains-cons, cons-Contains, cons-Contains-first, nil-Contains, Contains-map, map-Contains}
 use Rattle.cif_laws.proofs.orders.AtMost.{level}
@@ -37,11 +32,6 @@ last_of [] w among = absurd (nil-Contains w among)
 last_of (row ∷ []) w among = search (rules, cons-Contains-first, key_total, nil-Contains)
 last_of (row ∷ next ∷ rows) w among = by (is_eq (row_cmp next row)) refl (λ v inside. last_of (next ∷ rows) v inside) (Contains-cons row (next ∷ rows) w among)
   where
-    eq_is : (o : Ordering) → is_eq o ≡ true → o ≡ Equal
-    eq_is Less h = cc
-    eq_is Equal h = refl
-    eq_is Greater h = cc
-
     by : (b : Bool) → is_eq (row_cmp next row) ≡ b → ((v : Key × Entry) → Contains (next ∷ rows) v → LastOf (next ∷ rows) v)
         → (row ≡ w) ⊎ Contains (next ∷ rows) w
         → (m : Key × Entry) × Contains (cond b (last_rows (next ∷ rows)) (row ∷ last_rows (next ∷ rows))) m × (row_cmp w m ≡ Equal)

@@ -1,12 +1,7 @@
 -- Lemmas on setting a horizon on a state. If the new horizon is after the old horizon, each entry whose body ended before the new horizon lapses. Otherwise
 -- nothing changes.
-use Rattle.std.proofs.Common.{◌≡◌, ℕ, ◌≤◌, List, map, sym, subst, rules}
-use Rattle.std.proofs.Math.Nat.{max-eq_left, max-eq_right}
-use Rattle.docker_model.specs.state.Lapse.{lapse_entries}
-use Rattle.docker_model.specs.records.Date.{IsDay}
-use Rattle.docker_model.specs.state.State.{HaveLapsed, IsValid, raise_horizon}
-use Rattle.std.specs.Prelude.{max, Option}
-use Rattle.std.proofs.lemmas.List.Elements.{recursion_from_All}
+use Rattle.cif_laws.proofs.Common.{◌≡◌, ℕ, ◌≤◌, List, map, sym, subst, rules, max-eq_left, max-eq_right, lapse_entries, IsDay, HaveLapsed, IsValid}
+use Rattle.cif_laws.proofs.Common.{raise_horizon, max, Option, recursion_from_All}
 use Rattle.state_laws.proofs.states.KeptEntries.{entries_stay}
 use Rattle.state_laws.proofs.joins.JoinValid.{raised_is_valid}
 use Rattle.cif_change.specs.declared.key.Key.{Key}

@@ -1,13 +1,9 @@
 -- Memory that is enough for the index of some rows is also enough for the index of rows that follow from them. Such rows are left by a horizon, made by a join,
 -- or made by the changes of a file.
-use Rattle.std.proofs.Common.{◌≡◌, ℕ, List, ◌++◌, refl, ap, subst, inl, inr, ◌⊎◌, Some, None, Bool, true, false, cond, Contains, rules}
-use Rattle.std.specs.Prelude.{Option, nat_lt}
-use Rattle.std.proofs.lemmas.List.{map-append}
+use Rattle.cif_laws.proofs.Common.{◌≡◌, ℕ, List, ◌++◌, refl, ap, subst, inl, ◌⊎◌, Some, None, Contains, rules, Option, map-append, body_of, lapse}
+use Rattle.cif_laws.proofs.Common.{lapse_entries, lapse_keyed, State, AreAscending, IsJoin}
 use Rattle.docker_model.specs.file.Change as model
 use Rattle.docker_model.specs.state.Op as ops
-use Rattle.docker_model.specs.state.Op.{deleted, lapsed, put_with, body_end, body_of}
-use Rattle.docker_model.specs.state.Lapse.{lapse, lapse_entries, lapse_keyed}
-use Rattle.docker_model.specs.state.State.{State, AreAscending, IsJoin}
 use Rattle.cif_laws.proofs.lists.Membership.{Contains-map, map-Contains}
 use Rattle.state_laws.proofs.joins.JoinLaws.{join_commutes}
 use Rattle.state_index.specs.declared.index.Index.{Index}
@@ -24,16 +20,6 @@ pub if_any : (items others : List Item) → ((index : Index) → HasRoomFor item
     → HasRoomIfAny items index → HasRoomIfAny others index
 if_any items others more None room = tt
 if_any items others more (Some index) room = more index room
-
--- an op that lapses is the same op, or has no body any more
-lapsed_op : (horizon : ℕ) (op : ops.Op) → (lapse horizon op ≡ op) ⊎ (body_of (lapse horizon op) ≡ None)
-lapsed_op horizon deleted = inl refl
-lapsed_op horizon lapsed = inl refl
-lapsed_op horizon (put_with body) = by (nat_lt (body_end body) horizon)
-  where
-    by : (b : Bool) → (cond b lapsed (put_with body) ≡ put_with body) ⊎ (body_of (cond b lapsed (put_with body)) ≡ None)
-    by true = inr refl
-    by false = inl refl
 
 -- a row whose op is another op that may have lapsed comes from the items with the key and that other op
 comes : (items : List Item) (row : Keyed) (horizon : ℕ) (op : ops.Op) → Contains {X = Item} items (row.0, op) → lapse horizon op ≡ row.1.op

@@ -1,12 +1,7 @@
 -- Sorted rows, and the last row for each key among them.
-use Rattle.std.proofs.Common.{◌≡◌, List, [], ◌∷◌, inl, inr, ◌⊎◌, refl, ap, sym, ◌∙◌, true, false, cond, subst, Contains, arith, rules}
-use Rattle.std.specs.List.{AllByRecursion}
-use Rattle.std.specs.declared.cmp.Ordering.{Ordering}
-use Rattle.std.specs.declared.cmp.Ordering.TheVariants.{Less, Equal, Greater}
-use Rattle.std.specs.Ordering.{ordering_then, ordering_reverse, is_eq}
-use Rattle.docker_model.specs.state.Op.{entry_cmp}
-use Rattle.docker_model.specs.state.Order.{IsBelow, IsAtMost}
-use Rattle.std.proofs.lemmas.List.Elements.{recursion_from_All}
+use Rattle.cif_laws.proofs.Common.{◌≡◌, List, [], ◌∷◌, inl, inr, ◌⊎◌, refl, ap, sym, ◌∙◌, true, false, cond, subst, Contains, arith, rules, AllByRecursion}
+use Rattle.cif_laws.proofs.Common.{Ordering, Less, Equal, Greater, ordering_then, ordering_reverse, is_eq, entry_cmp, IsBelow, IsAtMost, recursion_from_All}
+use Rattle.cif_laws.proofs.lists.Membership.{Contains-single}
 use Rattle.cif_laws.proofs.orders.Orders.{key_total, entry_total}
 use Rattle.cif_laws.proofs.lists.Membership.{Contains-cons, nil-Contains, below_by_recursion, all_members}
 use Rattle.cif_laws.proofs.orders.AtMost.{at_most_itself}
@@ -51,19 +46,19 @@ below_all row next (other ∷ rows) below later = (
   below_all row next rows below later.1,
 )
 
+-- if two neighbouring rows of a sorted list have different keys, the key of the first row is the lower one
+front_below : (row next : Key × Entry) → ¬ (row_cmp next row ≡ Equal) → LaterKey row next → row_cmp row next ≡ Less
+front_below = search (rules, key_total)
+
 -- if rows are sorted, the rows in `last_rows rows` ascend
 pub lasts_ascend : (rows : List (Key × Entry)) → AreSorted rows → AreAscending (last_rows rows)
 lasts_ascend [] sorted = tt
 lasts_ascend (row ∷ []) sorted = (tt, tt)
 lasts_ascend (row ∷ next ∷ rows) sorted = by (row_cmp next row) refl (lasts_ascend (next ∷ rows) sorted.1)
   where
-    less : ¬ (row_cmp next row ≡ Equal) → LaterKey row next → row_cmp row next ≡ Less
-    less apart (inl below) = below
-    less apart (inr same) = absurd (apart (let a = key_total.antisymm (key_meant next.0) (key_meant row.0) in let b = same.0 in cc))
-
     in_front : ¬ (row_cmp next row ≡ Equal) → AreAscending (last_rows (next ∷ rows)) → AreAscending (row ∷ last_rows (next ∷ rows))
     in_front apart rest =
-        let below = less apart (later_key row next sorted.0.0) in
+        let below = front_below row next apart (later_key row next sorted.0.0) in
         (lasts_all (IsBelow row_cmp row) (next ∷ rows) (below, below_all row next rows below sorted.1.0), rest)
 
     by : (o : Ordering) → row_cmp next row ≡ o → AreAscending (last_rows (next ∷ rows))
@@ -71,14 +66,6 @@ lasts_ascend (row ∷ next ∷ rows) sorted = by (row_cmp next row) refl (lasts_
     by Equal is rest = rest
     by Less is rest = in_front (λ tied. cc) rest
     by Greater is rest = in_front (λ tied. cc) rest
-
--- if two neighbouring rows of a sorted list have different keys, the key of the first row is the lower one
-front_below : (row next : Key × Entry) → ¬ (row_cmp next row ≡ Equal) → LaterKey row next → row_cmp row next ≡ Less
-front_below = search (rules, key_total)
-
--- a member of a list of one element is equal to this element
-alone : {A : Type 0} (x v : A) → Contains (x ∷ []) v → x ≡ v
-alone = search (rules, nil-Contains)
 
 -- of two sorted rows with the same key, the later row's entry isn't less than the earlier row's
 of_one_key : (a b : Key × Entry) → IsAtMost by_entry a b → row_cmp a b ≡ Equal → IsAtMost entry_cmp (entry_meant a.1) (entry_meant b.1)
@@ -94,7 +81,7 @@ pub lasts_top : (rows : List (Key × Entry)) → AreSorted rows → (z : Key × 
     → IsAtMost entry_cmp (entry_meant w.1) (entry_meant z.1)
 lasts_top [] sorted z last w among tied = absurd (nil-Contains z last)
 lasts_top (row ∷ []) sorted z last w among tied =
-    subst (λ (v : Key × Entry). IsAtMost entry_cmp (entry_meant w.1) (entry_meant v.1)) (sym (alone row w among) ∙ alone row z last)
+    subst (λ (v : Key × Entry). IsAtMost entry_cmp (entry_meant w.1) (entry_meant v.1)) (sym (Contains-single row w among) ∙ Contains-single row z last)
     (at_most_itself entry_total (entry_meant w.1))
 lasts_top (row ∷ next ∷ rows) sorted z last w among tied =
     (elim (is_eq (row_cmp next row)) as (λ b. is_eq (row_cmp next row) ≡ b → Contains

@@ -1,10 +1,7 @@
 -- Lemmas on the search that finds out whether a ledger has all items of a list, apart from the
 -- items below the floor.
-use Rattle.std.proofs.Common.{◌≡◌, ◌+◌, ℕ, ◌<◌, ◌≤◌, List, map, Bool, true, length, get_or, subst, arith, rules}
-use Rattle.std.specs.Prelude.{Option, ◌↔◌, IsTrue}
-use Rattle.std.specs.List.{AllWithin}
-use Rattle.std.proofs.lemmas.List.{get_or_default}
-use Rattle.docker_model.specs.state.Stamp.{FileStamp, LedgerItem}
+use Rattle.cif_laws.proofs.Common.{◌≡◌, ◌+◌, ℕ, ◌<◌, ◌≤◌, List, map, Bool, true, length, get_or, subst, arith, rules, Option, ◌↔◌, IsTrue, AllWithin}
+use Rattle.cif_laws.proofs.Common.{get_or_default, FileStamp, LedgerItem}
 use Rattle.cif_laws.proofs.lists.Membership.{Contains-map}
 use Rattle.docker_state.specs.Staging.{HasIfKept, HasKeptItems}
 

@@ -20,5 +20,4 @@ pub mod UidRows
 pub mod Newest
 pub mod NothingToStage
 pub mod Timetables
-pub mod Gap
 pub mod IndexRooms

@@ -1,21 +1,25 @@
 -- The walk over a state's live keys returns the live table, in ascending order of keys.
-use Rattle.std.proofs.Common.{◌≡◌, List, [], ◌∷◌, refl, ap, sym, ◌∙◌, subst, inl, inr, ◌⊎◌, Contains, Some, arith, rules}
-use Rattle.std.specs.Prelude.{◌↔◌}
-use Rattle.std.specs.List.{AllByRecursion}
-use Rattle.std.specs.declared.cmp.Ordering.TheVariants.{Less}
-use Rattle.docker_model.specs.file.Change.{Key, Body}
-use Rattle.docker_model.specs.state.Op.{Op, deleted, lapsed, put_with, Entry, key_cmp, body_of}
-use Rattle.docker_model.specs.state.State.{State, AreAscending, IsValid, live_table}
-use Rattle.cif_laws.proofs.lists.Membership.{Contains-cons, cons-Contains, cons-Contains-first, nil-Contains}
+use Rattle.cif_laws.proofs.Common.{◌≡◌, List, [], ◌∷◌, refl, ap, sym, ◌∙◌, subst, inl, inr, Contains, Some, arith, rules, ◌↔◌, Key, Body, Op, put_with, Entry}
+use Rattle.cif_laws.proofs.Common.{key_cmp, body_of, State, AreAscending, IsValid, live_table, filter_map, option_and_then}
 use Rattle.state_laws.proofs.states.PlainTable.{find_in, one_per_key, live_at, live_none}
-use Rattle.docker_state.specs.Live.{put_before, live_rows, AreInKeyOrder}
+use Rattle.state_index.specs.PlaceRows.{live_row}
+use Rattle.state_index.proofs.Positions.{chosen_from, chosen_to, chosen_ascends}
+use Rattle.docker_state.specs.Live.{live_rows, AreInKeyOrder}
 
 -- a key with its body
 abbrev Row : Type 0
 Row = Key × Body
 
-abbrev SameRow : Row → Row → Type 0
-SameRow a b = a ≡ b
+put_of : (op : Op) (body : Body) → body_of op ≡ Some body → op ≡ put_with body
+put_of = search rules
+
+-- the walk over the entries returns the live row of each entry that has one
+live_are : (entries : List (Key × Entry)) → live_rows entries ≡ filter_map live_row entries
+live_are [] = refl
+live_are (first ∷ entries) = grind (arith, (live_are entries))
+
+live_row_is : (first : Key × Entry) (row : Row) → live_row first ≡ Some row → (first.0 ≡ row.0) × (first.1.op ≡ put_with row.1)
+live_row_is = search rules
 
 -- Says that some entry puts this body under this key.
 abbrev pub PutThere : List (Key × Entry) → Key → Body → Type 0
@@ -23,43 +27,16 @@ PutThere entries key body = (entry : Entry) × Contains entries (key, entry) × 
 
 -- for each key and body that the walk over the entries returns, there is an entry that puts the body under the key
 pub from_live : (entries : List (Key × Entry)) (key : Key) (body : Body) → Contains (live_rows entries) (key, body) → PutThere entries key body
-from_live [] key body among = absurd (nil-Contains (key, body) among)
-from_live (first ∷ entries) key body among = by first.1.op refl (from_live entries key body) among
-  where
-    later : PutThere entries key body → PutThere (first ∷ entries) key body
-    later found = (found.0, cons-Contains first entries (key, found.0) found.1, found.2)
-
-    here : (other : Body) → first.1.op ≡ put_with other → SameRow (first.0, other) (key, body) → PutThere (first ∷ entries) key body
-    here other is same =
-        let whole : first ≡ (key, first.1) = (λ i. ((same i).0, first.1)) in
-        (first.1, subst (Contains (first ∷ entries)) whole (cons-Contains-first first entries), is ∙ (λ i. put_with (same i).1))
-
-    by : (op : Op) → first.1.op ≡ op → (Contains (live_rows entries) (key, body) → PutThere entries key body)
-        → Contains (put_before first.0 op (live_rows entries)) (key, body) → PutThere (first ∷ entries) key body
-    by deleted is rest inside = later (rest inside)
-    by lapsed is rest inside = later (rest inside)
-    by (put_with other) is rest inside = cases (Contains-cons (first.0, other) (live_rows entries) (key, body) inside)
-      where
-        cases : SameRow (first.0, other) (key, body) ⊎ Contains (live_rows entries) (key, body) → PutThere (first ∷ entries) key body
-        cases (inl same) = here other is same
-        cases (inr behind) = later (rest behind)
+from_live entries key body among =
+    let found = chosen_from live_row entries (key, body) (subst (λ (rows : List Row). Contains rows (key, body)) (live_are entries) among) in
+    let told = live_row_is found.0 (key, body) found.2 in
+    (found.0.1, subst (Contains entries) (λ i. (told.0 i, found.0.1)) found.1, told.1)
 
 -- the walk over the entries returns each key and body that an entry puts
 pub to_live : (entries : List (Key × Entry)) (key : Key) (entry : Entry) (body : Body) → entry.op ≡ put_with body → Contains entries (key, entry)
     → Contains (live_rows entries) (key, body)
-to_live [] key entry body is among = absurd (nil-Contains (key, entry) among)
-to_live (first ∷ entries) key entry body is among = elim (Contains-cons first entries (key, entry) among) [
-  | inl same ↦ search rules
-  | inr inside ↦ before first.1.op ((to_live entries key entry body is) inside)
-]
-  where
-    before : (op : Op) → Contains (live_rows entries) (key, body) → Contains (put_before first.0 op (live_rows entries)) (key, body)
-    before deleted inside = inside
-    before lapsed inside = inside
-    before (put_with other) inside = cons-Contains (first.0, other) (live_rows entries) (key, body) inside
-
-put_of : (op : Op) (body : Body) → body_of op ≡ Some body → op ≡ put_with body
-put_of = search rules
+to_live entries key entry body is among = subst (λ (rows : List Row). Contains rows (key, body)) (sym (live_are entries))
+    (chosen_to live_row entries (key, entry) (key, body) among (ap (λ op. option_and_then {U = Row} (λ (b : Body). Some (key, b)) (body_of op)) is))
 
 -- in a valid state, if an entry puts a body under a key, the body is live under the key
 pub live_put : (state : State) → IsValid state → (key : Key) (body : Body) → PutThere state.entries key body → live_table state key ≡ Some body
@@ -84,20 +61,10 @@ live_walks state valid walked walked_is key body = (
       subst (λ (rows : List (Key × Body)). Contains rows (key, body)) (sym walked_is) (to_live state.entries key put.0 body put.2 put.1),
 )
 
-live_above : (key : Key) (entries : List (Key × Entry)) → AllByRecursion (λ (entry : Key × Entry). key_cmp key entry.0 ≡ Less) entries
-    → AllByRecursion (λ (row : Key × Body). key_cmp key row.0 ≡ Less) (live_rows entries)
-live_above key [] above = tt
-live_above key (first ∷ entries) above = grind (arith, (live_above key entries above.1))
-
 -- the walk over ascending entries returns keys in ascending order
 pub ascends : (entries : List (Key × Entry)) → AreAscending entries → AreInKeyOrder (live_rows entries)
-ascends [] up = tt
-ascends (first ∷ entries) up = by first.1.op (ascends entries up.1)
-  where
-    by : (op : Op) → AreInKeyOrder (live_rows entries) → AreInKeyOrder (put_before first.0 op (live_rows entries))
-    by deleted rest = rest
-    by lapsed rest = rest
-    by (put_with body) rest = (live_above first.0 entries up.0, rest)
+ascends entries up = subst AreInKeyOrder (sym (live_are entries)) (chosen_ascends live_row _ _ (λ a b c d below is_c is_d.
+    sym (λ i. key_cmp ((live_row_is a c is_c).0 i) ((live_row_is b d is_d).0 i)) ∙ below) entries up)
 
 -- the walk over the entries of a valid state returns keys in ascending order
 pub live_ascends : (state : State) → IsValid state → (walked : List (Key × Body)) → walked ≡ live_rows state.entries → AreInKeyOrder walked

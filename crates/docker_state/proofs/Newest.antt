@@ -1,17 +1,10 @@
 -- A stamp that is newer than all files in a ledger is newer than all entries from these files.
-use Rattle.std.proofs.Common.{◌≡◌, Bool, true, List, [], ◌∷◌, ◌++◌, map, sym, ◌∙◌, subst, inl, inr, ◌⊎◌, Contains, rules}
-use Rattle.std.specs.Prelude.{Option, ◌↔◌, IsTrue}
-use Rattle.std.specs.declared.cmp.Ordering.{Ordering}
-use Rattle.std.specs.declared.cmp.Ordering.TheVariants.{Less, Equal}
-use Rattle.std.specs.Ordering.{is_lt, nat_cmp, ordering_then}
-use Rattle.std.proofs.lemmas.List.{map-append}
-use Rattle.docker_model.specs.file.Change.{Key}
-use Rattle.docker_model.specs.state.Order.{IsBelow, IsAtMost, IsStrictlyAscending}
-use Rattle.docker_model.specs.state.Op.{Entry, op_cmp}
-use Rattle.docker_model.specs.state.Stamp.{FileStamp, LedgerItem, file_stamp_cmp, ledger_item_cmp, IsKept}
+use Rattle.cif_laws.proofs.Common.{◌≡◌, Bool, true, List, [], ◌∷◌, ◌++◌, map, sym, ◌∙◌, subst, inl, inr, ◌⊎◌, Contains, rules, Option, ◌↔◌, IsTrue, Ordering}
+use Rattle.cif_laws.proofs.Common.{Less, Equal, is_lt, nat_cmp, ordering_then, map-append, Key, IsBelow, IsAtMost, IsStrictlyAscending, Entry, op_cmp}
+use Rattle.cif_laws.proofs.Common.{FileStamp, LedgerItem, file_stamp_cmp, ledger_item_cmp, IsKept, State, IsValid, IsGoodEntry}
+use Rattle.std.proofs.lemmas.List.Elements.{Contains-push}
 use Rattle.state_laws.specs.Staging.{IsToStage}
-use Rattle.docker_model.specs.state.State.{State, IsValid, IsGoodEntry}
-use Rattle.cif_laws.proofs.lists.Membership.{Contains-cons, Contains-map, below_by_recursion, cons-Contains, cons-Contains-first, member_of}
+use Rattle.cif_laws.proofs.lists.Membership.{Contains-cons, Contains-map, below_by_recursion, member_of}
 use Rattle.cif_laws.proofs.orders.AtMost.{at_most_below, at_most_or, at_most_trans, level}
 use Rattle.cif_laws.proofs.orders.Orders.{file_stamp_total}
 
@@ -31,10 +24,6 @@ below_with a b stamp before low = elim (at_most_or file_stamp_total stamp a.stam
       let bad : Less ≡ Equal = sym low ∙ same in cc
 ]
 
-last_there : (before : List LedgerItem) (last : LedgerItem) → Contains (before ++ last ∷ []) last
-last_there [] last = cons-Contains-first last []
-last_there (item ∷ before) last = cons-Contains item (before ++ last ∷ []) last (last_there before last)
-
 -- a stamp above the stamp of a ledger's last item is above the stamps of all items
 pub above_last : (before : List LedgerItem) (last : LedgerItem) (stamp : FileStamp) → IsStrictlyAscending ledger_item_cmp (before ++ last ∷ [])
     → IsBelow file_stamp_cmp last.stamp stamp → (item : LedgerItem) → Contains (before ++ last ∷ []) item → IsBelow file_stamp_cmp item.stamp stamp
@@ -46,7 +35,7 @@ above_last (first ∷ before) last stamp up low item among =
         → IsBelow file_stamp_cmp item.stamp stamp
     by rest (inl same) = subst (λ (one : LedgerItem). IsBelow file_stamp_cmp one.stamp stamp) same
         (below_with first last stamp
-        (below_by_recursion (IsBelow ledger_item_cmp first) (before ++ last ∷ []) last up.0 (last_there before last)) low)
+        (below_by_recursion (IsBelow ledger_item_cmp first) (before ++ last ∷ []) last up.0 (Contains-push before last)) low)
     by rest (inr behind) = rest behind
 
 less_is : (o : Ordering) → is_lt o ≡ true → o ≡ Less

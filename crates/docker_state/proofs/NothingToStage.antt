@@ -1,13 +1,7 @@
 -- Lemmas on a join in which the second state adds nothing to the first state.
-use Rattle.std.proofs.Common.{◌≡◌, Bool, true, false, List, [], ◌∷◌, ◌++◌, map, length, refl, ap, sym, ◌∙◌, subst, inl, inr, Contains, arith}
-use Rattle.std.proofs.lemmas.Grind.{common_steps}
-use Rattle.std.specs.Prelude.{Option, ◌↔◌, IsTrue}
-use Rattle.std.specs.Ordering.{ordering_reverse}
-use Rattle.docker_model.specs.file.Change.{Key}
-use Rattle.docker_model.specs.state.Order.{IsBelow, IsAtMost}
-use Rattle.docker_model.specs.state.Stamp.{FileStamp, LedgerItem, file_stamp_cmp, IsFloor, IsKept}
-use Rattle.docker_model.specs.state.Op.{Entry}
-use Rattle.docker_model.specs.state.State.{State, IsValid, IsGoodEntry, IsJoin, raise_horizon}
+use Rattle.cif_laws.proofs.Common.{◌≡◌, Bool, true, false, List, [], ◌∷◌, ◌++◌, map, length, refl, ap, sym, ◌∙◌, subst, inl, inr, Contains, arith, common_steps}
+use Rattle.cif_laws.proofs.Common.{Option, ◌↔◌, IsTrue, ordering_reverse, Key, IsBelow, IsAtMost, FileStamp, LedgerItem, file_stamp_cmp, IsFloor, IsKept, Entry}
+use Rattle.cif_laws.proofs.Common.{State, IsValid, IsGoodEntry, IsJoin, raise_horizon}
 use Rattle.state_laws.specs.Staging.{IsToStage, IsStaged}
 use Rattle.cif_laws.proofs.lists.Membership.{Contains-cons, Contains-map, member_of, nil-Contains}
 use Rattle.cif_laws.proofs.orders.Orders.{file_stamp_total}

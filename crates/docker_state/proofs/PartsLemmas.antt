@@ -1,11 +1,8 @@
 -- Lemmas on adding a good entry to a state that is built step by step.
-use Rattle.std.proofs.Common.{◌≡◌, List, [], ◌∷◌, ◌++◌, map, ap, sym, ◌∙◌, subst}
-use Rattle.std.proofs.lemmas.List.{map-append}
+use Rattle.cif_laws.proofs.Common.{◌≡◌, List, [], ◌∷◌, ◌++◌, map, ap, sym, ◌∙◌, subst, map-append, State, IsValid, IsOpOf, IsStampHere}
 use Rattle.docker_model.specs.file.Change as model
 use Rattle.docker_model.specs.state.Op as ops
-use Rattle.docker_model.specs.state.State.{State, IsValid, IsOpOf}
 use Rattle.state_laws.proofs.joins.RaisedHorizon.{none_has_to}
-use Rattle.docker_model.specs.state.StatePart.{IsStampHere}
 use Rattle.state_laws.proofs.texts.StateGrown.{valid_more}
 use Rattle.cif_change.specs.Meaning.{key_meant}
 use Rattle.cif_change.specs.declared.key.Key.{Key}

@@ -1,25 +1,16 @@
 -- Rows that changes make, without numbers, and the last row for each key among them.
-use Rattle.std.proofs.Common.{◌≡◌, ℕ, suc, ◌<◌, List, [], ◌∷◌, ◌++◌, map, length, get_or, rules}
-use Rattle.std.proofs.Common.{sym, subst, Contains, All, false, arith}
-use Rattle.std.specs.Prelude.{slice_get, ◌↔◌}
-use Rattle.std.specs.List.{AllByRecursion}
-use Rattle.std.specs.List.Sorted.{IsSorted, IsPermutation}
-use Rattle.std.specs.Ordering.{is_lt}
-use Rattle.std.proofs.lemmas.List.{map-append}
-use Rattle.std.proofs.lemmas.List.Elements.{All-contains}
-use Rattle.std.proofs.lemmas.List.Sorted.{ranks_by, sorted_far, Contains-permutation, IsPermutation-sym, IsPermutation-map}
+use Rattle.cif_laws.proofs.Common.{recursion_from_All, ◌≡◌, ℕ, suc, ◌<◌, List, [], ◌∷◌, ◌++◌, map, length, get_or, rules, sym, subst, Contains, All, false}
+use Rattle.cif_laws.proofs.Common.{arith, ◌↔◌, IsSorted, IsPermutation, is_lt, map-append, All-contains, Contains-permutation, IsPermutation-sym}
+use Rattle.cif_laws.proofs.Common.{FileStamp, IsAtMost, IsGreatestAmong}
+use Rattle.std.proofs.lemmas.List.Sorted.{ranks_by, sorted_far, IsPermutation-map}
 use Rattle.docker_model.specs.file.Change as model
-use Rattle.docker_model.specs.state.Stamp.{FileStamp}
 use Rattle.docker_model.specs.state.Op as ops
-use Rattle.docker_model.specs.state.Order.{IsAtMost}
-use Rattle.docker_model.specs.state.State.{IsGreatestAmong}
-use Rattle.cif_change.specs.Meaning.{key_meant}
 use Rattle.cif_change.specs.declared.key.Key.{Key}
 use Rattle.docker_join.specs.declared.entry.Entry.{Entry}
 use Rattle.docker_join.specs.Meaning.{op_meant, row_meant}
 use Rattle.docker_join.specs.Records.{HasRecords}
 use Rattle.docker_join.specs.Rows.{AreAscending}
-use Rattle.docker_state.specs.Rows.{is_of_key, last_rows, made_by}
+use Rattle.docker_state.specs.Rows.{last_rows, made_by}
 use Rattle.docker_state.proofs.LastRows.{by_entry, AreSorted, lasts_ascend}
 use Rattle.docker_state.proofs.GreatestRows.{by_entry_total, not_under, last_is_greatest, greatest_is_last}
 
@@ -29,20 +20,11 @@ pub one_row_more : (file : FileStamp) (changes : List model.Change) (change : mo
     → map row_meant after ≡ map (made_by file) (changes ++ change ∷ [])
 one_row_more = search (rules, map-append)
 
--- suppose that the first two rows have different keys, and that each row after the first is the last row for its key. Then each row is the last row for its key
-pub one_apart_more : (row : Key × Entry) (behind : List (Key × Entry)) → is_of_key (slice_get behind 0) (key_meant row.0) ≡ false
-    → last_rows behind ≡ behind → last_rows (row ∷ behind) ≡ row ∷ behind
-one_apart_more = search rules
-
-all_at : (P : Key × Entry → Type 0) (xs : List (Key × Entry)) → ((j : ℕ) (d : Key × Entry) → j < length xs → P (get_or xs j d)) → AllByRecursion P xs
-all_at P [] each = tt
-all_at P (x ∷ xs) each = (each 0 x (omega arith), all_at P xs (λ j d within. each (suc j) d (omega arith)))
-
 from_far : (xs : List (Key × Entry)) → ((i j : ℕ) (d : Key × Entry) → i < j → j < length xs → is_lt (by_entry (get_or xs j d) (get_or xs i d)) ≡ false)
     → AreSorted xs
 from_far [] far = tt
 from_far (x ∷ xs) far = (
-  all_at (IsAtMost by_entry x) _ (λ j d within. not_under x _ (far 0 (suc j) d (omega arith) (omega arith))),
+  recursion_from_All (IsAtMost by_entry x) xs (λ j d within. not_under x _ (far 0 (suc j) d (omega arith) (omega arith))),
   from_far xs (λ i j d before within. far (suc i) (suc j) d (omega arith) (omega arith)),
 )
 

@@ -1,33 +1,16 @@
 -- The live rows at a place, found by a walk over all rows.
-use Rattle.std.proofs.Common.{◌≡◌, ℕ, List, [], ◌∷◌, length, refl, sym, subst, Some, Bool, true, false, Contains, arith}
-use Rattle.std.proofs.Common.{rules}
-use Rattle.std.specs.Prelude.{filter}
-use Rattle.std.specs.List.{AllByRecursion}
-use Rattle.std.specs.declared.cmp.Ordering.{Ordering}
-use Rattle.std.proofs.lemmas.Slice.Eq.{bytes_eq-Decides}
-use Rattle.docker_model.specs.file.Change.{Key, association_key, schedule_key, AssociationKey, ScheduleKey}
-use Rattle.docker_model.specs.file.Change.{Body, association_body, schedule_body}
-use Rattle.docker_model.specs.state.Op.{Entry}
-use Rattle.docker_model.specs.state.Order.{IsBelow, IsStrictlyAscending}
-use Rattle.docker_model.specs.state.State.{State, IsValid, live_table}
+use Rattle.cif_laws.proofs.Common.{◌≡◌, ℕ, List, [], ◌∷◌, length, refl, sym, subst, Some, Bool, true, false, Contains, arith, rules, filter, bytes_eq-Decides}
+use Rattle.cif_laws.proofs.Common.{Key, association_key, schedule_key, AssociationKey, ScheduleKey, Body, association_body, schedule_body, Entry, State}
+use Rattle.cif_laws.proofs.Common.{IsValid, live_table, Row, AreInKeyOrder}
 use Rattle.cif_laws.proofs.lists.FilteredMembers.{filter_back, filter_forth}
-use Rattle.docker_model.specs.state.Row.{Row, AreInKeyOrder}
 use Rattle.state_laws.specs.Index.{IsCalling, IsLinked, AreCalling, AreLinked}
 use Rattle.state_laws.proofs.indexes.CallsTest.{calls_test}
 use Rattle.state_index.specs.Counts.{IsCallingCount}
 use Rattle.docker_state.specs.Live.{live_rows}
 use Rattle.docker_state.specs.PlaceRows.{is_call, is_link, is_here, rows_here}
+use Rattle.cif_laws.proofs.lists.Later.{later_filter}
+use Rattle.cif_laws.proofs.orders.Ascending.{ascending_of, later_of}
 use Rattle.docker_state.proofs.LiveTable.{ascends, live_walks}
-
--- removing elements from an ascending list leaves an ascending list
-module _ {A : Type 0} (cmp : A → A → Ordering) (test : A → Bool) where
-  filter_above : (low : A) (xs : List A) → AllByRecursion (IsBelow cmp low) xs → AllByRecursion (IsBelow cmp low) (filter test xs)
-  filter_above low [] above = tt
-  filter_above low (x ∷ xs) above = grind (arith, (filter_above low xs above.1))
-
-  filter_ascends : (xs : List A) → IsStrictlyAscending cmp xs → IsStrictlyAscending cmp (filter test xs)
-  filter_ascends [] up = tt
-  filter_ascends (x ∷ xs) up = grind (arith, filter_above, (filter_ascends xs up.1))
 
 -- whether a row is at the place: an association there if `links` is true, and otherwise a schedule that calls there
 abbrev passes : Bool → List ℕ → Row → Bool
@@ -75,7 +58,7 @@ module _ (state : State) (valid : IsValid state) (place : List ℕ) where
   links = search (rules, bytes_eq-Decides)
 
   ascending_there : (links : Bool) → AreInKeyOrder (filter (passes links place) (live_rows state.entries))
-  ascending_there = search (rules, filter_ascends, links, ascends)
+  ascending_there links = ascending_of _ _ (later_filter _ (passes links place) _ (later_of _ _ (ascends state.entries valid.entries.1)))
 
   -- if `links` is false, the rows that the walk finds are exactly the live schedules that call at
   -- the place

@@ -1,20 +1,10 @@
 -- Lemmas on what staging one more entry does, and when a commit has nothing to do.
-use Rattle.std.proofs.Common.{◌≡◌, List, [], ◌++◌, sym, subst, inl, inr, ◌⊎◌, Contains, Some, None, eqb-true, arith, rules}
-use Rattle.std.proofs.lemmas.Grind.{common_steps}
-use Rattle.std.specs.Prelude.{Option, ◌↔◌, IsTrue, Bool, true, false, length, ◌==◌}
-use Rattle.std.specs.declared.cmp.Ordering.{Ordering}
-use Rattle.std.specs.declared.cmp.Ordering.TheVariants.{Less}
-use Rattle.std.specs.Ordering.{is_lt}
-use Rattle.std.proofs.Math.Nat.{max-zero}
-use Rattle.std.proofs.lemmas.List.Elements.{All-contains, Contains-append_left, Contains-append_cases}
+use Rattle.cif_laws.proofs.Common.{◌≡◌, List, [], ◌++◌, sym, subst, inl, inr, ◌⊎◌, Contains, Some, None, eqb-true, arith, rules, common_steps, Option, ◌↔◌}
+use Rattle.cif_laws.proofs.Common.{IsTrue, Bool, true, false, length, ◌==◌, Ordering, Less, is_lt, max-zero, All-contains, Contains-append_left}
+use Rattle.cif_laws.proofs.Common.{Contains-append_cases, FileStamp, LedgerItem, IsFloor, IsKept, entry_cmp, IsAtMost, lapse_entry, State, entry_at, IsValid}
+use Rattle.cif_laws.proofs.Common.{IsGoodEntry, IsGreatestAmong, IsJoin, IsStampHere}
 use Rattle.docker_model.specs.file.Change as model
-use Rattle.docker_model.specs.state.Stamp.{FileStamp, LedgerItem, IsFloor, IsKept}
 use Rattle.docker_model.specs.state.Op as ops
-use Rattle.docker_model.specs.state.Op.{entry_cmp}
-use Rattle.docker_model.specs.state.Order.{IsAtMost}
-use Rattle.docker_model.specs.state.Lapse.{lapse_entry}
-use Rattle.docker_model.specs.state.State.{State, entry_at, IsValid, IsGoodEntry, IsGreatestAmong, IsJoin}
-use Rattle.docker_model.specs.state.StatePart.{IsStampHere}
 use Rattle.state_laws.specs.Staging.{IsGreaterThan, IsToStage, staged_state}
 use Rattle.state_laws.proofs.joins.StagedEntry.{to_stage_by_get}
 use Rattle.cif_laws.proofs.lists.Membership.{all_members, Contains-map, nil-Contains}

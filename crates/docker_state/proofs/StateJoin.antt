@@ -1,16 +1,10 @@
 -- The join of two states, made from the union of their ledgers and the join of their rows.
-use Rattle.std.proofs.Common.{◌≡◌, ℕ, List, ◌++◌, map, ap, sym, ◌∙◌, subst, Contains, arith, rules}
-use Rattle.std.proofs.lemmas.Grind.{common_steps}
-use Rattle.std.specs.Prelude.{Option, ◌↔◌, max}
-use Rattle.std.proofs.Math.Nat.{max_comm}
+use Rattle.cif_laws.proofs.Common.{◌≡◌, ℕ, List, ◌++◌, map, ap, sym, ◌∙◌, subst, Contains, arith, rules, common_steps, Option, ◌↔◌, max, max_comm}
+use Rattle.cif_laws.proofs.Common.{ledger_item_cmp, IsFloor, IsKept, key_cmp, IsStrictlyAscending, IsValid, IsOpOf, IsJoin, lapse_entry, lapse_entries}
+use Rattle.cif_laws.proofs.Common.{IsGreatestAmong}
 use Rattle.docker_model.specs.file.Change as model
 use Rattle.docker_model.specs.state.Stamp as stamps
-use Rattle.docker_model.specs.state.Stamp.{ledger_item_cmp, IsFloor, IsKept}
 use Rattle.docker_model.specs.state.Op as ops
-use Rattle.docker_model.specs.state.Op.{key_cmp}
-use Rattle.docker_model.specs.state.Order.{IsStrictlyAscending}
-use Rattle.docker_model.specs.state.State.{IsValid, IsOpOf, IsJoin}
-use Rattle.docker_model.specs.state.Lapse.{lapse_entry, lapse_entries}
 use Rattle.docker_join.specs.declared.entry.Entry.{Entry}
 use Rattle.docker_join.specs.Records.{HasRecords}
 use Rattle.docker_join.specs.Rows.{AreAscending, IsJoinOfRows}
@@ -18,10 +12,9 @@ use Rattle.docker_join.specs.Meaning.{row_meant}
 use Rattle.docker_state.specs.declared.item.LedgerItem.{LedgerItem}
 use Rattle.docker_state.specs.Meaning.{item_meant, state_meant}
 use Rattle.cif_change.specs.declared.key.Key.{Key}
-use Rattle.docker_join.proofs.MergedRows.{walk, walk_joins}
 use Rattle.docker_join.proofs.MeantOrder.{ascending_meant, meant_ascending}
 use Rattle.docker_state.proofs.LapsedTables.{joined_lapses}
-use Rattle.docker_state.proofs.TableJoin.{Keyed, higher, joined_greatest, greatest_joined}
+use Rattle.docker_state.proofs.TableJoin.{Keyed, higher}
 
 -- Says that a ledger is the union of two other ledgers: it has exactly their items.
 abbrev pub HasUnion : List LedgerItem → List LedgerItem → List LedgerItem → Type 0
@@ -76,27 +69,20 @@ module _ (g h : ℕ) (items others : List LedgerItem) (first second : List (Key 
           let kept = (row_in (key, entry)).0 among in
           let from = (lapses key entry).0 kept.0 in (
             from.0,
-            joined_greatest _ _ _ up_first up_second whole_is _ _ from.1,
+            from.1,
             subst (λ (e : ops.Entry). IsKept floor e.stamp.file) (sym from.2) kept.1,
             under from.0 ∙ from.2,
           ),
       λ told.
           let same = sym (under told.0) ∙ told.3 in
-          let best = greatest_joined _ _ _ up_first up_second whole_is entry_records _ _ told.1 in
-          (row_in (key, entry)).1 ((lapses key entry).1 (told.0, best, same), subst (λ (e : ops.Entry). IsKept floor e.stamp.file) same told.2),
+          (row_in (key, entry)).1 ((lapses key entry).1 (told.0, told.1, same), subst (λ (e : ops.Entry). IsKept floor e.stamp.file) same told.2),
     );
   }
     where
-      whole : List (Key × Entry)
-      whole = walk higher first second
-
-      whole_is : IsJoinOfRows higher first second whole
-      whole_is = walk_joins _ _ _ up_first up_second
-
       under : (entry : ops.Entry) → lapse_entry horizon entry ≡ lapse_entry (max g h) entry
       under entry = ap (λ n. lapse_entry n entry) horizon_is
 
       lapses : (key : model.Key) (entry : ops.Entry) → Contains (map row_meant joined) (key, entry)
-          ↔ ((before : ops.Entry) × Contains (map row_meant whole) (key, before) × (lapse_entry (max g h) before ≡ entry))
+          ↔ ((before : ops.Entry) × IsGreatestAmong (map row_meant first ++ map row_meant second) key before × (lapse_entry (max g h) before ≡ entry))
       lapses = joined_lapses _ _ _ _ _ up_first up_second left_is
-          (right_is ∙ ap (λ n. lapse_entries n (map row_meant second)) (max_comm h g)) entry_records _ _ whole_is is
+          (right_is ∙ ap (λ n. lapse_entries n (map row_meant second)) (max_comm h g)) entry_records _ is

@@ -1,10 +1,7 @@
 -- Lemmas on converting the fields of a state from the code's types to the definitions' types.
-use Rattle.std.proofs.Common.{◌≡◌, ℕ, List, [], ◌∷◌, map, refl, ap, sym, ◌∙◌, subst, Some, None, arith}
-use Rattle.std.specs.Prelude.{Option, find, ◌==◌}
-use Rattle.std.specs.Option.{option_map}
+use Rattle.cif_laws.proofs.Common.{◌≡◌, ℕ, List, [], ◌∷◌, map, refl, ap, sym, ◌∙◌, subst, Some, None, arith, Option, find, ◌==◌, option_map, FileStamp}
+use Rattle.cif_laws.proofs.Common.{LedgerItem, IsFloor, IsLedger, entry_at}
 use Rattle.docker_model.specs.file.Change as model
-use Rattle.docker_model.specs.state.Stamp.{FileStamp, LedgerItem, IsFloor}
-use Rattle.docker_model.specs.state.State.{IsLedger, entry_at}
 use Rattle.state_laws.proofs.joins.JoinValid.{floor_is_first_full}
 use Rattle.state_laws.proofs.texts.StateGrown.{valid_without}
 use Rattle.cif_change.specs.declared.key.Key.{Key}

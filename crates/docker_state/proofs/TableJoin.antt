@@ -1,16 +1,10 @@
 -- The join of two tables has, for each key, the greater of the two tables' entries.
-use Rattle.std.proofs.Common.{◌≡◌, List, ◌++◌, map, refl, ap, sym, ◌∙◌, subst, inl, inr, Contains, Some, None}
-use Rattle.std.specs.Prelude.{Option}
-use Rattle.std.specs.Ordering.{on, ord_max}
-use Rattle.std.specs.Cmp.{on_total}
-use Rattle.std.proofs.lemmas.List.Elements.{Contains-append_left, Contains-append_right, Contains-append_cases}
+use Rattle.cif_laws.proofs.Common.{◌≡◌, List, ◌++◌, map, refl, ap, ◌⊎◌, sym, ◌∙◌, subst, inl, inr, Contains, Some, None, Option, on, on_total}
+use Rattle.cif_laws.proofs.Common.{Contains-append_left, Contains-append_right, Contains-append_cases, key_cmp, entry_cmp, FileStamp, Ordering, IsAtMost}
+use Rattle.cif_laws.proofs.Common.{IsGreatestAmong}
+use Rattle.std.specs.Ordering.{ord_max}
 use Rattle.docker_model.specs.file.Change as model
 use Rattle.docker_model.specs.state.Op as ops
-use Rattle.docker_model.specs.state.Op.{key_cmp, entry_cmp}
-use Rattle.docker_model.specs.state.Stamp.{FileStamp}
-use Rattle.std.specs.declared.cmp.Ordering.{Ordering}
-use Rattle.docker_model.specs.state.Order.{IsAtMost, IsGreater}
-use Rattle.docker_model.specs.state.State.{IsGreatestAmong}
 use Rattle.cif_laws.proofs.orders.Orders.{entry_total}
 use Rattle.cif_laws.proofs.orders.AtMost.{level, at_most_itself}
 use Rattle.cif_laws.proofs.lists.Membership.{Contains-map, map-Contains}
@@ -62,109 +56,75 @@ higher = ord_max (on entry_meant entry_cmp)
 pub same_value : (a b : Entry) (o : Option Entry) → o ≡ Some a → o ≡ Some b → a ≡ b
 same_value a b o is_a is_b = cc
 
+-- the joined value is one of the two values
+picked_from : (a b : Option Entry) (value : Entry) → picked_value higher a b ≡ Some value → (a ≡ Some value) ⊎ (b ≡ Some value)
+picked_from None b value is = inr is
+picked_from (Some v) None value is = inl is
+picked_from (Some v) (Some w) value is =
+    elim (greater_max (λ e. HasRecords (op_meant e.op)) (on_total entry_meant entry_total) v w).among [
+      | inl same ↦ inl (ap Some (sym same) ∙ is)
+      | inr same ↦ inr (ap Some (sym same) ∙ is)
+    ]
+
+-- if there is a value, there is a joined value, and the value is at most equal to it
+picked_top : (a b : Option Entry) (e : Entry) → (a ≡ Some e) ⊎ (b ≡ Some e)
+    → (value : Entry) × (picked_value higher a b ≡ Some value) × IsAtMost entry_cmp (entry_meant e) (entry_meant value)
+picked_top None b e (inl is) = absurd (let none : None ≡ Some e = is in cc)
+picked_top None b e (inr is) = (e, is, at_most_itself entry_total (entry_meant e))
+picked_top (Some v) None e (inl is) = (e, is, at_most_itself entry_total (entry_meant e))
+picked_top (Some v) None e (inr is) = absurd (let none : None ≡ Some e = is in cc)
+picked_top (Some v) (Some w) e is =
+    let top = greater_max (λ e. HasRecords (op_meant e.op)) (on_total entry_meant entry_total) v w in (
+      higher v w,
+      refl,
+      elim is [
+        | inl first ↦ subst (λ x. IsAtMost entry_cmp (entry_meant x) (entry_meant (higher v w))) (let same : v ≡ e = cc in same) top.first
+        | inr second ↦ subst (λ x. IsAtMost entry_cmp (entry_meant x) (entry_meant (higher v w))) (let same : w ≡ e = cc in same) top.second
+      ],
+    )
+
 module _ (first second joined : List (Key × Entry)) (up_first : AreAscending first) (up_second : AreAscending second)
     (is : IsJoinOfRows higher first second joined) where
   abbrev Both : List (model.Key × ops.Entry)
   Both = map row_meant first ++ map row_meant second
 
-  -- the value of the join at a key is the greatest entry that the two tables have for this key
-  up : (key : model.Key) (a b : Option Entry) → value_at first key ≡ a → value_at second key ≡ b → (value : Entry) → picked_value higher a b ≡ Some value
-      → IsGreatestAmong Both key (entry_meant value)
-  up key None None is_a is_b value here = cc
-  up key (Some v) None is_a is_b value here =
-      let same : v ≡ value = cc in
-      record {
-        among = Contains-append_left (map row_meant first) (map row_meant second) (key, entry_meant value) (in_rows first key value (is_a ∙ ap Some same));
-        greatest = λ other among. elim (Contains-append_cases (map row_meant first) (map row_meant second) (key, other) among) [
-          | inl inside ↦
-              let there = value_in first up_first key other inside in
-              let level_with : there.0 ≡ value = same_value there.0 value (value_at first key) there.1 (is_a ∙ here) in
-              subst (λ e. IsAtMost entry_cmp e (entry_meant value)) (ap entry_meant (sym level_with) ∙ there.2) (at_most_itself entry_total (entry_meant value))
-          | inr inside ↦ let there = value_in second up_second key other inside in absurd (let none : None ≡ Some there.0 = sym is_b ∙ there.1 in cc)
-        ];
-      }
-  up key None (Some w) is_a is_b value here =
-      let same : w ≡ value = cc in
-      record {
-        among = Contains-append_right (map row_meant first) (map row_meant second) (key, entry_meant value) (in_rows second key value (is_b ∙ ap Some same));
-        greatest = λ other among. elim (Contains-append_cases (map row_meant first) (map row_meant second) (key, other) among) [
-          | inr inside ↦
-              let there = value_in second up_second key other inside in
-              let level_with : there.0 ≡ value = same_value there.0 value (value_at second key) there.1 (is_b ∙ here) in
-              subst (λ e. IsAtMost entry_cmp e (entry_meant value)) (ap entry_meant (sym level_with) ∙ there.2) (at_most_itself entry_total (entry_meant value))
-          | inl inside ↦ let there = value_in first up_first key other inside in absurd (let none : None ≡ Some there.0 = sym is_a ∙ there.1 in cc)
-        ];
-      }
-  up key (Some v) (Some w) is_a is_b value here =
-      let top : IsGreater (on entry_meant entry_cmp) v w (higher v w) = greater_max (λ e. HasRecords (op_meant e.op)) (on_total entry_meant entry_total) v w in
-      let same : higher v w ≡ value = cc in
-      let greater : IsGreater (on entry_meant entry_cmp) v w value = subst (IsGreater (on entry_meant entry_cmp) v w) same top in
-      record {
-        among = elim greater.among [
-          | inl same ↦ Contains-append_left (map row_meant first) (map row_meant second) (key, entry_meant value)
-              (in_rows first key value (is_a ∙ ap Some (sym same)))
-          | inr same ↦ Contains-append_right (map row_meant first) (map row_meant second) (key, entry_meant value)
-              (in_rows second key value (is_b ∙ ap Some (sym same)))
-        ];
-        greatest = λ other among. elim (Contains-append_cases (map row_meant first) (map row_meant second) (key, other) among) [
-          | inl inside ↦
-              let there = value_in first up_first key other inside in
-              let level_with : v ≡ there.0 = same_value v there.0 (value_at first key) is_a there.1 in
-              subst (λ e. IsAtMost entry_cmp e (entry_meant value)) (ap entry_meant level_with ∙ there.2) greater.first
-          | inr inside ↦
-              let there = value_in second up_second key other inside in
-              let level_with : w ≡ there.0 = same_value w there.0 (value_at second key) is_b there.1 in
-              subst (λ e. IsAtMost entry_cmp e (entry_meant value)) (ap entry_meant level_with ∙ there.2) greater.second
-        ];
-      }
+  -- if one of the tables has an entry for a key, so does the join, and the entry is at most equal to the join's entry
+  joined_over : (key : model.Key) (entry : ops.Entry) → Contains Both (key, entry)
+      → (e : Entry) × (entry_meant e ≡ entry) × (value : Entry) × (value_at joined key ≡ Some value) × IsAtMost entry_cmp entry (entry_meant value)
+  joined_over key entry among = elim (Contains-append_cases (map row_meant first) (map row_meant second) (key, entry) among) [
+    | inl inside ↦ of (value_in first up_first key entry inside) (λ e e_is. inl e_is)
+    | inr inside ↦ of (value_in second up_second key entry inside) (λ e e_is. inr e_is)
+  ]
+    where
+      of : {o : Option Entry} → (e : Entry) × (o ≡ Some e) × (entry_meant e ≡ entry)
+          → ((e : Entry) → o ≡ Some e → (value_at first key ≡ Some e) ⊎ (value_at second key ≡ Some e))
+          → (e : Entry) × (entry_meant e ≡ entry) × (value : Entry) × (value_at joined key ≡ Some value) × IsAtMost entry_cmp entry (entry_meant value)
+      of e side =
+          let over = picked_top (value_at first key) (value_at second key) e.0 (side e.0 e.1) in
+          (e.0, e.2, over.0, is.values key ∙ over.1, subst (λ x. IsAtMost entry_cmp x (entry_meant over.0)) e.2 over.2)
 
   -- each entry of the join is the greatest entry that the two tables have for its key
   pub joined_greatest : (key : model.Key) (entry : ops.Entry) → Contains (map row_meant joined) (key, entry) → IsGreatestAmong Both key entry
   joined_greatest key entry among =
       let there = value_in joined is.ascends key entry among in
-      subst (IsGreatestAmong Both key) there.2 (up key (value_at first key) (value_at second key) refl refl there.0 (sym (is.values key) ∙ there.1))
-
-  -- if the first table has a value at a key, so does the join
-  some_left : (v : Entry) (b : Option Entry) → (m : Entry) × (picked_value higher (Some v) b ≡ Some m)
-  some_left v None = (v, refl)
-  some_left v (Some w) = (higher v w, refl)
-
-  some_right : (a : Option Entry) (w : Entry) → (m : Entry) × (picked_value higher a (Some w) ≡ Some m)
-  some_right None w = (w, refl)
-  some_right (Some v) w = (higher v w, refl)
-
-  -- if one of the tables has an entry for a key, so does the join
-  pub joined_has : (key : model.Key) (entry : ops.Entry) → Contains Both (key, entry) → (m : ops.Entry) × Contains (map row_meant joined) (key, m)
-  joined_has key entry among = elim (Contains-append_cases (map row_meant first) (map row_meant second) (key, entry) among) [
-    | inl inside ↦
-        let e = value_in first up_first key entry inside in
-        let m = some_left e.0 (value_at second key) in
-        (entry_meant m.0, in_rows joined key m.0 (is.values key ∙ (λ i. picked_value higher (e.1 i) (value_at second key)) ∙ m.1))
-    | inr inside ↦
-        let e = value_in second up_second key entry inside in
-        let m = some_right (value_at first key) e.0 in
-        (entry_meant m.0, in_rows joined key m.0 (is.values key ∙ (λ i. picked_value higher (value_at first key) (e.1 i)) ∙ m.1))
-  ]
+      record {
+        among = subst (λ e. Contains Both (key, e)) there.2 (elim (picked_from _ _ there.0 (sym (is.values key) ∙ there.1)) [
+          | inl in_first ↦ Contains-append_left (map row_meant first) (map row_meant second) _ (in_rows first key there.0 in_first)
+          | inr in_second ↦ Contains-append_right (map row_meant first) (map row_meant second) _ (in_rows second key there.0 in_second)
+        ]);
+        greatest = λ other inside.
+            let over = joined_over key other inside in
+            subst (IsAtMost entry_cmp other) (ap entry_meant (same_value over.2 there.0 _ over.3 there.1) ∙ there.2) over.4;
+      }
 
   -- if the bodies' lines are records, the greatest entry that the two tables have for a key is in the join
   pub greatest_joined : ((pair : model.Key × ops.Entry) → Contains Both pair → HasRecords pair.1.op) → (key : model.Key) (entry : ops.Entry)
       → IsGreatestAmong Both key entry → Contains (map row_meant joined) (key, entry)
-  greatest_joined records key entry best = elim (Contains-append_cases (map row_meant first) (map row_meant second) (key, entry) best.among) [
-    | inl inside ↦
-        let e = value_in first up_first _ entry inside in
-        let m = some_left _ (value_at second key) in
-        at e.0 e.2 m.0 (is.values key ∙ (λ i. picked_value higher (e.1 i) (value_at second key)) ∙ m.1)
-    | inr inside ↦
-        let e = value_in _ up_second key _ inside in
-        let m = some_right (value_at first key) _ in
-        at e.0 e.2 m.0 (is.values key ∙ (λ i. picked_value higher (value_at first key) (e.1 i)) ∙ m.1)
-  ]
-    where
-      at : (e : Entry) → entry_meant e ≡ entry → (m : Entry) → value_at joined key ≡ Some m → Contains (map row_meant joined) (key, entry)
-      at e e_is m m_is =
-          let inside : Contains (map row_meant joined) (key, entry_meant m) = in_rows _ key _ m_is in
-          let top : IsGreatestAmong Both key (entry_meant m) = joined_greatest key _ inside in
-          let tied = level entry_total (entry_meant m) _ (best.greatest (entry_meant m) top.among) (top.greatest entry best.among) in
-          let same : m ≡ e = exact_entry m _ (records (key, entry_meant m) top.among)
-          (subst (λ (v : ops.Entry). HasRecords v.op) (sym e_is) (records (key, entry) best.among)) (ap (entry_cmp (entry_meant m)) e_is ∙ tied) in
-          subst (λ v. Contains (map row_meant joined) (key, v)) (ap entry_meant same ∙ e_is) inside
+  greatest_joined records key entry best =
+      let over = joined_over key entry best.among in
+      let inside = in_rows joined key over.2 over.3 in
+      let top = joined_greatest key (entry_meant over.2) inside in
+      let tied = level entry_total (entry_meant over.2) entry (best.greatest (entry_meant over.2) top.among) over.4 in
+      let same : over.2 ≡ over.0 = exact_entry over.2 over.0 (records (key, entry_meant over.2) top.among)
+      (subst (λ (v : ops.Entry). HasRecords v.op) (sym over.1) (records (key, entry) best.among)) (ap (entry_cmp (entry_meant over.2)) over.1 ∙ tied) in
+      subst (λ v. Contains (map row_meant joined) (key, v)) (ap entry_meant same ∙ over.1) inside

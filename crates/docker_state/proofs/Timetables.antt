@@ -1,6 +1,5 @@
 -- The rows of a timetable are good rows, since all live rows of a valid state are good rows.
-use Rattle.std.proofs.Common.{rules}
-use Rattle.docker_model.specs.state.State.{State, IsValid, live_table}
+use Rattle.cif_laws.proofs.Common.{rules, State, IsValid, live_table}
 use Rattle.state_laws.specs.CountedRows.{IsOfGoodRows}
 use Rattle.state_laws.proofs.states.CountedRows.{counted_good}
 use Rattle.state_laws.proofs.states.GoodBodies.{good_bodies}

@@ -1,15 +1,9 @@
 -- A walk over two ascending lists at once. Its output has the elements of both lists, in ascending order and without duplicates.
-use Rattle.std.proofs.Common.{◌≡◌, List, [], ◌∷◌, ◌++◌, refl, ap, sym, ◌∙◌, subst, inl, inr, ◌⊎◌, Contains, None, MatchOption, arith, rules}
-use Rattle.std.specs.Prelude.{◌↔◌, Option, ⊤}
-use Rattle.std.specs.Option.{option_to_list}
-use Rattle.std.specs.List.{AllByRecursion}
-use Rattle.std.specs.declared.cmp.Ordering.{Ordering}
-use Rattle.std.specs.declared.cmp.Ordering.TheVariants.{Less, Equal, Greater}
-use Rattle.std.specs.Ordering.{ordering_reverse}
-use Rattle.std.specs.Cmp.{IsTotalOrder}
-use Rattle.std.proofs.lemmas.List.{append-nil}
-use Rattle.docker_model.specs.state.Order.{IsBelow, IsStrictlyAscending}
-use Rattle.cif_laws.proofs.lists.Membership.{Contains-cons, cons-Contains, cons-Contains-first, nil-Contains}
+use Rattle.cif_laws.proofs.Common.{◌≡◌, List, [], ◌∷◌, ◌++◌, refl, ap, sym, ◌∙◌, subst, inl, inr, ◌⊎◌, Contains, None, MatchOption, arith, rules, ◌↔◌, Option}
+use Rattle.cif_laws.proofs.Common.{⊤, option_to_list, AllByRecursion, Ordering, Less, Equal, Greater, ordering_reverse, IsTotalOrder, append-nil, IsBelow}
+use Rattle.cif_laws.proofs.Common.{IsStrictlyAscending}
+use Rattle.cif_laws.proofs.lists.AllOf.{all_weaker}
+use Rattle.cif_laws.proofs.lists.Membership.{below_by_recursion, each_member, cons-Contains, cons-Contains-first, nil-Contains}
 
 -- one step of the walk: the lesser of two elements, followed by the rest of the walk
 abbrev pub placed : {A : Type 0} → Ordering → A → A → List A → List A → List A → List A
@@ -27,41 +21,38 @@ abbrev pub united : {A : Type 0} → (A → A → Ordering) → List A → List 
 united cmp [] ys = ys
 united cmp (x ∷ xs) ys = united_from cmp x (united cmp xs) ys
 
+-- if all elements of two lists have a property, so do all elements that the walk over them returns
+module _ {A : Type 0} (cmp : A → A → Ordering) (P : A → Type 0) where
+  from_all : (x : A) (rest : List A → List A) → P x → ((ys : List A) → AllByRecursion P ys → AllByRecursion P (rest ys))
+      → (ys : List A) → AllByRecursion P ys → AllByRecursion P (united_from cmp x rest ys)
+  from_all x rest here behind [] all = (here, behind [] tt)
+  from_all x rest here behind (y ∷ ys) all = grind (arith, (from_all x rest here behind ys all.1))
+
+  united_all : (xs ys : List A) → AllByRecursion P xs → AllByRecursion P ys → AllByRecursion P (united cmp xs ys)
+  united_all [] ys all_x all_y = all_y
+  united_all (x ∷ xs) ys all_x all_y = from_all x (united cmp xs) all_x.0 (λ zs. united_all xs zs all_x.1) ys all_y
+
 module _ {A : Type 0} {cmp : A → A → Ordering} (total : IsTotalOrder cmp) where
-  abbrev Above : A → List A → Type 0
-  Above low xs = AllByRecursion (IsBelow cmp low) xs
+  -- elements that are above one element are above any lower element, and above any element that ties with it
+  above_lower : (low high : A) (xs : List A) → cmp low high ≡ Less → AllByRecursion (IsBelow cmp high) xs → AllByRecursion (IsBelow cmp low) xs
+  above_lower low high xs below = all_weaker (IsBelow cmp high) (IsBelow cmp low) (λ x above. total.trans low high x below above) xs
 
-  above_lower : (low high : A) (xs : List A) → cmp low high ≡ Less → Above high xs → Above low xs
-  above_lower low high [] below above = tt
-  above_lower low high (x ∷ xs) below above = (total.trans low high x below above.0, above_lower low high xs below above.1)
-
-  above_level : (low high : A) (xs : List A) → cmp low high ≡ Equal → Above high xs → Above low xs
-  above_level low high [] tied above = tt
-  above_level low high (x ∷ xs) tied above = (total.congr low high x tied ∙ above.0, above_level low high xs tied above.1)
-
-  turned : (x y : A) → cmp x y ≡ Greater → cmp y x ≡ Less
-  turned x y greater = total.antisymm y x ∙ ap ordering_reverse greater
-
-  from_above : (low x : A) (rest : List A → List A) → cmp low x ≡ Less → ((ys : List A) → Above low ys → Above low (rest ys))
-      → (ys : List A) → Above low ys → Above low (united_from cmp x rest ys)
-  from_above low x rest below behind [] above = (below, behind [] tt)
-  from_above low x rest below behind (y ∷ ys) above = grind (arith, (from_above low x rest below behind ys above.1))
-
-  united_above : (low : A) (xs ys : List A) → Above low xs → Above low ys → Above low (united cmp xs ys)
-  united_above low [] ys above_x above_y = above_y
-  united_above low (x ∷ xs) ys above_x above_y = from_above low x (united cmp xs) above_x.0 (λ zs. united_above low xs zs above_x.1) ys above_y
+  above_level : (low high : A) (xs : List A) → cmp low high ≡ Equal → AllByRecursion (IsBelow cmp high) xs → AllByRecursion (IsBelow cmp low) xs
+  above_level low high xs tied = all_weaker (IsBelow cmp high) (IsBelow cmp low) (λ x above. total.congr low high x tied ∙ above) xs
 
   from_ascends : (x : A) (xs : List A) → IsStrictlyAscending cmp (x ∷ xs) →
       ((ys : List A) → IsStrictlyAscending cmp ys → IsStrictlyAscending cmp (united cmp xs ys))
       → (ys : List A) → IsStrictlyAscending cmp ys → IsStrictlyAscending cmp (united_from cmp x (united cmp xs) ys)
-  from_ascends x xs up_x behind [] up_y = (united_above x xs [] up_x.0 tt, behind [] tt)
+  from_ascends x xs up_x behind [] up_y = (united_all cmp (IsBelow cmp x) xs [] up_x.0 tt, behind [] tt)
   from_ascends x xs up_x behind (y ∷ ys) up_y = by (cmp x y) refl (from_ascends x xs up_x behind ys up_y.1)
     where
       by : (o : Ordering) → cmp x y ≡ o → IsStrictlyAscending cmp (united_from cmp x (united cmp xs) ys)
           → IsStrictlyAscending cmp (placed o x y (united cmp xs (y ∷ ys)) (united cmp xs ys) (united_from cmp x (united cmp xs) ys))
-      by Less is later = (united_above x xs (y ∷ ys) up_x.0 (is, above_lower x y ys is up_y.0), behind (y ∷ ys) up_y)
-      by Equal is later = (united_above x xs ys up_x.0 (above_level x y ys is up_y.0), behind ys up_y.1)
-      by Greater is later = (united_above y (x ∷ xs) ys (turned x y is, above_lower y x xs (turned x y is) up_x.0) up_y.0, later)
+      by Less is later = (united_all cmp (IsBelow cmp x) xs (y ∷ ys) up_x.0 (is, above_lower x y ys is up_y.0), behind (y ∷ ys) up_y)
+      by Equal is later = (united_all cmp (IsBelow cmp x) xs ys up_x.0 (above_level x y ys is up_y.0), behind ys up_y.1)
+      by Greater is later =
+          let turned : cmp y x ≡ Less = total.antisymm y x ∙ ap ordering_reverse is in
+          (united_all cmp (IsBelow cmp y) (x ∷ xs) ys (turned, above_lower y x xs turned up_x.0) up_y.0, later)
 
   -- the walk over two ascending lists results in an ascending list
   pub united_ascends : (xs ys : List A) → IsStrictlyAscending cmp xs → IsStrictlyAscending cmp ys → IsStrictlyAscending cmp (united cmp xs ys)
@@ -73,34 +64,9 @@ module _ {A : Type 0} (cmp : A → A → Ordering) (exact : (x y : A) → cmp x 
   abbrev Either : List A → List A → A → Type 0
   Either xs ys z = Contains xs z ⊎ Contains ys z
 
-  first_more : (x : A) (xs ys : List A) (z : A) → Either xs ys z → Either (x ∷ xs) ys z
-  first_more = search (rules, cons-Contains)
-
-  second_more : (y : A) (xs ys : List A) (z : A) → Either xs ys z → Either xs (y ∷ ys) z
-  second_more = search (rules, cons-Contains)
-
-  in_first : (x : A) (xs ys tail : List A) (z : A) → (Contains tail z → Either xs ys z) → (x ≡ z) ⊎ Contains tail z → Either (x ∷ xs) ys z
-  in_first x xs ys tail z rest (inl same) = inl (subst (Contains (x ∷ xs)) same (cons-Contains-first x xs))
-  in_first x xs ys tail z rest (inr among) = first_more x xs ys z (rest among)
-
-  in_second : (y : A) (xs ys tail : List A) (z : A) → (Contains tail z → Either xs ys z) → (y ≡ z) ⊎ Contains tail z → Either xs (y ∷ ys) z
-  in_second y xs ys tail z rest (inl same) = inr (subst (Contains (y ∷ ys)) same (cons-Contains-first y ys))
-  in_second y xs ys tail z rest (inr among) = second_more y xs ys z (rest among)
-
-  from_back : (x : A) (xs : List A) (rest : List A → List A) → ((ys : List A) (z : A) → Contains (rest ys) z → Either xs ys z)
-      → (ys : List A) (z : A) → Contains (united_from cmp x rest ys) z → Either (x ∷ xs) ys z
-  from_back x xs rest behind [] z among = in_first x xs [] (rest []) z (behind [] z) (Contains-cons x (rest []) z among)
-  from_back x xs rest behind (y ∷ ys) z among = by (cmp x y) (from_back x xs rest behind ys z) among
-    where
-      by : (o : Ordering) → (Contains (united_from cmp x rest ys) z → Either (x ∷ xs) ys z)
-          → Contains (placed o x y (rest (y ∷ ys)) (rest ys) (united_from cmp x rest ys)) z → Either (x ∷ xs) (y ∷ ys) z
-      by Less later inside = in_first x xs (y ∷ ys) (rest (y ∷ ys)) z (behind (y ∷ ys) z) (Contains-cons x (rest (y ∷ ys)) z inside)
-      by Equal later inside = second_more y (x ∷ xs) ys z (in_first x xs ys (rest ys) z (behind ys z) (Contains-cons x (rest ys) z inside))
-      by Greater later inside = in_second y (x ∷ xs) ys (united_from cmp x rest ys) z later (Contains-cons y (united_from cmp x rest ys) z inside)
-
-  pub united_back : (xs ys : List A) (z : A) → Contains (united cmp xs ys) z → Contains xs z ⊎ Contains ys z
-  united_back [] ys z among = inr among
-  united_back (x ∷ xs) ys z among = from_back x xs (united cmp xs) (united_back xs) ys z among
+  united_back : (xs ys : List A) (z : A) → Contains (united cmp xs ys) z → Either xs ys z
+  united_back xs ys z = below_by_recursion (Either xs ys) (united cmp xs ys) z
+      (united_all cmp (Either xs ys) xs ys (each_member (Either xs ys) xs (λ x among. inl among)) (each_member (Either xs ys) ys (λ y among. inr among)))
 
   -- if an output has all elements of two lists, this stays true when one more element is prepended to the first list and to the output
   out_first : (x : A) (xs ys tail : List A) (z : A) → (Either xs ys z → Contains tail z) → Either (x ∷ xs) ys z → Contains (x ∷ tail) z

@@ -1,16 +1,10 @@
 -- The entry of a live schedule, and the stamp of that entry.
-use Rattle.std.proofs.Common.{◌≡◌, ◌<◌, subst, Some, None, rules}
-use Rattle.std.proofs.lemmas.List.Elements.{All-contains}
-use Rattle.docker_model.specs.file.Change.{Key, Body, schedule_key}
-use Rattle.docker_model.specs.state.Stamp.{LedgerItem, FileStamp}
-use Rattle.docker_model.specs.state.Op.{Op, put_with, Entry, body_of}
-use Rattle.docker_model.specs.state.State.{State, IsValid, IsGoodItem, IsGoodEntry, entry_at, live_table}
-use Rattle.docker_model.specs.docker.Choice.{Train}
+use Rattle.cif_laws.proofs.Common.{◌≡◌, ◌<◌, subst, Some, None, rules, All-contains, Key, Body, schedule_key, LedgerItem, FileStamp, Op, put_with, Entry}
+use Rattle.cif_laws.proofs.Common.{body_of, State, IsValid, IsGoodItem, IsGoodEntry, entry_at, live_table, Train, IsStampOf}
 use Rattle.cif_laws.proofs.lists.BoolsAndOptions.{none_some}
 use Rattle.cif_laws.proofs.lists.Membership.{Contains-map}
 use Rattle.state_laws.proofs.joins.StagedEntry.{entry_at_iff}
 use Rattle.train_choice.specs.Along.{IsLiveTrain}
-use Rattle.docker_model.specs.lists.TrainText.{IsStampOf}
 
 -- an op with a body is the op `put_with` of this body
 put_of : (op : Op) (body : Body) → body_of op ≡ Some body → op ≡ put_with body

@@ -1,27 +1,10 @@
 -- The list of the trains that have an identity and start on a day is written row by row. It is
 -- unique, and the same for a table before and after its rows lapse.
-use Rattle.std.proofs.Common.{◌≡◌, ℕ, ◌≤◌, List, [], ◌∷◌, ◌++◌, Bool, true, false, cond, Contains, refl, ap, sym, ◌∙◌, subst, Some, None, rules}
-use Rattle.std.specs.Prelude.{Option, filter, max, ◌&&◌, ◌↔◌}
-use Rattle.std.specs.List.{cons_option, flat_map}
-use Rattle.std.specs.declared.cmp.Ordering.{Ordering}
-use Rattle.std.specs.declared.cmp.Ordering.TheVariants.{Less, Equal, Greater}
-use Rattle.std.specs.Ordering.{is_eq, nat_cmp, on, ordering_then}
-use Rattle.std.specs.Cmp.{IsTotalOrder, on_total, tied_itself}
-use Rattle.std.specs.Cmp.Lexicographic.{nat_list_cmp_total}
-use Rattle.std.proofs.Math.Nat.{le-max_left, le-max_right}
-use Rattle.std.proofs.lemmas.Map.Lookups.{exact_bytes}
-use Rattle.docker_model.specs.records.Date.{IsDay, no_end_number}
-use Rattle.docker_model.specs.file.Change.{Key, schedule_key, Body, schedule_body}
-use Rattle.docker_model.specs.run.Knowledge.{HaveSameFiles}
-use Rattle.docker_model.specs.state.Lapse.{lapse_table}
-use Rattle.docker_model.specs.state.Op.{key_cmp, schedule_key_cmp}
-use Rattle.docker_model.specs.state.Order.{bytes_cmp, IsBelow}
-use Rattle.docker_model.specs.state.Row.{Row, AreRowsOf}
-use Rattle.docker_model.specs.state.State.{State, lapse_state, live_table}
-use Rattle.docker_model.specs.state.Summary.{IsSummary}
-use Rattle.docker_model.specs.state.Table.{Table, IsPlainTable}
-use Rattle.docker_model.specs.docker.Choice.{Train, TrainRuns}
-use Rattle.docker_model.specs.docker.DockerText.{ended}
+use Rattle.cif_laws.proofs.Common.{◌≡◌, ℕ, ◌≤◌, List, [], ◌∷◌, ◌++◌, true, false, cond, Contains, refl, ap, sym, ◌∙◌, subst, Some, None, rules, Option, filter}
+use Rattle.cif_laws.proofs.Common.{max, ◌&&◌, ◌↔◌, cons_option, flat_map, Ordering, Less, Equal, Greater, is_eq, nat_cmp, on, ordering_then, IsTotalOrder}
+use Rattle.cif_laws.proofs.Common.{on_total, tied_itself, nat_list_cmp_total, le-max_left, le-max_right, exact_bytes, IsDay, no_end_number, Key, schedule_key}
+use Rattle.cif_laws.proofs.Common.{Body, schedule_body, HaveSameFiles, lapse_table, key_cmp, schedule_key_cmp, bytes_cmp, IsBelow, Row, AreRowsOf, State}
+use Rattle.cif_laws.proofs.Common.{lapse_state, live_table, IsSummary, Table, IsPlainTable, Train, TrainRuns, ended}
 use Rattle.cif_laws.proofs.lists.BoolsAndOptions.{both, none_some}
 use Rattle.cif_laws.proofs.lists.FilteredMembers.{filter_back, filter_forth, part_back, part_forth}
 use Rattle.cif_laws.proofs.lists.Later.{AllLater, later_filter, later_weaker}
@@ -56,19 +39,15 @@ module _ (rows : List Row) (identity : List ℕ) (day : ℕ) where
   -- the lines of a walk's rows are the lines of its listed schedules
   pub lines_are : (walk : List Row) → flat_map (row_line rows identity day) walk ≡ trains_text day (listed_in walk)
   lines_are [] = refl
-  lines_are (row ∷ walk) = by (schedule_of row.0 row.1) (lines_are walk)
-    where
-      at : (train : Train) (b : Bool) → flat_map (row_line rows identity day) walk ≡ trains_text day (listed_in walk)
-          → cond b (ended (train_columns day train.key)) [] ++ flat_map (row_line rows identity day) walk
-          ≡ trains_text day (cond b (train ∷ listed_in walk) (listed_in walk))
-      at train true rest = ap (λ bytes. ended (train_columns day train.key) ++ bytes) rest
-      at train false rest = rest
-
-      by : (o : Option Train) → flat_map (row_line rows identity day) walk ≡ trains_text day (listed_in walk)
-          → schedule_line rows identity day o ++ flat_map (row_line rows identity day) walk
-          ≡ trains_text day (filter (is_listed rows identity day) (cons_option o (schedules_in walk)))
-      by None rest = rest
-      by (Some train) rest = at train (is_listed rows identity day train) rest
+  lines_are (row ∷ walk) = elim (schedule_of row.0 row.1) as (λ o. schedule_line rows identity day o ++ flat_map (row_line rows identity day) walk
+      ≡ trains_text day (filter (is_listed rows identity day) (cons_option o (schedules_in walk)))) [
+        | None ↦ lines_are walk
+        | Some train ↦ elim (is_listed rows identity day train) as (λ b. cond b (ended (train_columns day train.key)) []
+            ++ flat_map (row_line rows identity day) walk ≡ trains_text day (cond b (train ∷ listed_in walk) (listed_in walk))) [
+              | true ↦ ap (λ bytes. ended (train_columns day train.key) ++ bytes) (lines_are walk)
+              | false ↦ lines_are walk
+            ]
+      ]
 
 -- ---- the listed schedules
 
@@ -82,7 +61,11 @@ row_cmp = on (λ (row : Row). row.0) key_cmp
 -- if the rows of a walk are in key order, so are its schedules
 keys_ascend : (walk : List Row) → AllLater (IsBelow row_cmp) walk → AllLater IsKeyBelow (schedules_in walk)
 keys_ascend [] up = tt
-keys_ascend (row ∷ walk) up = by (schedule_of row.0 row.1) refl (keys_ascend walk up.1)
+keys_ascend (row ∷ walk) up = (elim (schedule_of row.0 row.1) as (λ o. schedule_of row.0 row.1 ≡ o
+    → AllLater IsKeyBelow (cons_option o (schedules_in walk))) [
+      | None ↦ λ is. keys_ascend walk up.1
+      | Some train ↦ λ is. (each_member (IsKeyBelow train) (schedules_in walk) (below train is), keys_ascend walk up.1)
+    ]) refl
   where
     below : (train : Train) → schedule_of row.0 row.1 ≡ Some train → (z : Train) → Contains (schedules_in walk) z → IsKeyBelow train z
     below train is z among =
@@ -91,10 +74,6 @@ keys_ascend (row ∷ walk) up = by (schedule_of row.0 row.1) refl (keys_ascend w
         let own = (row_is row.0 row.1 train is).0 in
         let other = (row_is found.0.0 found.0.1 z found.2).0 in
         (λ i. key_cmp (sym own i) (sym other i)) ∙ low
-
-    by : (o : Option Train) → schedule_of row.0 row.1 ≡ o → AllLater IsKeyBelow (schedules_in walk) → AllLater IsKeyBelow (cons_option o (schedules_in walk))
-    by None is rest = rest
-    by (Some train) is rest = (each_member (IsKeyBelow train) (schedules_in walk) (below train is), rest)
 
 module _ (live : Table) (rows : List Row) (are : AreRowsOf live rows) (identity : List ℕ) (day : ℕ) where
   -- a schedule of the rows is live
@@ -146,10 +125,7 @@ module _ (live : Table) (rows : List Row) (are : AreRowsOf live rows) (identity 
       never uids =
           let same = one_train _ _ _ _ _ _ _ one.runs (subst (λ (uid : List ℕ). TrainRuns live uid day b.key b.lines) (sym uids) two.runs) in
           let tied : schedule_key_cmp a.key b.key ≡ Equal = ap (schedule_key_cmp a.key) (sym same.0) ∙ tied_itself schedule_key_total a.key in
-          equal_less (sym tied ∙ below)
-        where
-          equal_less : Equal ≡ Less → ⊥
-          equal_less bad = cc
+          let bad : Equal ≡ Less = sym tied ∙ below in let none : ⊥ = cc in none
 
       by : (o : Ordering) → bytes_cmp a.key.uid b.key.uid ≡ o → ordering_then o later ≡ Less → bytes_cmp a.key.uid b.key.uid ≡ Less
       by Less is low = is
@@ -185,6 +161,19 @@ one_list live identity day text other one two = one.text_is
 
 -- ---- lapsed rows
 
+-- if two tables list the same trains, the list of the first table is the list of the second
+list_as : (live other : Table) (identity : List ℕ) (day : ℕ) (text : List ℕ)
+    → ((train : Train) → IsListed live identity day train ↔ IsListed other identity day train)
+    → IsTrainsText live identity day text → IsTrainsText other identity day text
+list_as live other identity day text same is = record {
+  trains = is.trains;
+  are = record {
+    ascending = is.are.ascending;
+    members = λ train. (λ among. (same train).0 ((is.are.members train).0 among), λ listed. (is.are.members train).1 ((same train).1 listed));
+  };
+  text_is = is.text_is;
+}
+
 module _ (horizon : ℕ) (bound : horizon ≤ no_end_number) (live : Table) (identity : List ℕ) (day : ℕ) (from : horizon ≤ day) where
   listed_iff : (train : Train) → IsListed live identity day train ↔ IsListed (lapse_table horizon live) identity day train
   listed_iff train = (
@@ -196,28 +185,8 @@ module _ (horizon : ℕ) (bound : horizon ≤ no_end_number) (live : Table) (ide
   -- after its rows lapse
   pub list_lapsed : (text : List ℕ) → IsTrainsText live identity day text ↔ IsTrainsText (lapse_table horizon live) identity day text
   list_lapsed text = (
-    λ is. record {
-      trains = is.trains;
-      are = record {
-        ascending = is.are.ascending;
-        members = λ train. (
-          λ among. (listed_iff _).0 ((is.are.members train).0 among),
-          λ listed. (is.are.members train).1 ((listed_iff _).1 listed),
-        );
-      };
-      text_is = is.text_is;
-    },
-    λ is. record {
-      trains = is.trains;
-      are = record {
-        ascending = is.are.ascending;
-        members = λ train. (
-          λ among. (listed_iff _).1 ((is.are.members train).0 among),
-          λ listed. (is.are.members train).1 ((listed_iff _).0 listed),
-        );
-      };
-      text_is = is.text_is;
-    },
+    list_as live (lapse_table horizon live) _ _ _ listed_iff,
+    list_as (lapse_table horizon live) live _ _ _ (λ train. ((listed_iff train).1, (listed_iff train).0)),
   )
 
 -- on a day that isn't before the horizon, the list of trains for the summary of a set of files is

@@ -1,24 +1,12 @@
 -- The schedule found for a UID and a day is unique. The schedule came from one of the state's
 -- files. Each train on a docker's lines, or on a list of trains, runs according to the schedule
 -- found for it.
-use Rattle.std.proofs.Common.{◌≡◌, ℕ, ◌+◌, ◌≤◌, List, ap, sym, ◌∙◌, subst, Some, None, Contains}
-use Rattle.std.proofs.Common.{rules}
-use Rattle.std.specs.Prelude.{Option, option_map, IsTrue}
-use Rattle.std.proofs.lemmas.Bool.{cases_lt, leb-true}
-use Rattle.docker_model.specs.records.Record.{columns}
-use Rattle.docker_model.specs.records.Date.{IsDay, end_number, no_end_number}
-use Rattle.docker_model.specs.file.File.{first_record}
-use Rattle.docker_model.specs.file.Change.{Body, Act, Change, ScheduleKey, changes, schedule_key, schedule_body, put}
-use Rattle.docker_model.specs.state.Stamp.{Stamp, file_stamp_of}
-use Rattle.docker_model.specs.state.Op.{Op, put_with, Entry, op_of, readable_end}
-use Rattle.docker_model.specs.state.State.{State, IsValid, live_table}
-use Rattle.docker_model.specs.state.Lapse.{IsDayRefused, lapse, lapse_entry, lapse_table}
-use Rattle.docker_model.specs.state.Table.{Table, IsPlainTable}
-use Rattle.docker_model.specs.state.Summary.{IsSummary, IsGreatestEntryOf}
-use Rattle.docker_model.specs.docker.Choice.{IsRunning, TrainRuns, runs_within, Train, IsChosenOn}
-use Rattle.docker_model.specs.docker.DockerLine.{DockerLine}
-use Rattle.docker_model.specs.docker.DockerList.{IsEventLine}
-use Rattle.docker_model.specs.docker.Association.{IsAssociationLine}
+use Rattle.cif_laws.proofs.Common.{◌≡◌, ℕ, ◌+◌, ◌≤◌, List, ap, sym, ◌∙◌, subst, Some, None, Contains, rules, Option, option_map, IsTrue, cases_lt, leb-true}
+use Rattle.cif_laws.proofs.Common.{columns, IsDay, end_number, no_end_number, first_record, Body, Act, Change, ScheduleKey, changes, schedule_key}
+use Rattle.cif_laws.proofs.Common.{schedule_body, put, Stamp, file_stamp_of, Op, put_with, Entry, op_of, readable_end, State, IsValid, live_table, IsDayRefused}
+use Rattle.cif_laws.proofs.Common.{lapse, lapse_table, Table, IsPlainTable, IsSummary, IsRunning, TrainRuns, Train, IsChosenOn, DockerLine, IsEventLine}
+use Rattle.cif_laws.proofs.Common.{IsAssociationLine, Stamped, IsStampOf, IsTrainText}
+use Rattle.docker_model.specs.docker.Choice.{runs_within}
 use Rattle.cif_laws.proofs.lists.BoolsAndOptions.{both}
 use Rattle.state_laws.proofs.joins.StagedEntry.{entry_at_iff}
 use Rattle.state_laws.proofs.states.TableLapsed.{live_stays}
@@ -29,7 +17,7 @@ use Rattle.docker_laws.proofs.dockers.PrintedDocker.{day_bound}
 use Rattle.state_laws.proofs.states.GoodBodies.{good_bodies}
 use Rattle.docker_laws.proofs.dockers.NearStarts.{event_near, association_near}
 use Rattle.train_choice.specs.Along.{IsLiveTrain}
-use Rattle.docker_model.specs.lists.TrainText.{Stamped, IsFoundFor, IsStampOf, IsTrainText}
+use Rattle.docker_model.specs.lists.TrainText.{IsFoundFor}
 use Rattle.docker_train.specs.Origin.{CameFrom, IsFoundToRun, change_of}
 use Rattle.docker_model.specs.lists.TrainsText.{IsListed}
 use Rattle.docker_train.proofs.Found.{stamp_is, entry_there}
@@ -67,29 +55,21 @@ act_of_put = search rules
 pub came_from : (files : List (List (List ℕ))) (horizon : ℕ) (state : State) (uid : List ℕ) (day : ℕ) (found : Stamped) → IsSummary files horizon state
     → IsFoundFor state uid day (Some found) → CameFrom files found
 came_from files horizon state uid day found is (chosen, at) =
-    let key = schedule_key found.schedule.key in
-    let entry : Entry = record { stamp = found.stamp; op = put_with (schedule_body found.schedule.lines) } in
-    let made = (is.entries key entry).0 ((entry_at_iff state is.entries_ascend _ entry).0 at) in
-    by made.0 made.1 made.2
-  where
-    by : (greatest : Entry) → IsGreatestEntryOf files is.floor (schedule_key found.schedule.key) greatest
-        → lapse_entry horizon greatest ≡ record { stamp = found.stamp; op = put_with (schedule_body found.schedule.lines) } → CameFrom files found
-    by greatest made lapses = record {
-      file = made.is.file;
-      among = made.is.kept.among;
+    let body = schedule_body found.schedule.lines in
+    let entry : Entry = record { stamp = found.stamp; op = put_with body } in
+    let made = (is.entries (schedule_key found.schedule.key) entry).0 ((entry_at_iff state is.entries_ascend _ entry).0 at) in
+    let from = made.1.is in
+    let stamps : record { file = file_stamp_of from.file; number = from.change.number } ≡ found.stamp =
+    ap (λ (e : Entry). e.stamp) from.entry_is ∙ ap (λ (e : Entry). e.stamp) made.2 in
+    let act_is : from.change.act ≡ put body =
+    act_of_put _ body (ap (λ (e : Entry). e.op) from.entry_is ∙ put_under _ made.0.op _ (ap (λ (e : Entry). e.op) made.2)) in
+    let change_is : from.change ≡ change_of found = λ i. record { number = (stamps i).number; key = from.key_is i; act = act_is i } in
+    record {
+      file = from.file;
+      among = from.kept.among;
       stamped = ap (λ (s : Stamp). s.file) stamps;
-      changed = subst (λ (c : Change). Contains (changes made.is.file) c) change_is made.is.among;
+      changed = subst (λ (c : Change). Contains (changes from.file) c) change_is from.among;
     }
-      where
-        stamps : record { file = file_stamp_of made.is.file; number = made.is.change.number } ≡ found.stamp
-        stamps = ap (λ (e : Entry). e.stamp) made.is.entry_is ∙ ap (λ (e : Entry). e.stamp) lapses
-
-        act_is : made.is.change.act ≡ put (schedule_body found.schedule.lines)
-        act_is = act_of_put _ (schedule_body found.schedule.lines) (ap (λ (e : Entry). e.op) made.is.entry_is
-            ∙ put_under _ greatest.op _ (ap (λ (e : Entry). e.op) lapses))
-
-        change_is : made.is.change ≡ change_of found
-        change_is = λ i. record { number = (stamps i).number; key = made.is.key_is i; act = act_is i }
 
 -- ---- the plain table
 
@@ -161,8 +141,7 @@ pub event_train : (state : State) (place : List ℕ) (day : ℕ) (line : DockerL
     → IsFoundToRun state line.uid line.start (record { key = made.key; lines = made.schedule })
 event_train state place day line valid open_day made =
     let near = event_near (live_table state) place day line (good_bodies state valid) made in
-    subst (λ (l : DockerLine). IsFoundToRun state l.uid l.start (record { key = made.key; lines = made.schedule })) (sym made.is)
-    (found_to_run state made.start day made.key made.schedule open_day near.1 made.train_runs)
+    rw made.is (found_to_run state made.start day made.key made.schedule open_day near.1 made.train_runs)
 
 -- for each association on a docker, the schedule of the base train is the schedule found for the
 -- base train's UID and start day
@@ -173,5 +152,4 @@ base_train state place day line valid open_day made =
     let near = association_near (live_table state) place day line (good_bodies state valid) made in
     let runs : TrainRuns (live_table state) made.base_key.uid made.start made.base_key made.base =
     subst (λ (uid : List ℕ). TrainRuns (live_table state) uid made.start made.base_key made.base) (sym made.base_runs.chosen.running.uid_is) made.base_runs in
-    subst (λ (l : DockerLine). IsFoundToRun state l.uid l.start (record { key = made.base_key; lines = made.base })) (sym made.is)
-    (found_to_run state made.start day made.base_key made.base open_day near.1 runs)
+    rw made.is (found_to_run state made.start day made.base_key made.base open_day near.1 runs)

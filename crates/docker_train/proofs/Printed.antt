@@ -1,9 +1,6 @@
 -- The text that the code writes equals the train text of the definitions.
-use Rattle.std.proofs.Common.{◌≡◌, ℕ, List, ◌∙◌}
-use Rattle.std.specs.Prelude.{Option}
-use Rattle.docker_model.specs.docker.DockerText.{ended}
-use Rattle.docker_model.specs.state.State.{State}
-use Rattle.docker_model.specs.lists.TrainText.{IsTrainText, Stamped, found_text, train_heading, train_heading_with, train_text}
+use Rattle.cif_laws.proofs.Common.{◌≡◌, ℕ, List, ◌∙◌, Option, ended, State, IsTrainText, Stamped}
+use Rattle.docker_model.specs.lists.TrainText.{found_text, train_heading, train_heading_with, train_text}
 use Rattle.docker_train.specs.Answer.{Answer, IsAnswerOf, text_of}
 
 -- for a UID and a day, the text that is written for the schedule found in a state is the state's

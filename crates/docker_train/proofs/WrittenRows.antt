@@ -1,15 +1,7 @@
 -- A list of trains is written row by row, by a walk over all live rows.
-use Rattle.std.proofs.Common.{◌≡◌, ℕ, List, [], ◌∷◌, sym, subst, Some, append-nil, Contains, arith, rules}
-use Rattle.std.proofs.lemmas.Grind.{common_steps}
-use Rattle.std.specs.Prelude.{Option, ◌↔◌, Bool, true, false}
-use Rattle.std.specs.List.{flat_map}
+use Rattle.cif_laws.proofs.Common.{◌≡◌, ℕ, List, [], ◌∷◌, sym, subst, Some, append-nil, Contains, arith, rules, common_steps, Option, ◌↔◌, Bool, true, false}
+use Rattle.cif_laws.proofs.Common.{flat_map, Train, ended, Key, Body, ScheduleKey, AreInKeyOrder, AreRowsOf, Row, HasGoodBodies, State, live_table, Table}
 use Rattle.cif_device.specs.Device.{Takes, TakesPart}
-use Rattle.docker_model.specs.docker.Choice.{Train}
-use Rattle.docker_model.specs.docker.DockerText.{ended}
-use Rattle.docker_model.specs.file.Change.{Key, Body, ScheduleKey}
-use Rattle.docker_model.specs.state.Row.{AreInKeyOrder, AreRowsOf, Row}
-use Rattle.docker_model.specs.state.State.{HasGoodBodies, State, live_table}
-use Rattle.docker_model.specs.state.Table.{Table}
 use Rattle.cif_laws.proofs.lists.Membership.{cons-Contains, cons-Contains-first}
 use Rattle.docker_day.proofs.Written.{Leads, both_taken, part_of_back, part_of_front}
 use Rattle.docker_state.specs.Timetables.{live_in}

@@ -1,14 +1,7 @@
 -- What a session of the desk on `north` leaves in its folder, and what it answers.
-use Rattle.std.proofs.Common.{◌≡◌, ℕ, ◌+◌, ◌<◌, Bool, true, List, [], ◌∷◌, ◌++◌, refl, sym, ◌∙◌, ap, subst, arith, append-nil}
-use Rattle.std.proofs.Common.{Some, None, codes, rules}
-use Rattle.std.specs.Prelude.{Option, slice_index}
-use Rattle.std.proofs.lemmas.Fmt.{decimal_digit}
-use Rattle.std.proofs.lemmas.List.Sums.{AllPass-from_list_all}
-use Rattle.docker_model.specs.records.Record.{is_printable}
-use Rattle.docker_model.specs.state.Lapse.{IsDayRefused}
-use Rattle.docker_model.specs.state.State.{State}
-use Rattle.docker_model.specs.state.StateText.{dks_2, state_text}
-use Rattle.docker_model.specs.run.Run.{Known, united}
+use Rattle.cif_laws.proofs.Common.{◌≡◌, ℕ, ◌+◌, ◌<◌, Bool, true, List, [], ◌∷◌, ◌++◌, refl, sym, ◌∙◌, ap, subst, arith, append-nil, Some, None, codes, rules}
+use Rattle.cif_laws.proofs.Common.{Option, slice_index, decimal_digit, AllPass-from_list_all, is_printable, IsDayRefused, State, dks_2, state_text, Known}
+use Rattle.cif_laws.proofs.Common.{united}
 use Rattle.cif_line.proofs.DateFields.{digits_in-day_text}
 use Rattle.docker_host.specs.History.{Bytes, Event, Text, closed, drafted, looked, opened, placed}
 use Rattle.docker_host.specs.SessionHost.{SessionHostView}
@@ -258,80 +251,49 @@ module _ (taken : List ℕ) (a b c : AnswerView) (whole : taken ≡ answer_bytes
 abbrev the_setting : Setting
 the_setting = setting north true true
 
+-- what each of the three steps did, if its answer begins with the digit 0
+module _ (step : Step) (is : IsStep the_setting step) (done : IsDone step.answer) where
+  merge_step : step.line ≡ whole_line merge_line
+      → (step.answer ≡ done_with []) × IsMerged south step.before step.after × (step.after.failures ≡ step.before.failures)
+  merge_step line_is =
+      let does = done_step the_setting merge_line step line_is is done.0 done.1 in
+      let merges = merge_done the_setting done.0 step.request step.before step.after does.0 does.1.0 in
+      (done.1 ∙ ap done_with merges.0, merges.1, does.1.1)
+
+  save_step : step.line ≡ whole_line save_line
+      → (step.answer ≡ done_with []) × IsStoredSo north step.before step.after × (step.after.failures ≡ step.before.failures)
+  save_step line_is =
+      let does = done_step the_setting save_line step line_is is done.0 done.1 in
+      let saves = save_done north done.0 step.request step.before step.after does.0 does.1.0 in
+      (done.1 ∙ ap done_with saves.0, saves.1, does.1.1)
+
+  print_step : step.line ≡ whole_line print_line
+      → IsShown step.before.desk.state (docker_query place 23537) (done_with done.0) × (step.after ≡ step.before)
+  print_step line_is =
+      let does = done_step the_setting print_line step line_is is done.0 done.1 in
+      print_done the_setting done.0 step.request step.before step.after does.0 does.1.0
+
 -- the three steps, one after another
-module _ (first last : SessionView) (x y z : Step) (taken : List ℕ) (lines : lines_of (x ∷ y ∷ z ∷ []) ≡ three_lines)
-    (are : AreSteps the_setting first (x ∷ y ∷ z ∷ []) last) (whole : taken ≡ answers_text (x ∷ y ∷ z ∷ [])) (done : AreDone taken) where
-  x_line : x.line ≡ whole_line merge_line
-  x_line = cc
-
-  y_line : y.line ≡ whole_line save_line
-  y_line = cc
-
-  z_line : z.line ≡ whole_line print_line
-  z_line = cc
-
-  x_done : IsDone x.answer
-  x_done = first_done taken x.answer y.answer z.answer whole done
-
-  x_does : AsksOf true (whole_line merge_line) x.request × (DoesAsked the_setting x.request x.before (done_with x_done.0) x.after
-      × (x.after.failures ≡ x.before.failures))
-  x_does = done_step the_setting merge_line x x_line are.1.0 x_done.0 x_done.1
-
-  x_merges : (x_done.0 ≡ []) × IsMerged south x.before x.after
-  x_merges = merge_done the_setting x_done.0 x.request x.before x.after x_does.0 x_does.1.0
-
-  x_is : x.answer ≡ done_with []
-  x_is = x_done.1 ∙ ap done_with x_merges.0
-
-  y_done : IsDone y.answer
-  y_done = second_done taken x.answer y.answer z.answer whole done x_is
-
-  y_does : AsksOf true (whole_line save_line) y.request × (DoesAsked the_setting y.request y.before (done_with y_done.0) y.after
-      × (y.after.failures ≡ y.before.failures))
-  y_does = done_step the_setting save_line y y_line are.1.1.1.0 y_done.0 y_done.1
-
-  y_saves : (y_done.0 ≡ []) × IsStoredSo north y.before y.after
-  y_saves = save_done north y_done.0 y.request y.before y.after y_does.0 y_does.1.0
-
-  y_is : y.answer ≡ done_with []
-  y_is = y_done.1 ∙ ap done_with y_saves.0
-
-  z_done : IsDone z.answer
-  z_done = third_done taken x.answer y.answer z.answer whole done x_is y_is
-
-  z_does : AsksOf true (whole_line print_line) z.request × (DoesAsked the_setting z.request z.before (done_with z_done.0) z.after
-      × (z.after.failures ≡ z.before.failures))
-  z_does = done_step the_setting print_line z z_line are.1.1.1.1.1.0 z_done.0 z_done.1
-
-  z_prints : IsShown z.before.desk.state (docker_query place 23537) (done_with z_done.0) × (z.after ≡ z.before)
-  z_prints = print_done the_setting z_done.0 z.request z.before z.after z_does.0 z_does.1.0
-
-  -- the points at which the steps meet
-  x_from : x.before ≡ first
-  x_from = are.0
-
-  y_from : y.before ≡ x.after
-  y_from = are.1.1.0
-
-  z_from : z.before ≡ y.after
-  z_from = are.1.1.1.1.0
-
-  last_is : last ≡ z.after
-  last_is = are.1.1.1.1.1.1
-
-  three_steps : AreThree first last taken
-  three_steps = record {
-    one = x.after;
-    two = y.after;
-    merges = subst (λ (m : SessionView). IsMerged south m x.after) x_from x_merges.1;
-    saves = subst (λ (m : SessionView). IsStoredSo north m y.after) y_from y_saves.1;
-    docker = z_done.0;
-    prints = subst (λ (m : SessionView). IsShown m.desk.state (docker_query place 23537) (done_with z_done.0)) z_from z_prints.0;
-    same = last_is ∙ z_prints.1 ∙ z_from;
-    told = after_three _ x.answer y.answer z.answer whole done z_done.0 x_is y_is z_done.1;
-    sound = ap (λ (m : SessionView). m.failures) last_is ∙ z_does.1.1 ∙ ap (λ (m : SessionView). m.failures) z_from
-        ∙ y_does.1.1 ∙ ap (λ (m : SessionView). m.failures) y_from ∙ x_does.1.1 ∙ ap (λ (m : SessionView). m.failures) x_from;
-  }
+three_steps : (first last : SessionView) (x y z : Step) (taken : List ℕ) → lines_of (x ∷ y ∷ z ∷ []) ≡ three_lines
+    → AreSteps the_setting first (x ∷ y ∷ z ∷ []) last → taken ≡ answers_text (x ∷ y ∷ z ∷ []) → AreDone taken → AreThree first last taken
+three_steps first last x y z taken lines are whole done =
+    let merge = merge_step x are.1.0 (first_done taken x.answer y.answer z.answer whole done) (cc) in
+    let save = save_step y are.1.1.1.0 (second_done taken x.answer y.answer z.answer whole done merge.0) (cc) in
+    let docker : IsDone z.answer = third_done taken x.answer y.answer z.answer whole done merge.0 save.0 in
+    let print = print_step z are.1.1.1.1.1.0 docker (cc) in
+    let same : last ≡ y.after = are.1.1.1.1.1.1 ∙ print.1 ∙ are.1.1.1.1.0 in
+    record {
+      one = x.after;
+      two = y.after;
+      merges = subst (λ (m : SessionView). IsMerged south m x.after) are.0 merge.1;
+      saves = subst (λ (m : SessionView). IsStoredSo north m y.after) are.1.1.0 save.1;
+      docker = docker.0;
+      prints = subst (λ (m : SessionView). IsShown m.desk.state (docker_query place 23537) (done_with docker.0)) are.1.1.1.1.0 print.0;
+      same = same;
+      told = after_three _ x.answer y.answer z.answer whole done docker.0 merge.0 save.0 docker.1;
+      sound = ap (λ (m : SessionView). m.failures) same ∙ save.2 ∙ ap (λ (m : SessionView). m.failures) are.1.1.0 ∙ merge.2
+          ∙ ap (λ (m : SessionView). m.failures) are.0;
+    }
 
 all_steps : (first last : SessionView) (steps : List Step) (taken : List ℕ) → lines_of steps ≡ three_lines → AreSteps the_setting first steps last
     → taken ≡ answers_text steps → AreDone taken → AreThree first last taken
@@ -373,11 +335,11 @@ module _ (old new : SessionHostView) (taken : List ℕ) (input : old.streams.inp
       (some_text _ _ ends_so.1) done
 
   -- no call of the folder failed
-  pub session_sound : new.folder_failures ≡ old.folder_failures
+  session_sound : new.folder_failures ≡ old.folder_failures
   session_sound = served.failures ∙ three.sound ∙ served.none
 
   -- `north` knows what both knew before, and the desk printed the docker
-  pub session_leaves : (folder : ShelfView) → folder.events ≡ new.history → IsShelfHistory new.history → (known heard : Known)
+  session_leaves : (folder : ShelfView) → folder.events ≡ new.history → IsShelfHistory new.history → (known heard : Known)
       → HoldsKnown dks_2 (text_under old.history north) known → HoldsKnown dks_2 (text_under old.history south) heard
       → IsServedNorth folder taken known heard
   session_leaves folder same met known heard holds also =
@@ -391,22 +353,14 @@ module _ (old new : SessionHostView) (taken : List ℕ) (input : old.streams.inp
         told = three.told;
       }
 
--- what the session leaves and answers, for a host `seen` that equals the new host
-pub served_told : (old seen new : SessionHostView) (status : ℕ) (taken : List ℕ) (folder : ShelfView) (events : List Event)
-    → Serves desk_words true old new status → seen ≡ new → status ≡ 0 → old.streams.input ≡ Some session_input → old.streams.output ≡ Some []
-    → IsShelfHistory seen.history → seen.streams.output ≡ Some taken → AreDone taken → HasOneReading → folder.events ≡ seen.history → events ≡ old.history
-    → (known heard : Known) → HoldsKnown dks_2 (text_under events north) known → HoldsKnown dks_2 (text_under events south) heard
-    → IsServedNorth folder taken known heard
-served_told old seen new status taken folder events serves same none input output met told done one_reading left before known heard holds also =
-    session_leaves old seen taken input output told done one_reading
-    (subst (λ (h : SessionHostView). IsServed desk_words true old h 0) (sym same) (was_served old new status none serves)) folder left met known heard
-    (subst (λ (h : List Event). HoldsKnown dks_2 (text_under h north) known) before holds)
-    (subst (λ (h : List Event). HoldsKnown dks_2 (text_under h south) heard) before also)
-
--- the folder didn't fail in the session
-pub served_sound : (old seen new : SessionHostView) (status : ℕ) (taken : List ℕ) → Serves desk_words true old new status → seen ≡ new → status ≡ 0
-    → old.streams.input ≡ Some session_input → old.streams.output ≡ Some [] → seen.streams.output ≡ Some taken → AreDone taken → HasOneReading
-    → old.folder_failures ≡ 0 → seen.folder_failures ≡ 0
-served_sound old seen new status taken serves same none input output told done one_reading sound =
-    session_sound old seen taken input output told done one_reading
-    (subst (λ (h : SessionHostView). IsServed desk_words true old h 0) (sym same) (was_served old new status none serves)) ∙ sound
+-- what the session leaves and answers, for a host `seen` that equals the new host. The folder didn't fail in the session
+pub served_told : (old seen new : SessionHostView) (status : ℕ) (taken : List ℕ) → Serves desk_words true old new status → seen ≡ new → status ≡ 0
+    → old.streams.input ≡ Some session_input → old.streams.output ≡ Some [] → IsShelfHistory seen.history → seen.streams.output ≡ Some taken
+    → AreDone taken → HasOneReading
+    → ((folder : ShelfView) → folder.events ≡ seen.history → (known heard : Known) → HoldsKnown dks_2 (text_under old.history north) known
+    → HoldsKnown dks_2 (text_under old.history south) heard → IsServedNorth folder taken known heard) × (seen.folder_failures ≡ old.folder_failures)
+served_told old seen new status taken serves same none input output met told done one_reading =
+    let served = subst (λ (h : SessionHostView). IsServed desk_words true old h 0) (sym same) (was_served old new status none serves) in (
+      λ folder left. session_leaves old seen taken input output told done one_reading served folder left met,
+      session_sound old seen taken input output told done one_reading served,
+    )

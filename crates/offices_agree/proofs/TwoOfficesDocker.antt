@@ -1,26 +1,12 @@
 -- The docker of the worked example: what the two files print for ASHFELD on 10 June 2024.
-use Rattle.std.proofs.Common.{◌≡◌, ℕ, List, [], ◌∷◌, refl, inl, inr, Some, None, lit<, rules}
-use Rattle.std.proofs.Common.{arith, ap, sym, ◌∙◌, subst, Contains, Bool, true, false, ◌⊎◌, ◌++◌, fold, cond}
-use Rattle.std.specs.Prelude.{codes, Option}
-use Rattle.std.specs.Ordering.{is_eq}
-use Rattle.std.specs.declared.cmp.Ordering.{Ordering}
-use Rattle.std.specs.declared.cmp.Ordering.TheVariants.{Equal, Greater}
+use Rattle.cif_laws.proofs.Common.{◌≡◌, ℕ, List, [], ◌∷◌, refl, inl, inr, Some, None, lit<, rules, arith, ap, sym, ◌∙◌, subst, Contains, Bool, true, false, ◌⊎◌}
+use Rattle.cif_laws.proofs.Common.{◌++◌, fold, cond, codes, Option, is_eq, Ordering, Equal, Greater, columns, Key, tiploc_key, schedule_key, association_key}
+use Rattle.cif_laws.proofs.Common.{ScheduleKey, Body, schedule_body, association_body, arrival, departure, key_cmp, moment_of, HaveDistinctMoments, Table}
+use Rattle.cif_laws.proofs.Common.{IsPlainTable, after_files, empty_table, HaveSameFiles, Event, events_of, event_line, event_day, IsRunning, TrainRuns}
+use Rattle.cif_laws.proofs.Common.{schedule_choice_cmp, DockerLine, line_of_event, IsAssociationLine, IsEventLine, IsDockerList, IsDockerText, docker_text}
 use Rattle.jiff_core.specs.Calendar.{days_from_civil, day_count, days_of_years, days_of_months}
-use Rattle.docker_model.specs.records.Record.{columns}
-use Rattle.docker_model.specs.file.Change.{Key, tiploc_key, schedule_key, association_key, ScheduleKey, Body, schedule_body, association_body}
-use Rattle.docker_model.specs.file.Journey.{arrival, departure}
-use Rattle.docker_model.specs.state.Op.{key_cmp}
-use Rattle.docker_model.specs.state.Stamp.{Moment, moment_of}
-use Rattle.docker_model.specs.state.Summary.{HaveDistinctMoments}
-use Rattle.docker_model.specs.state.Table.{Table, IsPlainTable, after_files, empty_table}
+use Rattle.docker_model.specs.state.Stamp.{Moment}
 use Rattle.docker_model.specs.run.Run.{Files}
-use Rattle.docker_model.specs.run.Knowledge.{HaveSameFiles}
-use Rattle.docker_model.specs.docker.Event.{Event, events_of, event_line, event_day}
-use Rattle.docker_model.specs.docker.Choice.{IsRunning, TrainRuns, schedule_choice_cmp}
-use Rattle.docker_model.specs.docker.DockerLine.{DockerLine, line_of_event}
-use Rattle.docker_model.specs.docker.Association.{IsAssociationLine}
-use Rattle.docker_model.specs.docker.DockerList.{IsEventLine, IsDockerList}
-use Rattle.docker_model.specs.docker.DockerText.{IsDockerText, docker_text}
 use Rattle.cif_laws.proofs.lists.Membership.{Contains-cons, Contains-single, cons-Contains, cons-Contains-first}
 use Rattle.cif_laws.proofs.orders.Orders.{exact_key}
 use Rattle.state_laws.proofs.states.OneJoin.{docker_unique}
@@ -107,49 +93,28 @@ equal_by_test = search rules
 
 -- ---- the trains
 
-schedule_key_of : Key → ScheduleKey
-schedule_key_of (schedule_key key) = key
-schedule_key_of _ = first_key
-
-lines_in : Body → List (List ℕ)
-lines_in (schedule_body lines) = lines
-lines_in _ = []
-
-first_same : (key : ScheduleKey) → is_first (schedule_key key) ≡ true → first_key ≡ key
-unfolding is_first schedule_key_of
-first_same key h = ap schedule_key_of (exact_key (schedule_key first_key) (schedule_key key) (equal_by_test _ h))
-
-second_same : (key : ScheduleKey) → is_second (schedule_key key) ≡ true → second_key ≡ key
-unfolding is_second schedule_key_of
-second_same key h = ap schedule_key_of (exact_key (schedule_key second_key) (schedule_key key) (equal_by_test _ h))
-
-some_body : (one two : Body) → ◌≡◌ {A = Option Body} (Some one) (Some two) → one ≡ two
-some_body one two same = cc
-
-none_some : (body : Body) → ◌≡◌ {A = Option Body} None (Some body) → ⊥
-none_some body is = cc
-
-description_no_lines : (lines : List (List ℕ)) → description ≡ schedule_body lines → ⊥
-description_no_lines lines same = cc
+same_key : (own key : ScheduleKey) → is_eq (key_cmp (schedule_key own) (schedule_key key)) ≡ true → own ≡ key
+same_key own key h = let same : schedule_key own ≡ schedule_key key = exact_key (schedule_key own) (schedule_key key) (equal_by_test _ h) in cc
 
 -- the only schedules in the table are the revision of the first train and the second train
 abbrev IsTrain : ScheduleKey → List (List ℕ) → Type 0
 IsTrain key lines = ((first_key ≡ key) × (revised_schedule ≡ lines)) ⊎ ((second_key ≡ key) × (second_schedule ≡ lines))
 
 only_trains : (key : ScheduleKey) (lines : List (List ℕ)) → the_table (schedule_key key) ≡ Some (schedule_body lines) → IsTrain key lines
-unfolding found lines_in
-only_trains key lines live = by (is_first (schedule_key key)) (is_second (schedule_key key)) (is_place (schedule_key key)) refl refl (sym (under _) ∙ live)
+unfolding found is_first is_second
+only_trains key lines live = by (is_first (schedule_key key)) (is_second (schedule_key key)) (is_place (schedule_key key)) refl refl
+    (sym (under (schedule_key key)) ∙ live)
   where
     by : (first second named : Bool) → is_first (schedule_key key) ≡ first → is_second (schedule_key key) ≡ second
         → found first second named ≡ Some (schedule_body lines) → IsTrain key lines
-    by true second named one two is = inl (first_same _ one, ap lines_in (some_body _ _ is))
-    by false true named one two is = inr (second_same _ two, ap lines_in (some_body _ _ is))
-    by false false true one two is = absurd (description_no_lines _ (some_body _ _ is))
-    by false false false one two is = absurd (none_some _ is)
+    by true second named one two is = inl (same_key _ _ one, cc)
+    by false true named one two is = inr (same_key _ _ two, cc)
+    by false false true one two is = let never : ⊥ = cc in absurd never
+    by false false false one two is = let never : ⊥ = cc in absurd never
 
 no_association : (key : Key) (line : List ℕ) → the_table key ≡ Some (association_body line) → ⊥
 unfolding found
-no_association = search (rules, is_first, is_second, is_place, under, found, revised_schedule, some_body, second_schedule, description, none_some)
+no_association = search (rules, is_first, is_second, is_place, under, found, revised_schedule, second_schedule, description)
 
 -- each train runs on 10 June
 runs_if : (key : ScheduleKey) (lines : List (List ℕ))
@@ -166,19 +131,17 @@ uid_of key = key.uid
 
 only_first : (other : ScheduleKey) (others : List (List ℕ)) → IsRunning the_table (codes "C10001") 23537 other others → first_key ≡ other
 unfolding uid_of
-only_first other others running = by (only_trains other others running.is_live)
-  where
-    by : IsTrain other others → first_key ≡ other
-    by (inl same) = same.0
-    by (inr same) = absurd (uids_differ (sym (ap uid_of same.0 ∙ running.uid_is)))
+only_first other others running = elim (only_trains other others running.is_live) [
+  | inl same ↦ same.0
+  | inr same ↦ absurd (uids_differ (sym (ap uid_of same.0 ∙ running.uid_is)))
+]
 
 only_second : (other : ScheduleKey) (others : List (List ℕ)) → IsRunning the_table (codes "C20002") 23537 other others → second_key ≡ other
 unfolding uid_of
-only_second other others running = by (only_trains other others running.is_live)
-  where
-    by : IsTrain other others → second_key ≡ other
-    by (inl same) = absurd (uids_differ (ap uid_of same.0 ∙ running.uid_is))
-    by (inr same) = same.0
+only_second other others running = elim (only_trains other others running.is_live) [
+  | inl same ↦ absurd (uids_differ (ap uid_of same.0 ∙ running.uid_is))
+  | inr same ↦ same.0
+]
 
 first_runs : TrainRuns the_table (codes "C10001") 23537 first_key revised_schedule
 unfolding days_from_civil day_count days_of_years days_of_months
@@ -212,31 +175,17 @@ arrival_line = line_of_event second_key 23537 second_schedule arrives
 abbrev departure_line : DockerLine
 departure_line = line_of_event first_key 23537 revised_schedule leaves
 
+-- an event of a train at ASHFELD on 10 June has a line
+line_there : (key : ScheduleKey) (schedule : List (List ℕ)) (event : Event) → TrainRuns the_table key.uid 23537 key schedule
+    → Contains (events_of schedule) event → columns 3 9 (event_line schedule event) ≡ place → event_day 23537 schedule event ≡ 23537
+    → IsEventLine the_table place 23537 (line_of_event key 23537 schedule event)
+line_there = search rules
+
 departs : IsEventLine the_table place 23537 departure_line
-departs = record {
-  start = 23537;
-  key = first_key;
-  schedule = revised_schedule;
-  train_runs = first_runs;
-  event = leaves;
-  among = (0, lit< tt, refl);
-  here = refl;
-  today = refl;
-  is = refl;
-}
+departs = line_there first_key revised_schedule leaves first_runs (0, lit< tt, refl) refl refl
 
 comes : IsEventLine the_table place 23537 arrival_line
-comes = record {
-  start = 23537;
-  key = second_key;
-  schedule = second_schedule;
-  train_runs = second_runs;
-  event = arrives;
-  among = (1, lit< tt, refl);
-  here = refl;
-  today = refl;
-  is = refl;
-}
+comes = line_there second_key second_schedule arrives second_runs (1, lit< tt, refl) refl refl
 
 events_of_first : (event : Event) → Contains (events_of revised_schedule) event → (leaves ≡ event) ⊎ (leaves_off ≡ event)
 events_of_first = search (rules, revised_schedule)
@@ -257,24 +206,22 @@ second_there : (start : ℕ) (event : Event) → Contains (events_of second_sche
     → event_day start second_schedule event ≡ 23537 → (arrives ≡ event) × (start ≡ 23537)
 second_there = search (rules, events_of_second, places_differ, second_schedule, place)
 
+-- if this is a train's only event there, each line of the train is the line of this event
+line_by : (own : ScheduleKey) (lines : List (List ℕ)) (there : Event) (line : DockerLine) (made : IsEventLine the_table place 23537 line)
+    → ((start : ℕ) (event : Event) → Contains (events_of lines) event → columns 3 9 (event_line lines event) ≡ place
+    → event_day start lines event ≡ 23537 → (there ≡ event) × (start ≡ 23537))
+    → (own ≡ made.key) × (lines ≡ made.schedule) → line_of_event own 23537 lines there ≡ line
+line_by own lines there line made only same =
+    let told = subst (λ (s : List (List ℕ)). Contains (events_of s) made.event → columns 3 9 (event_line s made.event) ≡ place
+    → event_day made.start s made.event ≡ 23537 → (there ≡ made.event) × (made.start ≡ 23537)) same.1 (only made.start made.event)
+    made.among made.here made.today in
+    (λ i. line_of_event (same.0 i) (sym told.1 i) (same.1 i) (told.0 i)) ∙ sym made.is
+
 only_event_lines : (line : DockerLine) → IsEventLine the_table place 23537 line → (arrival_line ≡ line) ⊎ (departure_line ≡ line)
-only_event_lines line made = by (only_trains made.key made.schedule made.train_runs.chosen.running.is_live)
-  where
-    by : IsTrain made.key made.schedule → (arrival_line ≡ line) ⊎ (departure_line ≡ line)
-    by (inl same) =
-        let among : Contains (events_of revised_schedule) made.event = subst (λ s. Contains (events_of s) made.event) (sym same.1) made.among in
-        let here : columns 3 9 (event_line revised_schedule made.event) ≡ place =
-        subst (λ s. columns 3 9 (event_line s made.event) ≡ place) (sym same.1) made.here in
-        let today : event_day made.start revised_schedule made.event ≡ 23537 = subst (λ s. event_day made.start s made.event ≡ 23537) (sym same.1) made.today in
-        let told = first_there made.start made.event among here today in
-        inr ((λ i. line_of_event (same.0 i) (sym told.1 i) (same.1 i) (told.0 i)) ∙ sym made.is)
-    by (inr same) =
-        let among : Contains (events_of second_schedule) made.event = subst (λ s. Contains (events_of s) made.event) (sym same.1) made.among in
-        let here : columns 3 9 (event_line second_schedule made.event) ≡ place =
-        subst (λ s. columns 3 9 (event_line s made.event) ≡ place) (sym same.1) made.here in
-        let today : event_day made.start second_schedule made.event ≡ 23537 = subst (λ s. event_day made.start s made.event ≡ 23537) (sym same.1) made.today in
-        let told = second_there made.start made.event among here today in
-        inl ((λ i. line_of_event (same.0 i) (sym told.1 i) (same.1 i) (told.0 i)) ∙ sym made.is)
+only_event_lines line made = elim (only_trains made.key made.schedule made.train_runs.chosen.running.is_live) [
+  | inl same ↦ inr (line_by first_key revised_schedule leaves line made first_there same)
+  | inr same ↦ inl (line_by second_key second_schedule arrives line made second_there same)
+]
 
 -- the docker of ASHFELD on 10 June has these two lines
 abbrev the_lines : List DockerLine

@@ -1,15 +1,9 @@
 -- The two files of the worked example are CIF files, and their plain table has a known docker.
-use Rattle.std.proofs.Common.{◌≡◌, ℕ, List, [], ◌∷◌, refl, inl, inr, lit≤, ◌≤◌, rules}
-use Rattle.std.proofs.Common.{◌++◌}
-use Rattle.std.specs.Prelude.{codes}
-use Rattle.std.proofs.lemmas.List.Elements.{All-from_recursion}
+use Rattle.cif_laws.proofs.Common.{◌≡◌, ℕ, List, [], ◌∷◌, refl, inl, inr, lit≤, ◌≤◌, rules, ◌++◌, All, codes, flat_map, All-from_recursion, IsFile, IsUnit}
+use Rattle.cif_laws.proofs.Common.{IsSchedule, IsWithinJourney, most_records, IsFileText, ScheduleKey, Key, tiploc_key, schedule_key, Body, tiploc_body}
+use Rattle.cif_laws.proofs.Common.{schedule_body, Change, changes, put, IsRecord, columns, HasKind, basic_schedule, header, origin_location}
+use Rattle.cif_laws.proofs.Common.{terminating_location, midnights, HasGoodFields, as_new}
 use Rattle.jiff_core.specs.Calendar.{days_from_civil, day_count, days_of_years, days_of_months}
-use Rattle.docker_model.specs.file.File.{IsFile, IsUnit, IsSchedule, IsWithinJourney, most_records}
-use Rattle.docker_model.specs.file.FileFault.{IsFileText}
-use Rattle.docker_model.specs.file.Change.{ScheduleKey, Key, tiploc_key, schedule_key, Body, tiploc_body, schedule_body, Change, changes, put}
-use Rattle.docker_model.specs.records.Record.{IsRecord, columns, HasKind, basic_schedule, origin_location, terminating_location}
-use Rattle.docker_model.specs.file.Journey.{midnights}
-use Rattle.docker_model.specs.records.Field.{HasGoodFields, as_new}
 use Rattle.cif_laws.proofs.schedules.WorkedSchedule.{record_by_test}
 
 -- ---- the records
@@ -122,34 +116,30 @@ second_is = search (rules, schedule_of_three, record_by_test, lit≤)
 revision_is : IsSchedule revision
 revision_is = search (rules, schedule_of_three, record_by_test, lit≤)
 
-full_is_file : IsFile full_file
-full_is_file = record {
-  first = full_header;
-  units = (place_record ∷ []) ∷ first_schedule ∷ second_schedule ∷ [];
+-- a header, units and the trailer are a file
+file_of : (first : List ℕ) (units : List (List (List ℕ))) → IsRecord first → HasKind header first → HasGoodFields first → All IsUnit units
+    → IsFile (first ∷ flat_map (λ unit. unit) units ++ trailer_record ∷ [])
+file_of first units is kind good each = record {
+  first = first;
+  units = units;
   last = trailer_record;
   whole = refl;
-  header_record = record_by_test full_header refl refl;
-  header_kind = refl;
-  header_fields = refl;
-  each = All-from_recursion IsUnit ((place_record ∷ []) ∷ first_schedule ∷ second_schedule ∷ [])
-      (inl (place_record, refl, record_by_test place_record refl refl, inl refl, refl), (inr first_is, (inr second_is, tt)));
+  header_record = is;
+  header_kind = kind;
+  header_fields = good;
+  each = each;
   trailer_record = record_by_test trailer_record refl refl;
   trailer_kind = refl;
 }
 
+full_is_file : IsFile full_file
+full_is_file = file_of full_header ((place_record ∷ []) ∷ first_schedule ∷ second_schedule ∷ []) (record_by_test full_header refl refl) refl refl
+    (All-from_recursion IsUnit ((place_record ∷ []) ∷ first_schedule ∷ second_schedule ∷ [])
+    (inl (place_record, refl, record_by_test place_record refl refl, inl refl, refl), (inr first_is, (inr second_is, tt))))
+
 update_is_file : IsFile update_file
-update_is_file = record {
-  first = update_header;
-  units = revision ∷ [];
-  last = trailer_record;
-  whole = refl;
-  header_record = record_by_test update_header refl refl;
-  header_kind = refl;
-  header_fields = refl;
-  each = All-from_recursion IsUnit (revision ∷ []) (inr revision_is, tt);
-  trailer_record = record_by_test trailer_record refl refl;
-  trailer_kind = refl;
-}
+update_is_file = file_of update_header (revision ∷ []) (record_by_test update_header refl refl) refl refl
+    (All-from_recursion IsUnit (revision ∷ []) (inr revision_is, tt))
 
 -- ---- what the files change
 
@@ -190,25 +180,15 @@ changes_of_update = refl
 
 -- ---- the texts of the files
 
+-- the text of a file: each record is a line
+abbrev pub text_of : List (List ℕ) → List ℕ
+text_of file = flat_map (λ (line : List ℕ). line ++ codes "\n") file
+
 abbrev pub full_text : List ℕ
-full_text =
-    codes "HDTPS.UDFROC1.PD2406080806242100DFROC1A       FA                                \n"
-    ++ codes "TIASHFELD         ASHFELD JUNCTION                                              \n"
-    ++ codes "BSNC100012406102406141111100 POO1A10                                           P\n"
-    ++ codes "LOASHFELD 0900 09001  SL                                                        \n"
-    ++ codes "LTBRAYTON 0930 09322  FL                                                        \n"
-    ++ codes "BSNC200022406102406141111100 POO2B20                                           P\n"
-    ++ codes "LOBRAYTON 0820 08201  UL                                                        \n"
-    ++ codes "LTASHFELD 0850 08502  UL                                                        \n"
-    ++ codes "ZZ                                                                              \n"
+full_text = text_of full_file
 
 abbrev pub update_text : List ℕ
-update_text =
-    codes "HDTPS.UDFROC1.PD2406090906242100DFROC1BDFROC1AUA                                \n"
-    ++ codes "BSRC100012406102406141111100 POO1A10                                           P\n"
-    ++ codes "LOASHFELD 0905 09053  SL                                                        \n"
-    ++ codes "LTBRAYTON 0935 09372  FL                                                        \n"
-    ++ codes "ZZ                                                                              \n"
+update_text = text_of update_file
 
 pub full_is : IsFileText most_records full_text full_file
 full_is = record { lines = refl; is = full_is_file; within = lit≤ tt }

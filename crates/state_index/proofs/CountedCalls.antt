@@ -1,24 +1,17 @@
 -- A place has as many postings of calls as there are live schedules that call there. The proof is about spots. A spot is a posting with the TIPLOC itself
 -- instead of the TIPLOC's index.
-use Rattle.std.proofs.Common.{◌≡◌, ℕ, suc, List, [], ◌∷◌, ◌++◌, length, refl, ap, sym, ◌∙◌, subst, Some, None, Contains}
-use Rattle.std.specs.Prelude.{Option, slice_get, option_map, option_and_then}
-use Rattle.std.specs.List.{cons_option}
-use Rattle.std.proofs.lemmas.List.Elements.{Contains-append_left, Contains-append_right}
-use Rattle.docker_model.specs.file.Change.{schedule_body}
-use Rattle.docker_model.specs.state.Op.{body_of}
-use Rattle.docker_model.specs.file.Change as model
-use Rattle.docker_model.specs.state.State.{State, AreAscending, live_table}
-use Rattle.docker_model.specs.state.Row.{Row}
+use Rattle.cif_laws.proofs.Common.{◌≡◌, ℕ, suc, List, [], ◌∷◌, length, refl, ap, sym, ◌∙◌, subst, Some, None, Contains, Option, slice_get, option_map}
+use Rattle.cif_laws.proofs.Common.{cons_option, State, AreAscending, live_table, Row}
 use Rattle.cif_laws.proofs.lists.Membership.{cons-Contains, cons-Contains-first}
 use Rattle.state_index.specs.NamedPlaces.{call_places}
 use Rattle.state_index.specs.Counts.{IsCallingCount}
 use Rattle.state_index.specs.SpotOrder.{Spot}
 use Rattle.state_index.specs.Spots.{spot_at, posting_spot, spots_in, AreSpotsOf}
-use Rattle.state_index.specs.PlaceRows.{live_row, live_at, rows_at_spots, IsPieceAt}
+use Rattle.state_index.specs.PlaceRows.{live_at, rows_at_spots, IsPieceAt}
 use Rattle.state_index.specs.declared.posting.Posting.{Posting}
-use Rattle.state_index.proofs.LiveIndexes.{calling_there}
-use Rattle.state_index.proofs.Positions.{Keyed, spots_stand}
-use Rattle.state_index.proofs.RowPlaces.{call_back}
+use Rattle.state_index.proofs.Pieces.{in_whole}
+use Rattle.state_index.proofs.LiveIndexes.{call_puts, calling_there, seen}
+use Rattle.state_index.proofs.Positions.{Keyed}
 
 none_some : {A : Type 0} (a : A) → None ≡ Some a → ⊥
 none_some a h = cc
@@ -56,18 +49,12 @@ as_many_rows rows (spot ∷ piece) seen =
 counted_there : (state : State) → AreAscending state.entries → (spots : List Spot) → AreSpotsOf call_places state.entries spots
     → (place : List ℕ) (piece : List Spot) → IsPieceAt place spots piece → IsCallingCount (live_table state) place (length piece)
 counted_there state up spots of place piece is =
-    (rows_at_spots state.entries piece, calling_there state up _ of place _ is, as_many_rows state.entries _ seen)
+    (rows_at_spots state.entries piece, calling_there state up _ of place _ is, as_many_rows state.entries _ seen_there)
   where
-    seen : (spot : Spot) → Contains piece spot → IsSeen state.entries spot
-    seen spot among =
-        let inside = subst (λ zs. Contains zs spot) (sym is.whole) (Contains-append_left (is.before ++ piece) is.behind spot
-        (Contains-append_right is.before piece spot among)) in
-        let stands = spots_stand call_places _ spot ((of.members spot).0 inside) in
-        let calls = call_back _ stands.0.1.op _ stands.2 in (
-          (stands.0.0, schedule_body calls.1),
-          ap (option_and_then live_row) stands.1
-              ∙ ap (λ op. option_and_then {U = Row} (λ (b : model.Body). Some (stands.0.0, b)) (body_of op)) calls.3,
-        )
+    seen_there : (spot : Spot) → Contains piece spot → IsSeen state.entries spot
+    seen_there spot among =
+        let row = seen call_places call_puts state up spots of spot (in_whole spots is.before piece is.behind spot is.whole among) in
+        ((row.0.0, row.1), row.3)
 
 -- if `spots_in` makes a spot of each posting, as many live schedules call at a place as there are postings of calls there
 pub calling_counted : (state : State) → AreAscending state.entries → (spots slice : List Spot) → slice ≡ spots

@@ -1,3 +1,4 @@
+pub mod Pieces
 pub mod Search
 pub mod Positions
 pub mod PostingOrders

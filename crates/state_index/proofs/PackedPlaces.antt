@@ -1,9 +1,8 @@
 -- Packing the seven bytes of a place into one number loses nothing: two places are equal if and only if their numbers are equal.
-use Rattle.std.proofs.Common.{◌≡◌, ◌<◌, ◌+◌, ◌++◌, [], ◌∷◌, ℕ, List, length, get_or, subst, sym, refl, ap, ◌∙◌, arith}
-use Rattle.std.proofs.lemmas.Grind.{common_steps}
-use Rattle.std.specs.Int.{from_le_bytes, to_le_bytes, w64}
+use Rattle.cif_laws.proofs.Common.{◌≡◌, ◌<◌, ◌+◌, ◌++◌, [], ◌∷◌, ℕ, List, length, get_or, subst, sym, refl, ap, ◌∙◌, arith, common_steps, w64, length-append}
+use Rattle.std.specs.Int.{from_le_bytes, to_le_bytes}
 use Rattle.std.proofs.lemmas.Nat.{le_bytes_8}
-use Rattle.std.proofs.lemmas.List.{append_cancel_right, length-append}
+use Rattle.std.proofs.lemmas.List.{append_cancel_right}
 
 -- An element that is read past the end of a list counts as 0, so appending a 0 changes no element that is read.
 last_zero : (xs : List ℕ) (i : ℕ) → get_or (xs ++ 0 ∷ []) i 0 ≡ get_or xs i 0

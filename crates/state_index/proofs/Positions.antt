@@ -1,14 +1,7 @@
 -- Lemmas on the elements of a list at given indexes, and on the rows that spots name. A spot is a TIPLOC with the index of a row there.
-use Rattle.std.proofs.Common.{◌≡◌, ℕ, zero, suc, ◌+◌, ◌<◌, List, [], ◌∷◌, length, map, refl, ap, sym, ◌∙◌, subst, inl, inr, ◌⊎◌, Some, None, Contains, arith}
-use Rattle.std.proofs.lemmas.Grind.{common_steps}
-use Rattle.std.specs.Prelude.{Option, slice_get}
-use Rattle.std.specs.List.{AllByRecursion, filter_map, cons_option}
-use Rattle.std.specs.declared.cmp.Ordering.{Ordering}
-use Rattle.std.specs.declared.cmp.Ordering.TheVariants.{Less}
-use Rattle.std.proofs.lemmas.List.Elements.{Contains-append_right, Contains-append_cases}
-use Rattle.docker_model.specs.file.Change.{Key}
-use Rattle.docker_model.specs.state.Op.{Entry}
-use Rattle.docker_model.specs.state.Order.{IsBelow, IsStrictlyAscending}
+use Rattle.cif_laws.proofs.Common.{◌≡◌, ℕ, zero, suc, ◌+◌, ◌<◌, List, [], ◌∷◌, length, map, refl, ap, sym, ◌∙◌, subst, inl, inr, ◌⊎◌, Some, None, Contains}
+use Rattle.cif_laws.proofs.Common.{arith, common_steps, Option, slice_get, AllByRecursion, filter_map, cons_option, Ordering, Less, Contains-append_right}
+use Rattle.cif_laws.proofs.Common.{Contains-append_cases, Key, Entry, IsBelow, IsStrictlyAscending}
 use Rattle.cif_laws.proofs.lists.Membership.{Contains-cons, cons-Contains, cons-Contains-first, nil-Contains, below_by_recursion, Contains-map, map-Contains}
 use Rattle.state_index.specs.SpotOrder.{Spot}
 use Rattle.state_index.specs.Spots.{Places, spot_at, spots_from, spots_of}

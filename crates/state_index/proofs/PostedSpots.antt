@@ -1,13 +1,7 @@
 -- Lemmas on postings that are appended one after another, and on the spots made from them. A spot is a posting with the TIPLOC itself instead of the TIPLOC's
 -- index.
-use Rattle.std.proofs.Common.{◌≡◌, ℕ, ◌+◌, ◌<◌, ◌^◌, List, [], ◌∷◌, ◌++◌, length, sym, subst, Some, vec_len, vec_capacity, append-nil, arith}
-use Rattle.std.proofs.lemmas.Grind.{common_steps}
-use Rattle.std.proofs.Common.{rules}
-use Rattle.std.specs.Prelude.{slice_get}
-use Rattle.std.specs.Global.{Vec}
-use Rattle.std.proofs.lemmas.List.{length-append, append_assoc}
-use Rattle.std.proofs.lemmas.List.Elements.{filter_map-append, Contains-append_right}
-use Rattle.docker_model.specs.state.Order.{bytes_cmp, IsStrictlyAscending}
+use Rattle.cif_laws.proofs.Common.{◌≡◌, ℕ, ◌+◌, ◌<◌, ◌^◌, List, [], ◌∷◌, ◌++◌, length, sym, subst, Some, vec_len, vec_capacity, append-nil, arith}
+use Rattle.cif_laws.proofs.Common.{rules, slice_get, Vec, length-append, append_assoc, filter_map-append, Contains-append_right, bytes_cmp, IsStrictlyAscending}
 use Rattle.state_index.specs.declared.posting.Posting.{Posting}
 use Rattle.state_index.specs.Posted.{ArePosted, CanPost}
 use Rattle.state_index.specs.Rooms.{Item, HasRoomAt, places_in}
@@ -16,10 +10,6 @@ use Rattle.state_index.specs.Spots.{Places, spot_at, spots_in, spots_of}
 use Rattle.state_index.proofs.Positions.{Keyed}
 
 module _ (names : List (List ℕ)) where
-  -- room for the postings of some places and of others is room for the postings of the first places
-  pub can_front : (first second : List (List ℕ)) (postings : Vec Posting) → CanPost names (first ++ second) postings → CanPost names first postings
-  can_front = grind (common_steps, arith, length-append)
-
   -- once the postings of the first places are appended, there is still room for the postings of the others
   pub can_back : (first second : List (List ℕ)) (spots : List Spot) (old new : Vec Posting) → length spots ≡ length first → ArePosted names spots old new
       → CanPost names (first ++ second) old → CanPost names second new

@@ -1,8 +1,7 @@
 -- The order of postings: it is total, and it is the order of the numbers that code compares.
-use Rattle.std.proofs.Common.{◌≡◌, ℕ, Bool, ◌+◌, ◌*◌, ◌^◌, ◌<◌, rules}
-use Rattle.std.specs.Prelude.{◌==◌, ◌&&◌}
-use Rattle.std.specs.Cmp.{IsTotalOrder, then_total, on_total, nat_cmp_total}
-use Rattle.std.specs.Ordering.{eq_by_cmp, ordering_then, nat_cmp}
+use Rattle.cif_laws.proofs.Common.{◌≡◌, ℕ, Bool, ◌+◌, ◌*◌, ◌^◌, ◌<◌, rules, ◌==◌, ◌&&◌, IsTotalOrder, then_total, on_total, nat_cmp_total, ordering_then}
+use Rattle.cif_laws.proofs.Common.{nat_cmp}
+use Rattle.std.specs.Ordering.{eq_by_cmp}
 use Rattle.state_index.specs.declared.posting.Posting.{Posting}
 use Rattle.state_index.specs.PostingOrder.{posting_cmp}
 

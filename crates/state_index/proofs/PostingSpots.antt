@@ -1,16 +1,8 @@
 -- Postings and their spots. A posting has its place as an index in a list of places, and its spot has the TIPLOC itself.
-use Rattle.std.proofs.Common.{◌≡◌, ℕ, List, [], ◌∷◌, ◌++◌, refl, ap, sym, ◌∙◌, subst, Some, None, Contains, append-nil, rules}
-use Rattle.std.specs.Prelude.{Option, ◌↔◌, slice_get, option_map, option_and_then}
-use Rattle.std.specs.List.{cons_option}
-use Rattle.std.specs.declared.cmp.Ordering.{Ordering}
-use Rattle.std.specs.declared.cmp.Ordering.TheVariants.{Less, Equal, Greater}
-use Rattle.std.specs.Ordering.{ordering_reverse, nat_cmp}
-use Rattle.std.specs.Cmp.{tied_itself}
-use Rattle.std.specs.Cmp.Lexicographic.{nat_list_cmp_total}
+use Rattle.cif_laws.proofs.Common.{◌≡◌, ℕ, List, [], ◌∷◌, ◌++◌, refl, ap, sym, ◌∙◌, subst, Some, None, Contains, append-nil, rules, Option, ◌↔◌, slice_get}
+use Rattle.cif_laws.proofs.Common.{option_map, option_and_then, cons_option, Ordering, Less, Equal, Greater, ordering_reverse, nat_cmp, tied_itself}
+use Rattle.cif_laws.proofs.Common.{nat_list_cmp_total, filter_map-append, exact_unsigned, bytes_cmp, IsStrictlyAscending}
 use Rattle.std.proofs.lemmas.Cmp.{ranked}
-use Rattle.std.proofs.lemmas.List.Elements.{filter_map-append}
-use Rattle.std.proofs.lemmas.Map.Lookups.{exact_unsigned}
-use Rattle.docker_model.specs.state.Order.{bytes_cmp, IsStrictlyAscending}
 use Rattle.cif_laws.proofs.lists.Membership.{nil-Contains, cons-Contains, cons-Contains-first, Contains-map}
 use Rattle.state_index.specs.SpotOrder.{Spot, spot_cmp}
 use Rattle.state_index.specs.declared.posting.Posting.{Posting}

@@ -1,16 +1,7 @@
 -- The memory that is enough for the index of some items is also enough for the index of rows that come from these items, one row for each key.
-use Rattle.std.proofs.Common.{◌≡◌, ℕ, ◌+◌, ◌≤◌, List, [], ◌∷◌, ◌++◌, length, refl, ap, sym, ◌∙◌, subst, inl, inr, ◌⊎◌, Contains, None, arith}
-use Rattle.std.proofs.Common.{rules}
-use Rattle.std.specs.declared.cmp.Ordering.TheVariants.{Less, Equal}
-use Rattle.std.specs.Ordering.{on}
-use Rattle.std.specs.Cmp.{tied_itself}
-use Rattle.std.specs.Global.{Vec}
-use Rattle.std.proofs.lemmas.List.{length-append, append_assoc}
-use Rattle.std.proofs.lemmas.List.Elements.{Contains-append_left, Contains-append_right, Contains-append_cases}
-use Rattle.docker_model.specs.file.Change.{Key}
-use Rattle.docker_model.specs.state.Op.{Op, body_of, key_cmp}
-use Rattle.docker_model.specs.state.Order.{IsBelow}
-use Rattle.docker_model.specs.state.State.{AreAscending}
+use Rattle.cif_laws.proofs.Common.{◌≡◌, ℕ, ◌+◌, ◌≤◌, List, [], ◌∷◌, ◌++◌, length, refl, ap, sym, ◌∙◌, subst, inl, inr, ◌⊎◌, Contains, None, arith, rules, Less}
+use Rattle.cif_laws.proofs.Common.{Equal, on, tied_itself, Vec, length-append, append_assoc, Contains-append_left, Contains-append_right, Contains-append_cases}
+use Rattle.cif_laws.proofs.Common.{Key, Op, body_of, key_cmp, IsBelow, AreAscending}
 use Rattle.cif_laws.proofs.lists.Membership.{Contains-cons, cons-Contains, cons-Contains-first, nil-Contains, below_by_recursion, Contains-map}
 use Rattle.cif_laws.proofs.orders.Orders.{key_total}
 use Rattle.state_index.specs.NamedPlaces.{call_places, link_places}

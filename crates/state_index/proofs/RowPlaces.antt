@@ -1,12 +1,7 @@
 -- The places of a row: where a schedule calls, or where an association links two trains.
-use Rattle.std.proofs.Common.{◌≡◌, ℕ, List, [], ◌∷◌, map, refl, subst, ◌⊎◌, true, false, Some, None, Contains, rules}
-use Rattle.std.specs.Prelude.{filter}
-use Rattle.docker_model.specs.records.Record.{origin_location, intermediate_location}
-use Rattle.docker_model.specs.records.Record.{terminating_location, kind_of, HasKind, columns, is_location}
-use Rattle.docker_model.specs.file.Change.{Key, association_key, schedule_key, AssociationKey}
-use Rattle.docker_model.specs.file.Change.{ScheduleKey, Body, association_body, schedule_body}
-use Rattle.docker_model.specs.state.Op.{Op, put_with, body_of}
-use Rattle.docker_model.specs.file.Journey.{CallsAt}
+use Rattle.cif_laws.proofs.Common.{◌≡◌, ℕ, List, [], ◌∷◌, map, refl, subst, ◌⊎◌, true, false, Some, None, Contains, rules, filter, origin_location}
+use Rattle.cif_laws.proofs.Common.{intermediate_location, terminating_location, kind_of, HasKind, columns, is_location, Key, association_key, schedule_key}
+use Rattle.cif_laws.proofs.Common.{AssociationKey, ScheduleKey, Body, association_body, schedule_body, Op, put_with, body_of, CallsAt}
 use Rattle.cif_laws.proofs.lists.Membership.{nil-Contains, Contains-map, map-Contains, single-Contains}
 use Rattle.cif_laws.proofs.lists.FilteredMembers.{filter_back, filter_forth}
 use Rattle.state_index.specs.NamedPlaces.{call_places, link_places, location_lines}

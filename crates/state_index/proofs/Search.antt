@@ -1,15 +1,8 @@
 -- Lemmas on what a binary search in an ascending list finds.
-use Rattle.std.proofs.Common.{◌≡◌, ℕ, zero, suc, ◌<◌, ◌≤◌, List, [], ◌∷◌, map, refl, Bool, true, false, rules}
-use Rattle.std.proofs.Common.{length, get_or, ap, sym, ◌∙◌, subst, inl, inr, ◌⊎◌, Contains, Ok, Err, arith}
-use Rattle.std.proofs.lemmas.Bool.{cases_lt}
-use Rattle.std.specs.Prelude.{Result, ◌↔◌, IsTrue, is_ok}
-use Rattle.std.specs.List.{AllPairs}
-use Rattle.std.specs.List.Sorted.{IsNonDecreasingBy, IsPartitionPoint, IsSearchInRange, IsBinarySearchResult}
-use Rattle.std.specs.declared.cmp.Ordering.{Ordering}
-use Rattle.std.specs.declared.cmp.Ordering.TheVariants.{Less, Equal, Greater}
-use Rattle.std.specs.Ordering.{ordering_index}
-use Rattle.std.specs.Cmp.{IsTotalOrder, tied_itself}
-use Rattle.docker_model.specs.state.Order.{IsBelow, IsStrictlyAscending}
+use Rattle.cif_laws.proofs.Common.{◌≡◌, ℕ, zero, suc, ◌<◌, ◌≤◌, List, [], ◌∷◌, map, refl, Bool, true, false, rules, length, get_or, ap, sym, ◌∙◌, subst, inl}
+use Rattle.cif_laws.proofs.Common.{inr, ◌⊎◌, Contains, Ok, Err, arith, cases_lt, Result, ◌↔◌, IsTrue, is_ok, AllPairs, IsNonDecreasingBy, IsPartitionPoint}
+use Rattle.cif_laws.proofs.Common.{Ordering, Less, Equal, Greater, ordering_index, IsTotalOrder, tied_itself, IsBelow, IsStrictlyAscending}
+use Rattle.std.specs.List.Sorted.{IsSearchInRange, IsBinarySearchResult}
 use Rattle.cif_laws.proofs.lists.Membership.{cons-Contains, cons-Contains-first, Contains-map, map-Contains}
 use Rattle.cif_laws.proofs.orders.Ascending.{later_of}
 use Rattle.cif_laws.proofs.lists.Later.{pairs_from_later}

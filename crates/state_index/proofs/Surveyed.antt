@@ -1,21 +1,15 @@
 -- Lemmas on surveys: the places that rows or changes name are listed one after another, and the rows and their calls are counted.
-use Rattle.std.proofs.Common.{◌≡◌, ℕ, ◌+◌, ◌≤◌, ◌<◌, ◌^◌, List, [], ◌∷◌, ◌++◌, map, length, ap, sym, subst, inl, inr, ◌⊎◌, Contains, None, rules}
-use Rattle.std.proofs.lemmas.Grind.{common_steps}
-use Rattle.std.proofs.Common.{append-nil, vec_capacity, arith}
-use Rattle.std.proofs.lemmas.List.{length-append, length-map}
-use Rattle.std.proofs.lemmas.List.Elements.{Contains-append_cases, Contains-append_left, Contains-append_right}
-use Rattle.docker_model.specs.records.Record.{columns}
-use Rattle.docker_model.specs.file.Change.{Key, AssociationKey, ScheduleKey, association_key, schedule_key, Body, association_body, schedule_body}
-use Rattle.docker_model.specs.state.Op.{Op, put_with, body_of}
+use Rattle.cif_laws.proofs.Common.{◌≡◌, ℕ, ◌+◌, ◌≤◌, ◌<◌, ◌^◌, List, [], ◌∷◌, ◌++◌, map, length, ap, sym, subst, inl, inr, ◌⊎◌, Contains, rules}
+use Rattle.cif_laws.proofs.Common.{common_steps, append-nil, vec_capacity, arith, length-append, length-map, Contains-append_cases, Contains-append_left}
+use Rattle.cif_laws.proofs.Common.{Contains-append_right, columns, Key, AssociationKey, ScheduleKey, association_key, schedule_key, Body, association_body}
+use Rattle.cif_laws.proofs.Common.{schedule_body, Op, put_with, bytes_cmp, IsStrictlyAscending}
 use Rattle.cif_laws.proofs.lists.Membership.{nil-Contains, Contains-cons, single-Contains}
 use Rattle.state_index.specs.NamedPlaces.{call_places, link_places, location_lines}
-use Rattle.docker_model.specs.state.Order.{bytes_cmp, IsStrictlyAscending}
 use Rattle.state_index.specs.declared.index.Index.{Index}
 use Rattle.state_index.specs.declared.survey.Survey.{Survey}
 use Rattle.state_index.specs.Spots.{Places}
 use Rattle.state_index.specs.Rooms.{Item, Includes, HasGrownBy, HasRoomFor, places_in}
 use Rattle.state_index.proofs.RoomForRows.{links_few, places_append}
-use Rattle.state_index.proofs.RowPlaces.{no_calls, no_links}
 
 -- what was listed is still listed if the list is the same
 pub still_listed : (some names new : List (List ℕ)) → new ≡ names → Includes some names → Includes some new
@@ -66,15 +60,6 @@ pub grown_one : (item : Item) (old new : Survey) → Includes old.names.items ne
     → Includes (link_places item.0 item.1) new.names.items → old.calls + length (call_places item.0 item.1) ≤ new.calls → old.rows + 1 ≤ new.rows
     → HasGrownBy (item ∷ []) old new
 grown_one = search (rules, alone, length-append)
-
--- an item that names no place is surveyed by counting it
-pub grown_nowhere : (item : Item) (old new : Survey) → call_places item.0 item.1 ≡ [] → link_places item.0 item.1 ≡ []
-    → new.names.items ≡ old.names.items → old.calls ≤ new.calls → old.rows + 1 ≤ new.rows → HasGrownBy (item ∷ []) old new
-grown_nowhere = search (rules, grown_one, still_listed, nil-Contains)
-
-pub grown_without : (key : Key) (op : Op) (old new : Survey) → body_of op ≡ None → new.names.items ≡ old.names.items → old.calls ≤ new.calls
-    → old.rows + 1 ≤ new.rows → HasGrownBy ((key, op) ∷ []) old new
-grown_without key op old new none = grown_nowhere (key, op) old new (no_calls key op none) (no_links key op none)
 
 -- there are at most as many location records as lines
 pub few_locations : (lines : List (List ℕ)) → length (location_lines lines) ≤ length lines

@@ -1,19 +1,10 @@
 -- The number of schedules that call at a place equals the number of live rows that pass the test
 -- `is_call_at` for that place.
-use Rattle.std.proofs.Common.{◌≡◌, ℕ, List, [], ◌∷◌, length, refl, ap, sym, ◌∙◌, subst, Bool, true, Contains, Some, arith}
-use Rattle.std.proofs.Common.{rules}
-use Rattle.std.specs.Prelude.{filter, map, ◌&&◌}
-use Rattle.std.specs.List.{list_any}
-use Rattle.std.specs.Str.{bytes_eq}
-use Rattle.std.specs.Ordering.{on}
-use Rattle.std.specs.Cmp.{IsTotalOrder, on_total}
+use Rattle.cif_laws.proofs.Common.{◌≡◌, ℕ, List, [], ◌∷◌, length, refl, ap, sym, ◌∙◌, subst, Bool, true, Contains, Some, arith, rules, filter, map, ◌&&◌}
+use Rattle.cif_laws.proofs.Common.{list_any, bytes_eq, on, IsTotalOrder, on_total, bytes_eq-Decides, columns, Key, association_key, schedule_key, tiploc_key}
+use Rattle.cif_laws.proofs.Common.{Body, association_body, schedule_body, tiploc_body, key_cmp, put_with, State, IsValid, live_table, Table, Row, AreInKeyOrder}
+use Rattle.cif_laws.proofs.Common.{AreRowsOf}
 use Rattle.std.proofs.lemmas.Map.Views.{Contains-from_any}
-use Rattle.std.proofs.lemmas.Slice.Eq.{bytes_eq-Decides}
-use Rattle.docker_model.specs.records.Record.{columns}
-use Rattle.docker_model.specs.file.Change.{Key, association_key, schedule_key, tiploc_key, Body, association_body, schedule_body, tiploc_body}
-use Rattle.docker_model.specs.state.Op.{key_cmp, put_with}
-use Rattle.docker_model.specs.state.State.{State, IsValid, live_table}
-use Rattle.docker_model.specs.state.Table.{Table}
 use Rattle.cif_laws.proofs.lists.FilteredMembers.{filter_back, filter_forth}
 use Rattle.cif_laws.proofs.lists.Later.{later_filter}
 use Rattle.cif_laws.proofs.lists.Membership.{nil-Contains}
@@ -21,7 +12,6 @@ use Rattle.cif_laws.proofs.orders.Ascending.{same_list, ascending_of, later_of}
 use Rattle.cif_laws.proofs.orders.Orders.{key_total}
 use Rattle.state_index.specs.NamedPlaces.{call_places}
 use Rattle.state_laws.specs.Index.{AreCalling}
-use Rattle.docker_model.specs.state.Row.{Row, AreInKeyOrder, AreRowsOf}
 use Rattle.state_index.specs.Counts.{IsCallingCount}
 use Rattle.state_index.proofs.RowPlaces.{Calls, call_back, call_forth}
 use Rattle.docker_state.specs.Live.{live_rows}

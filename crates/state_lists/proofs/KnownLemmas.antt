@@ -1,14 +1,10 @@
 -- The text that the code writes equals the text that lists what an office knows.
-use Rattle.std.proofs.Common.{◌≡◌, ℕ, ◌<◌, List, subst, rules}
-use Rattle.std.specs.Prelude.{Option, IfSome, option_map}
+use Rattle.cif_laws.proofs.Common.{◌≡◌, ℕ, ◌<◌, List, subst, rules, Option, IfSome, option_map, FileStamp, IsFloor, State, IsValid, IsKnownText}
 use Rattle.docker_model.specs.file.Change as model
 use Rattle.docker_model.specs.state.Op as ops
-use Rattle.docker_model.specs.state.Stamp.{FileStamp, IsFloor}
-use Rattle.docker_model.specs.state.State.{State, IsValid}
 use Rattle.docker_join.specs.declared.stamp.FileStamp as stamps
 use Rattle.docker_join.specs.Meaning.{file_stamp_meant}
 use Rattle.docker_state.specs.Live.{live_rows}
-use Rattle.docker_model.specs.lists.KnownText.{IsKnownText}
 use Rattle.state_lists.specs.Tallies.{IsTallyOf, known_lines}
 use Rattle.state_lists.specs.declared.tally.Tally.{Tally}
 use Rattle.state_lists.proofs.Counts.{rows_are}

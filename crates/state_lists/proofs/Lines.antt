@@ -1,21 +1,15 @@
 -- The list of a state's timing points is the concatenation of the lines of all entries.
-use Rattle.std.proofs.Common.{◌≡◌, List, ℕ, [], ◌∷◌, map, refl, ap, sym, ◌∙◌, arith, rules}
-use Rattle.std.specs.Prelude.{Option}
-use Rattle.std.specs.List.{flat_map}
+use Rattle.cif_laws.proofs.Common.{◌≡◌, List, ℕ, [], ◌∷◌, map, refl, ap, sym, ◌∙◌, arith, rules, Option, flat_map, Key, tiploc_key, Body, tiploc_body, Entry}
+use Rattle.cif_laws.proofs.Common.{State, IsValid, live_table, ended, Row, IsPlacesText}
 use Rattle.std.proofs.lemmas.List.Folds.{flat_map-map}
 use Rattle.cif_device.specs.Device.{Takes, TakesPart}
-use Rattle.docker_model.specs.file.Change.{Key, tiploc_key, Body, tiploc_body}
-use Rattle.docker_model.specs.state.Op.{Entry}
-use Rattle.docker_model.specs.state.State.{State, IsValid, live_table}
 use Rattle.cif_change.specs.declared.key.Key.{Key as Kept}
 use Rattle.docker_join.specs.declared.entry.Entry.{Entry as Held}
 use Rattle.docker_join.specs.Meaning.{row_meant}
-use Rattle.docker_model.specs.docker.DockerText.{ended}
 use Rattle.state_index.specs.Counts.{IsCallingCount}
-use Rattle.docker_model.specs.state.Row.{Row}
 use Rattle.docker_state.specs.Live.{live_rows}
 use Rattle.state_lists.specs.Gained.{Gains, GainsPart}
-use Rattle.docker_model.specs.lists.PlacesText.{IsPlacesText, place_line, place_text, places_text}
+use Rattle.docker_model.specs.lists.PlacesText.{place_line, place_text, places_text}
 use Rattle.state_lists.specs.RowLines.{row_line}
 use Rattle.state_lists.proofs.Counts.{count_is, rows_are}
 

@@ -1,13 +1,10 @@
 -- A live table has only one list of timing points. For each state there is only one text that lists what an office with this state knows.
-use Rattle.std.proofs.Common.{◌≡◌, ℕ, ◌≤◌, List, refl, ap, sym, ◌∙◌, subst, Contains, Some, None, arith}
-use Rattle.std.specs.Prelude.{Option}
-use Rattle.docker_model.specs.state.State.{State}
-use Rattle.docker_model.specs.state.Table.{Table}
+use Rattle.cif_laws.proofs.Common.{◌≡◌, ℕ, ◌≤◌, List, refl, ap, sym, ◌∙◌, subst, Contains, Some, None, arith, Option, State, Table, Row, IsKnownText}
+use Rattle.cif_laws.proofs.Common.{IsPlacesText}
 use Rattle.cif_laws.proofs.lists.Membership.{nil-Contains}
 use Rattle.state_laws.proofs.states.OneJoin.{floor_unique}
-use Rattle.docker_model.specs.state.Row.{Row}
-use Rattle.docker_model.specs.lists.KnownText.{IsGreatest, IsKnownText, ends_of, known_text}
-use Rattle.docker_model.specs.lists.PlacesText.{IsPlacesText, places_text}
+use Rattle.docker_model.specs.lists.KnownText.{IsGreatest, ends_of, known_text}
+use Rattle.docker_model.specs.lists.PlacesText.{places_text}
 use Rattle.state_lists.proofs.Counts.{one_rows}
 
 pub one_places : (live : Table) (text other : List ℕ) → IsPlacesText live text → IsPlacesText live other → text ≡ other

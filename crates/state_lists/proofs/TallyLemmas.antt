@@ -1,20 +1,15 @@
 -- How a tally changes with each row of a walk.
-use Rattle.std.proofs.Common.{◌≡◌, ℕ, ◌+◌, ◌^◌, ◌<◌, ◌≤◌, List, [], ◌∷◌, ◌++◌, length, take, map, get_or, refl, ap, sym, ◌∙◌, rules}
-use Rattle.std.proofs.lemmas.Grind.{common_steps}
-use Rattle.std.proofs.Common.{subst, inl, inr, ◌⊎◌, cond, Contains, Some, None, arith, append-nil, length-append}
-use Rattle.std.specs.Prelude.{Option, ◌==◌}
-use Rattle.std.proofs.Math.ListN.{drop_of_length-le}
+use Rattle.cif_laws.proofs.Common.{◌≡◌, ℕ, ◌+◌, ◌^◌, ◌<◌, ◌≤◌, List, [], ◌∷◌, ◌++◌, length, take, map, get_or, refl, sym, rules, common_steps, subst, inl, inr}
+use Rattle.cif_laws.proofs.Common.{cond, Contains, Some, None, arith, append-nil, length-append, Option, ◌==◌, drop_of_length-le, map-append, length-map}
+use Rattle.cif_laws.proofs.Common.{take-append-drop, Contains-append_left, Contains-append_right, Contains-append_cases, filter-append, filter_map-append, Key}
+use Rattle.cif_laws.proofs.Common.{tiploc_key, association_key, schedule_key, Body, Op, Entry, key_tag, body_end, Row}
 use Rattle.std.proofs.Math.Seq.{take-suc}
-use Rattle.std.proofs.lemmas.List.{map-append, length-map, length-take, take-append-drop}
+use Rattle.std.proofs.lemmas.List.{length-take}
 use Rattle.std.proofs.lemmas.List.Sums.{length-filter, count_by-le-length}
-use Rattle.std.proofs.lemmas.List.Elements.{Contains-append_left, Contains-append_right, Contains-append_cases, filter-append, filter_map-append}
-use Rattle.docker_model.specs.file.Change.{Key, tiploc_key, association_key, schedule_key, Body}
-use Rattle.docker_model.specs.state.Op.{Op, Entry, key_tag, body_end}
 use Rattle.cif_laws.proofs.lists.Membership.{cons-Contains-first, Contains-single}
 use Rattle.cif_change.specs.declared.key.Key.{Key as Kept}
 use Rattle.docker_join.specs.declared.entry.Entry.{Entry as Held}
 use Rattle.docker_join.specs.Meaning.{op_meant, row_meant}
-use Rattle.docker_model.specs.state.Row.{Row}
 use Rattle.docker_state.specs.Live.{put_before, live_rows}
 use Rattle.docker_model.specs.lists.KnownText.{IsGreatest, count_of, day_in, end_of, ends_of}
 use Rattle.state_lists.specs.Tallies.{AreFew, IsTallyOf, with_day}
@@ -34,64 +29,58 @@ ends_more = search (rules, filter_map-append, append-nil)
 
 -- the lemmas for a correct tally of the rows `rows`, when one more row is counted
 module _ (rows : List Row) (tally : Tally) (body : Body) (is : IsTallyOf rows tally) where
-  same_count : (tag count : ℕ) (key : Key) → count ≡ count_of tag rows → ◌≡◌ {A = ℕ} (one_if tag key) 0 → count ≡ count_of tag (rows ++ (key, body) ∷ [])
-  same_count tag count key told none = let more = count_more tag rows key body in omega arith
-
-  next_count : (tag count : ℕ) (key : Key) → count ≡ count_of tag rows → ◌≡◌ {A = ℕ} (one_if tag key) 1 → count + 1 ≡ count_of tag (rows ++ (key, body) ∷ [])
-  next_count tag count key told one = let more = count_more tag rows key body in omega arith
+  -- the tally is correct with one more row if each count grows by 1 for a key of its kind
+  tally_more : (key : Key) (after : Tally) → after.schedules ≡ tally.schedules + one_if 3 key → after.associations ≡ tally.associations + one_if 2 key
+      → after.places ≡ tally.places + one_if 1 key → IsGreatest (with_day (ends_of rows) (end_of key body)) after.last
+      → IsTallyOf (rows ++ (key, body) ∷ []) after
+  tally_more key after threes twos ones last =
+      let greatest = subst (λ days. IsGreatest days after.last) (sym (ends_more rows key body)) last in
+      search (rules, count_more)
 
   pub with_place : (key : Key) → ◌≡◌ {A = ℕ} (key_tag key) 1 → IsTallyOf (rows ++ (key, body) ∷ []) (record tally { places = tally.places + 1 })
-  with_place (tiploc_key code) told = search (rules, same_count, next_count, ends_more)
+  with_place (tiploc_key code) told = tally_more (tiploc_key code) _ (omega arith) (omega arith) refl is.last
   with_place _ told = absurd (omega (arith, told))
 
   pub with_association : (key : Key) → ◌≡◌ {A = ℕ} (key_tag key) 2
       → IsTallyOf (rows ++ (key, body) ∷ []) (record tally { associations = tally.associations + 1 })
-  with_association (association_key key) told = search (rules, same_count, next_count, ends_more)
+  with_association (association_key key) told = tally_more (association_key key) _ (omega arith) refl (omega arith) is.last
   with_association _ told = absurd (omega (arith, told))
 
   pub with_schedule : (key : Key) → ◌≡◌ {A = ℕ} (key_tag key) 3 → (end last : Option ℕ) → end ≡ day_in (body_end body)
       → ((days : List ℕ) → IsGreatest days tally.last → IsGreatest (with_day days end) last)
       → IsTallyOf (rows ++ (key, body) ∷ []) (record tally { schedules = tally.schedules + 1; last = last })
-  with_schedule (schedule_key key) told end last end_is later = record {
-    schedules = next_count 3 tally.schedules (schedule_key key) is.schedules refl;
-    associations = same_count 2 tally.associations (schedule_key key) is.associations refl;
-    places = same_count 1 tally.places (schedule_key key) is.places refl;
-    last = subst (λ days. IsGreatest days last) (ap (with_day (ends_of rows)) end_is ∙ sym (ends_more rows (schedule_key key) body))
-        (later (ends_of rows) is.last);
-  }
+  with_schedule (schedule_key key) told end last end_is later = tally_more (schedule_key key) _ refl (omega arith) (omega arith)
+      (subst (λ e. IsGreatest (with_day (ends_of rows) e) last) end_is (later (ends_of rows) is.last))
   with_schedule (tiploc_key code) told end last end_is later = absurd (omega (arith, told))
   with_schedule (association_key key) told end last end_is later = cc
 
 -- ---- the greater of two days
 
--- the lemmas for a list of days whose greatest day is `one`, when the day `other` is added
-module _ (days : List ℕ) (one other : ℕ) (is : IsGreatest days (Some one)) where
-  later_wins : one ≤ other → IsGreatest (days ++ other ∷ []) (Some other)
-  later_wins below =
-      (Contains-append_right days (other ∷ []) other (cons-Contains-first other []), λ day among. by day (Contains-append_cases days (other ∷ []) day among))
-    where
-      by : (day : ℕ) → Contains days day ⊎ Contains (other ∷ []) day → day ≤ other
-      by day (inl inside) = let most = is.1 day inside in omega arith
-      by day (inr last) = let same : other ≡ day = Contains-single other day last in omega arith
-
-  later_stays : other ≤ one → IsGreatest (days ++ other ∷ []) (Some one)
-  later_stays below = (Contains-append_left days (other ∷ []) one is.0, λ day among. by day (Contains-append_cases days (other ∷ []) day among))
-    where
-      by : (day : ℕ) → Contains days day ⊎ Contains (other ∷ []) day → day ≤ one
-      by day (inl inside) = is.1 day inside
-      by day (inr last) = let same : other ≡ day = Contains-single _ _ last in omega arith
+-- let `one` be the greatest of some days. A day is the greatest of these days and one more day if it
+-- is one of them, and neither `one` nor the added day is later
+greatest_of : (days : List ℕ) (one other top : ℕ) → IsGreatest days (Some one) → one ≤ top → other ≤ top → Contains (days ++ other ∷ []) top
+    → IsGreatest (days ++ other ∷ []) (Some top)
+greatest_of days one other top is first second inside = (
+  inside,
+  λ day among. elim (Contains-append_cases days (other ∷ []) day among) [
+    | inl before ↦ let most = is.1 day before in omega arith
+    | inr last ↦ let same : other ≡ day = Contains-single other day last in omega arith
+  ],
+)
 
 -- if the day that is added isn't earlier than the greatest day of the list, the added day is the
 -- greatest
 pub other_later : (days : List ℕ) (first second : Option ℕ) (one other : ℕ) → first ≡ Some one → second ≡ Some other → one ≤ other
     → IsGreatest days first → IsGreatest (with_day days second) (Some other)
-other_later days first second one other first_is second_is below is =
-    subst (λ o. IsGreatest (with_day days o) (Some other)) (sym second_is) (later_wins days one other (subst (IsGreatest days) first_is is) below)
+other_later days first second one other first_is second_is below is = subst (λ o. IsGreatest (with_day days o) (Some other)) (sym second_is)
+    (greatest_of days one other other (subst (IsGreatest days) first_is is) below (omega arith)
+    (Contains-append_right days (other ∷ []) other (cons-Contains-first other [])))
 
 pub one_later : (days : List ℕ) (first second : Option ℕ) (one other : ℕ) → first ≡ Some one → second ≡ Some other → other ≤ one
     → IsGreatest days first → IsGreatest (with_day days second) (Some one)
-one_later days first second one other first_is second_is below is =
-    subst (λ o. IsGreatest (with_day days o) (Some one)) (sym second_is) (later_stays days one other (subst (IsGreatest days) first_is is) below)
+one_later days first second one other first_is second_is below is = subst (λ o. IsGreatest (with_day days o) (Some one)) (sym second_is)
+    (let greatest : IsGreatest days (Some one) = subst (IsGreatest days) first_is is in
+    greatest_of days one other one greatest (omega arith) below (Contains-append_left days (other ∷ []) one greatest.0))
 
 pub one_alone : (days : List ℕ) (first second : Option ℕ) (one : ℕ) → first ≡ Some one → second ≡ None
     → IsGreatest days first → IsGreatest (with_day days second) (Some one)

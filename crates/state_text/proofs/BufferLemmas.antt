@@ -1,12 +1,9 @@
 -- Lemmas on pieces of a text that are written, one after the other, to a sink through a buffer. `Gathers` says that a piece was written through the buffer: its
 -- bytes are in the buffer or have gone from the buffer to the sink.
-use Rattle.std.proofs.Common.{◌≡◌, ℕ, suc, ◌+◌, ◌<◌, List, [], ◌∷◌, ◌++◌, length, take, drop, get_or, map, refl, ap, sym, ◌∙◌, rules}
-use Rattle.std.proofs.Common.{subst, arith, append_assoc, append-nil, length-append, Ok, Err, Result}
-use Rattle.std.specs.Prelude.{Option, IsErr, IsErrAnd, OnOk, OnErr}
-use Rattle.std.specs.List.{concat, flat_map}
-use Rattle.std.proofs.lemmas.List.{take-append-le, take-append-drop, take_more, map-append}
-use Rattle.std.proofs.lemmas.Grind.{flat_map-append, common_steps}
-use Rattle.cif_device.proofs.DeviceLemmas.{counts_error}
+use Rattle.cif_laws.proofs.Common.{◌≡◌, ℕ, ◌+◌, ◌<◌, List, [], ◌∷◌, ◌++◌, length, take, drop, get_or, map, ap, sym, ◌∙◌, rules, subst, arith, append_assoc}
+use Rattle.cif_laws.proofs.Common.{append-nil, length-append, Ok, Err, Result, Option, IsErr, IsErrAnd, OnOk, OnErr, flat_map, take-append-le, take-append-drop}
+use Rattle.cif_laws.proofs.Common.{take_more, map-append, flat_map-append, common_steps, take-append-add}
+use Rattle.cif_device.proofs.DeviceLemmas.{counts_error, Takes-append}
 use Rattle.cif_device.specs.Device.{CountsFailure, Takes, TakesPart}
 use Rattle.state_text.specs.Written.{Gathers, Gives, Flushes}
 
@@ -16,15 +13,9 @@ Told = Option (List ℕ)
 
 -- ---- pieces that were written through the buffer
 
-takes_none : (start : Told) → Takes start [] start
-takes_none = search (rules, append-nil)
-
-takes_then : (a : Told) (x y : List ℕ) (c e : Told) → Takes a x c → Takes c y e → Takes a (x ++ y) e
-takes_then = search (rules, append_assoc)
-
 -- appending a piece to the buffer writes it through the buffer: its bytes are in the buffer or the sink
-pub gathers_add : (start : Told) (held piece more : List ℕ) → more ≡ held ++ piece → Gathers start held piece start more
-gathers_add start held piece more is = ([], is, takes_none start)
+gathers_add : (start : Told) (held piece more : List ℕ) → more ≡ held ++ piece → Gathers start held piece start more
+gathers_add = search (rules, append-nil)
 
 -- writing two pieces through the buffer, one after the other, writes their concatenation through the buffer
 pub gathers_then : (a : Told) (b p : List ℕ) (c : Told) (d q : List ℕ) (e : Told) (f : List ℕ)
@@ -33,14 +24,8 @@ gathers_then a b p c d q e f first second = (
   first.0 ++ second.0,
   append_assoc first.0 second.0 f ∙ ap (λ xs. first.0 ++ xs) second.1 ∙ sym (append_assoc first.0 d q)
       ∙ ap (λ xs. xs ++ q) first.1 ∙ append_assoc b p q,
-  takes_then _ _ _ _ _ first.2 second.2,
+  Takes-append a _ _ first.0 _ first.2 second.2,
 )
-
-take_past : (xs ys : List ℕ) (n : ℕ) → take (length xs + n) (xs ++ ys) ≡ xs ++ take n ys
-take_past [] ys n = let same : 0 + n ≡ n = omega arith in ap (λ k. take k ys) same
-take_past (x ∷ xs) ys n =
-    let same : length (x ∷ xs) + n ≡ suc (length xs + n) = omega arith in
-    ap (λ k. take k (x ∷ xs ++ ys)) same ∙ ap (λ zs. x ∷ zs) (take_past xs ys n)
 
 -- if a sink took a proper prefix of x, it took a proper prefix of x ++ y
 part_longer : (a : Told) (x y : List ℕ) (e : Told) → TakesPart a x e → TakesPart a (x ++ y) e
@@ -55,10 +40,10 @@ gathers_part a b p c d q e first part =
     let whole : first.0 ++ (d ++ q) ≡ b ++ (p ++ q) = sym (append_assoc first.0 d q) ∙ ap (λ xs. xs ++ q) first.1 ∙ append_assoc b p q in
     let size = sym (length-append first.0 (d ++ q)) ∙ ap length whole in
     let below = part.1 in
-    let same = sym (take_past _ _ _) ∙ ap (λ xs. take (length first.0 + part.0) xs) whole in (
+    let same = sym (take-append-add _ _ _) ∙ ap (take (length first.0 + part.0)) whole in (
       length first.0 + part.0,
       omega arith,
-      subst (λ xs. Takes a xs e) same (takes_then _ _ _ _ _ first.2 part.2),
+      subst (λ xs. Takes a xs e) same (Takes-append a _ _ first.0 _ first.2 part.2),
     )
 
 -- ---- what a result says about the sink
@@ -93,18 +78,31 @@ module _ {S A E : Type 0} (taken : S → Told) (failures : S → ℕ) where
   -- if a text was written to the buffer, and the buffer is then flushed, the sink takes the text in full or in part
   pub flush_written : (old mid new : S) (b p d whole : List ℕ) (result : Result A E) → Gathers (taken old) b p (taken mid) d
       → failures mid ≡ failures old → b ++ p ≡ whole → Flushes taken failures mid d result new → Flushes taken failures old whole result new
-  flush_written old mid new b p d whole (Ok done) first same is second = search (rules, takes_then)
-  flush_written old mid new b p d whole (Err failed) first same is second = (
-    subst (λ xs. TakesPart (taken old) xs (taken new)) (ap (λ xs. b ++ xs) (append-nil p) ∙ is)
-        (gathers_part (taken old) b p (taken mid) d [] (taken new) first
-        (subst (λ xs. TakesPart (taken mid) xs (taken new)) (sym (append-nil d)) second.0)),
-    second.1 ∙ ap (λ n. n + 1) same,
-  )
+  flush_written old mid new b p d whole (Ok done) first same is second = search (rules, Takes-append)
+  flush_written old mid new b p d whole (Err failed) first same is second =
+      let part = simp append-nil at (gathers_part (taken old) b p (taken mid) d [] (taken new) first) in
+      (subst (λ xs. TakesPart (taken old) xs (taken new)) is (part second.0), second.1 ∙ ap (λ n. n + 1) same)
 
   -- if a write fails while a text is written through the buffer, the sink takes only a part of the text
   pub part_written : (old new : S) (b p whole : List ℕ) (result : Result A E) (Q : E → Type 0) → IsErrAnd result Q → b ++ p ≡ whole
       → TakesPart (taken old) (b ++ p) (taken new) × (failures new ≡ failures old + 1) → Flushes taken failures old whole result new
   part_written = search rules
+
+module _ {S X E : Type 0} (taken : S → Told) (failures : S → ℕ) (old first second : S) (b d p q r whole : List ℕ) (result : Result X E)
+    (is : p ++ q ++ r ≡ whole) (one : Gathers (taken old) b p (taken first) d) (same : failures first ≡ failures old) where
+  -- if the first of three pieces was written through the buffer, a failure while writing the second
+  -- counts as a failure while writing all three
+  pub second_fails : (holds : List ℕ) (Q : E → Type 0) → IsErrAnd result Q
+      → TakesPart (taken first) (d ++ q) (taken second) × (failures second ≡ failures first + 1) → Gives taken failures old b whole result second holds
+  second_fails holds Q fails part = subst (λ xs. Gives taken failures old b xs result second holds) is
+      (fails_first taken failures old second b (p ++ q) r holds result Q fails (gathers_part _ _ _ _ _ _ _ one part.0, part.1 ∙ ap (λ n. n + 1) same))
+
+  -- if two of three pieces were written through the buffer, writing the third has the same result
+  -- as writing all three
+  pub third_gives : (third : S) (f h : List ℕ) → Gathers (taken first) d q (taken second) f × (failures second ≡ failures first)
+      → Gives taken failures second f r result third h → Gives taken failures old b whole result third h
+  third_gives third f h two rest = subst (λ xs. Gives taken failures old b xs result third h) is
+      (then_gives taken failures old second third b (p ++ q) f r h result (gathers_then _ _ _ _ _ _ _ _ one two.0) (two.1 ∙ same) rest)
 
 -- ---- the bytes of a list, element by element
 
@@ -123,7 +121,7 @@ module _ {X : Type 0} (bytes : List X → List ℕ) (joined : (xs ys : List X) �
 
     -- suppose that the first i elements were written through the buffer. If the sink then takes a
     -- proper prefix of the next element's bytes, it has taken a proper prefix of the list's bytes
-    pub each_part : (a : Told) (b : List ℕ) (c : Told) (d : List ℕ) (e : Told)
+    each_part : (a : Told) (b : List ℕ) (c : Told) (d : List ℕ) (e : Told)
         → Gathers a b (bytes (take i xs)) c d → TakesPart c (d ++ piece) e → TakesPart a (b ++ bytes xs) e
     each_part a b c d e first part =
         let now = bytes (take (i + 1) xs) in
@@ -133,17 +131,6 @@ module _ {X : Type 0} (bytes : List X → List ℕ) (joined : (xs ys : List X) �
         let so_far = gathers_part _ _ _ _ _ _ _ first part in
         subst (λ ys. TakesPart a ys e) whole (part_longer _ _ _ _ (subst (λ p. TakesPart a (b ++ p) e) (sym (one_more _ _ _ _ below at is)) so_far))
 
-    -- a failure to make room for the next element counts as a failure to write the whole list
-    pub each_room_fails : {S A E : Type 0} (taken : S → Told) (failures : S → ℕ) (old now new : S) (b d holds : List ℕ) (result : Result A E) (Q : E → Type 0)
-        → Gathers (taken old) b (bytes (take i xs)) (taken now) d → failures now ≡ failures old → IsErrAnd result Q
-        → TakesPart (taken now) (d ++ []) (taken new) × (failures new ≡ failures now + 1) → Gives taken failures old b (bytes xs) result new holds
-    each_room_fails taken failures old now new b d holds (Ok done) Q first same is part = absurd is
-    each_room_fails taken failures old now new b d holds (Err failed) Q first same is part = (
-      each_part _ _ _ _ _ first
-          (part_longer _ _ _ _ (subst (λ ys. TakesPart (taken now) ys (taken new)) (append-nil d) part.0)),
-      part.1 ∙ ap (λ n. n + 1) same,
-    )
-
     -- a failure to write the next element counts as a failure to write the whole list
     pub each_fails : {S A E : Type 0} (taken : S → Told) (failures : S → ℕ) (old now new : S) (b d holds : List ℕ) (result : Result A E) (Q : E → Type 0)
         → Gathers (taken old) b (bytes (take i xs)) (taken now) d → failures now ≡ failures old → IsErrAnd result Q
@@ -151,15 +138,14 @@ module _ {X : Type 0} (bytes : List X → List ℕ) (joined : (xs ys : List X) �
     each_fails taken failures old now new b d holds (Ok done) Q first same is part = absurd is
     each_fails taken failures old now new b d holds (Err failed) Q first same is part = search (rules, each_part)
 
+-- a failure to make room for a piece counts as a failure to write the piece
+pub room_fails : {F : Type 0} (c : Told) (d piece : List ℕ) (e : Told) → TakesPart c (d ++ []) e × F → TakesPart c (d ++ piece) e × F
+room_fails = search (rules, append-nil, part_longer)
+
 -- the bytes of the concatenation of two lists are the concatenation of their bytes
 pub mapped_join : {A B : Type 0} (f : B → List ℕ) (m : A → B) (xs ys : List A)
     → flat_map f (map m (xs ++ ys)) ≡ flat_map f (map m xs) ++ flat_map f (map m ys)
-mapped_join f m xs ys = ap (flat_map f) (map-append m xs ys) ∙ flat_map-append f (map m xs) (map m ys)
-
--- the bytes of two concatenated lists of lines are the bytes of the first list followed by the bytes of the second list
-pub concat_join : (xs ys : List (List ℕ)) → concat (xs ++ ys) ≡ concat xs ++ concat ys
-concat_join [] ys = refl
-concat_join (x ∷ xs) ys = ap (λ zs. x ++ zs) (concat_join xs ys) ∙ sym (append_assoc x (concat xs) (concat ys))
+mapped_join = search (rules, map-append, flat_map-append)
 
 -- making room in the buffer for a piece and then appending the piece writes it through the buffer
 pub room_then_add : (a : Told) (b : List ℕ) (c : Told) (d piece f : List ℕ) → Gathers a b [] c d → f ≡ d ++ piece → Gathers a b piece c f

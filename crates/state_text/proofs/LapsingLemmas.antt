@@ -1,27 +1,13 @@
 -- Lemmas on entries that lapse one by one, as a keeper is given them.
-use Rattle.std.proofs.Common.{◌≡◌, ℕ, All, List, [], ◌∷◌, refl, sym, subst, rules}
-use Rattle.std.specs.Prelude.{max}
-use Rattle.std.specs.List.{AllByRecursion}
-use Rattle.std.proofs.Math.Nat.{max_comm}
-use Rattle.std.proofs.lemmas.List.Elements.{All-from_recursion, recursion_from_All}
-use Rattle.docker_model.specs.records.Date.{IsDay}
-use Rattle.docker_model.specs.file.Change.{Key}
-use Rattle.docker_model.specs.state.Lapse.{HasNotToLapse, lapse_entries, lapse_entry}
-use Rattle.docker_model.specs.state.Op.{Entry, key_cmp}
-use Rattle.docker_model.specs.state.Order.{IsBelow}
-use Rattle.docker_model.specs.state.Stamp.{Stamp}
-use Rattle.docker_model.specs.state.State.{IsValid, State, raise_horizon}
-use Rattle.docker_model.specs.state.StatePart.{IsStampHere}
+use Rattle.cif_laws.proofs.Common.{◌≡◌, ℕ, All, List, [], ◌∷◌, refl, sym, subst, rules, max, AllByRecursion, max_comm, recursion_from_All, IsDay, Key}
+use Rattle.cif_laws.proofs.Common.{HasNotToLapse, lapse_entries, lapse_entry, lapse_keyed, Entry, key_cmp, IsBelow, Stamp, IsValid, State, raise_horizon}
+use Rattle.cif_laws.proofs.Common.{IsStampHere}
+use Rattle.std.proofs.lemmas.List.Elements.{All-map}
 use Rattle.state_laws.proofs.joins.JoinValid.{raised_is_valid}
 use Rattle.state_laws.proofs.states.Lapse.{entry_stays, entry_twice}
 use Rattle.docker_state.specs.Parts.{under}
 use Rattle.state_text.specs.Lapsing.{HasLapsed}
 use Rattle.state_text.specs.Receiving.{given_state}
-
-above : (day : ℕ) (key : Key) (entries : List (Key × Entry)) → AllByRecursion (λ (entry : Key × Entry). IsBelow key_cmp entry.0 key) entries
-    → AllByRecursion (λ (entry : Key × Entry). IsBelow key_cmp entry.0 key) (lapse_entries day entries)
-above day key [] all = tt
-above day key (first ∷ entries) all = (all.0, above day key entries all.1)
 
 -- if a key and a stamp are good after the given entries, they are good after the entries that were
 -- kept
@@ -31,8 +17,7 @@ kept_here day own parts given has key stamp here = (
   (
     here.0.0,
     subst (λ entries. All (λ (entry : Key × Entry). IsBelow key_cmp entry.0 key) entries) (sym has.entries)
-        (All-from_recursion (λ (entry : Key × Entry). IsBelow key_cmp entry.0 key) (lapse_entries day given)
-        (above _ _ _ (recursion_from_All (λ (entry : Key × Entry). IsBelow key_cmp entry.0 key) given here.0.1))),
+        (All-map (λ (entry : Key × Entry). IsBelow key_cmp entry.0 key) (lapse_keyed day) given here.0.1),
   ),
   here.1,
 )

@@ -1,60 +1,34 @@
 -- In an ascending list, whatever is above the last element is above all elements.
-use Rattle.std.proofs.Common.{◌≡◌, suc, ◌-◌, List, [], ◌∷◌, length, ap, sym, ◌∙◌, subst, inl, inr, ◌⊎◌, arith, Bool, true, All, Some, None}
-use Rattle.std.proofs.lemmas.Grind.{common_steps}
-use Rattle.std.proofs.Common.{rules}
-use Rattle.std.specs.Prelude.{slice_get, IsTrue, ◌↔◌}
-use Rattle.std.specs.List.{AllByRecursion}
-use Rattle.std.specs.Ordering.{is_lt, on}
-use Rattle.std.specs.declared.cmp.Ordering.{Ordering}
-use Rattle.std.specs.declared.cmp.Ordering.TheVariants.{Less}
-use Rattle.std.specs.Cmp.{IsTotalOrder}
-use Rattle.std.proofs.lemmas.List.Elements.{All-from_recursion, recursion_from_All}
-use Rattle.docker_model.specs.state.Order.{IsBelow, IsStrictlyAscending}
+use Rattle.cif_laws.proofs.Common.{◌≡◌, ◌-◌, List, [], ◌∷◌, length, get_or, ap, sym, ◌∙◌, subst, inl, inr, arith, Bool, true, All, Some, None, rules, slice_get}
+use Rattle.cif_laws.proofs.Common.{option_map, IsTrue, ◌↔◌, is_lt, on, Ordering, Less, IsTotalOrder, cases_lt, slice_get-get_or, IsBelow, IsStrictlyAscending}
+use Rattle.cif_laws.proofs.lists.Later.{pairs_from_later}
+use Rattle.cif_laws.proofs.orders.Ascending.{later_of}
 
 -- if `is_lt` is true of an ordering, the ordering is `Less`
-pub less_by_test : (o : Ordering) → is_lt o ≡ true → o ≡ Less
+less_by_test : (o : Ordering) → is_lt o ≡ true → o ≡ Less
 less_by_test = search rules
 
 module _ {A K : Type 0} (key : A → K) (cmp : K → K → Ordering) (total : IsTotalOrder cmp) where
-  among_later : (P : A → Type 0) (xs : List A) (last : A) → AllByRecursion P xs → slice_get xs (length xs - 1) ≡ Some last → P last
-  among_later P [] last all is = cc
-  among_later P (x ∷ []) last all is = let same : x ≡ last = cc in subst P same all.0
-  among_later P (x ∷ y ∷ xs) last all is =
-      let step : length (x ∷ y ∷ xs) - 1 ≡ suc (length (y ∷ xs) - 1) = omega arith in
-      among_later P (y ∷ xs) last all.1 (sym (ap (slice_get (x ∷ y ∷ xs)) step) ∙ is)
-
-  below_last : (xs : List A) (last : A) → IsStrictlyAscending (on key cmp) xs → slice_get xs (length xs - 1) ≡ Some last
-      → AllByRecursion (λ x. (x ≡ last) ⊎ IsBelow cmp (key x) (key last)) xs
-  below_last [] last up is = cc
-  below_last (x ∷ []) last up is = (inl (cc), tt)
-  below_last (x ∷ y ∷ xs) last up is =
-      let step : length (x ∷ y ∷ xs) - 1 ≡ suc (length (y ∷ xs) - 1) = omega arith in
-      let later = sym (ap (slice_get (x ∷ y ∷ xs)) step) ∙ is in
-      (inr (among_later (λ z. IsBelow cmp (key x) (key z)) (y ∷ xs) last up.0 later), below_last (y ∷ xs) last up.1 later)
-
-  pass : (xs : List A) (last : A) (k : K) → IsBelow cmp (key last) k → AllByRecursion (λ x. (x ≡ last) ⊎ IsBelow cmp (key x) (key last)) xs
-      → AllByRecursion (λ x. IsBelow cmp (key x) k) xs
-  pass [] last k low all = tt
-  pass (x ∷ xs) last k low all = (by all.0, pass xs last k low all.1)
-    where
-      by : (x ≡ last) ⊎ IsBelow cmp (key x) (key last) → IsBelow cmp (key x) k
-      by (inl same) = subst (λ z. IsBelow cmp (key z) k) (sym same) low
-      by (inr below) = total.trans (key x) (key last) k below low
-
   -- whatever is above the last element is above all elements
-  pub above_last : (xs : List A) (last : A) (k : K) (test : Bool) → IsStrictlyAscending (on key cmp) xs → slice_get xs (length xs - 1) ≡ Some last
-      → test ≡ is_lt (cmp (key last) k) → IsTrue test ↔ All (λ x. IsBelow cmp (key x) k) xs
-  above_last xs last k test up is tested = (
-    (λ yes. All-from_recursion (λ x. IsBelow cmp (key x) k) xs
-        (pass _ _ _ (less_by_test _ (sym tested ∙ yes)) (below_last _ _ up is))),
-    (λ all. tested ∙ ap is_lt (among_later _ _ _ (recursion_from_All (λ x. IsBelow cmp (key x) k) xs all) is)),
+  pub above_last : (xs : List A) (low k : K) (test : Bool) → IsStrictlyAscending (on key cmp) xs
+      → Some low ≡ option_map key (slice_get xs (length xs - 1)) → test ≡ is_lt (cmp low k) → IsTrue test ↔ All (λ x. IsBelow cmp (key x) k) xs
+  above_last [] low k test up is tested = cc
+  above_last (x ∷ xs) low k test up is tested = (
+    λ told j d within. elim (cases_lt j (length (x ∷ xs) - 1)) [
+      | inl before ↦ total.trans _ _ k (pairs_from_later (λ a b. IsBelow cmp (key a) (key b)) (x ∷ xs) (later_of (on key cmp) (x ∷ xs) up)
+          j (length (x ∷ xs) - 1) d before (omega arith)) (below told d)
+      | inr after ↦ subst (λ n. IsBelow cmp (key (get_or (x ∷ xs) n d)) k) (omega arith) (below told d)
+    ],
+    λ all. tested ∙ ap (λ o. is_lt (cmp o k)) (low_is x) ∙ ap is_lt (all (length (x ∷ xs) - 1) x (omega arith)),
   )
+    where
+      low_is : (d : A) → low ≡ key (get_or (x ∷ xs) (length (x ∷ xs) - 1) d)
+      low_is d = let there = slice_get-get_or (x ∷ xs) (length (x ∷ xs) - 1) d (omega arith) in cc
 
-  some_there : (z : A) (zs : List A) → slice_get (z ∷ zs) (length (z ∷ zs) - 1) ≡ None → ⊥
-  some_there z [] none = cc
-  some_there z (w ∷ zs) none = let down : length (z ∷ w ∷ zs) - 1 ≡ suc (length (w ∷ zs) - 1) = omega arith in
-      some_there w zs (sym (ap (slice_get (z ∷ w ∷ zs)) down) ∙ none)
+      below : IsTrue test → (d : A) → IsBelow cmp (key (get_or (x ∷ xs) (length (x ∷ xs) - 1) d)) k
+      below told d = subst (λ o. IsBelow cmp o k) (low_is d) (less_by_test _ (sym tested ∙ told))
 
   -- in an empty list, anything is above all elements
-  pub above_none : (xs : List A) (k : K) → slice_get xs (length xs - 1) ≡ None → IsTrue true ↔ All (λ x. IsBelow cmp (key x) k) xs
-  above_none = grind (common_steps, arith, some_there)
+  pub above_none : (xs : List A) (k : K) → None ≡ option_map key (slice_get xs (length xs - 1)) → IsTrue true ↔ All (λ x. IsBelow cmp (key x) k) xs
+  above_none [] k none = search rules
+  above_none (x ∷ xs) k none = let there = slice_get-get_or (x ∷ xs) (length (x ∷ xs) - 1) x (omega arith) in cc

@@ -3,9 +3,7 @@ pub mod WriteLemmas
 pub mod LengthLemmas
 pub mod LastElement
 pub mod ItemLemmas
-pub mod KeyLemmas
 pub mod StampLemmas
-pub mod BodyLemmas
 pub mod ScheduleLemmas
 pub mod PartsSoFarLemmas
 pub mod ReceivingLemmas

@@ -1,16 +1,11 @@
 -- If a part of a put's head is missing or bad, the bytes don't begin with the head of a put.
-use Rattle.std.proofs.Common.{◌≡◌, ℕ, ◌+◌, ◌<◌, ◌≤◌, List, [], ◌∷◌, ◌++◌, length, take, drop, get_or, ap, sym, ◌∙◌, subst, rules}
-use Rattle.std.proofs.Common.{arith, append_assoc, append-nil, length-append, take-append-drop}
-use Rattle.std.specs.Prelude.{slice_index, Option, Some, None, MatchOption}
-use Rattle.std.specs.Int.{w32, to_be_bytes, from_be_bytes}
-use Rattle.std.proofs.Math.Seq.{take-append_seam, drop-append_seam}
-use Rattle.docker_model.specs.file.Change.{Key, ScheduleKey, tiploc_key, association_key, schedule_key}
-use Rattle.docker_model.specs.state.Stamp.{Stamp}
-use Rattle.docker_model.specs.state.Op.{key_tag}
-use Rattle.docker_model.specs.state.State.{State, IsLedger, IsStampIn}
-use Rattle.docker_model.specs.state.StateText.{key_bytes, stamp_bytes, key_in, stamp_in}
-use Rattle.docker_model.specs.state.StatePart.{EntryPart, before_body, before_line, key_text, key_width, part_text, IsLineCount, IsStampHere}
-use Rattle.docker_model.specs.state.StateFault.{StateCause}
+use Rattle.cif_laws.proofs.Common.{◌≡◌, ℕ, ◌+◌, ◌<◌, ◌≤◌, List, [], ◌∷◌, ◌++◌, length, take, drop, get_or, ap, sym, ◌∙◌, subst, rules, arith, append_assoc}
+use Rattle.cif_laws.proofs.Common.{append-nil, length-append, take-append-drop, slice_index, Option, Some, None, MatchOption, w32, to_be_bytes, from_be_bytes}
+use Rattle.cif_laws.proofs.Common.{Key, ScheduleKey, tiploc_key, association_key, schedule_key, Stamp, key_tag, State, IsLedger, IsStampIn, key_bytes}
+use Rattle.cif_laws.proofs.Common.{stamp_bytes, key_in, stamp_in, EntryPart, before_body, before_line, key_text, key_width, IsLineCount, IsStampHere}
+use Rattle.cif_laws.proofs.Common.{StateCause}
+use Rattle.cif_laws.proofs.lists.Fronts.{same_front}
+use Rattle.docker_model.specs.state.StatePart.{part_text}
 use Rattle.state_laws.proofs.texts.StateReadBack.{key_read, key_width_is, stamp_read, stamp_width}
 use Rattle.state_laws.proofs.texts.TextsBefore.{read_32}
 use Rattle.state_laws.proofs.texts.GoodPartLeads.{no_bad_key}
@@ -18,19 +13,8 @@ use Rattle.state_text.specs.Judged.{IsKeyCause}
 use Rattle.state_text.specs.declared.stage.Stage.{Stage}
 use Rattle.state_text.specs.Head.{AreParts, IsBeforeBody, IsPutHead, BeginsWithParts, BeginsWithNoParts}
 
-front_same : (a b c d : List ℕ) → a ++ b ≡ c ++ d → length a ≡ length c → a ≡ c
-front_same a b c d whole size =
-    sym (take-append_seam a b) ∙ ap (take (length a)) whole ∙ ap (λ n. take n (c ++ d)) size ∙ take-append_seam c d
-
-back_same : (a b c d : List ℕ) → a ++ b ≡ c ++ d → length a ≡ length c → b ≡ d
-back_same a b c d whole size =
-    sym (drop-append_seam a b) ∙ ap (drop (length a)) whole ∙ ap (λ n. drop n (c ++ d)) size ∙ drop-append_seam c d
-
 whole_of : (len : ℕ) (text bytes : List ℕ) → text ≡ take len bytes → text ++ drop len bytes ≡ bytes
 whole_of len text bytes is = ap (λ xs. xs ++ drop len bytes) is ∙ take-append-drop len bytes
-
-front_of : (len : ℕ) (text bytes front back : List ℕ) → text ≡ take len bytes → bytes ≡ front ++ back → length text ≡ length front → text ≡ front
-front_of len text bytes front back is split size = front_same text (drop len bytes) front back (whole_of len text bytes is ∙ split) size
 
 fits : (len : ℕ) (text bytes : List ℕ) → text ≡ take len bytes → length text ≤ length bytes
 fits len text bytes is = let sizes = ap length (whole_of len text bytes is) in let both = length-append text (drop len bytes) in omega arith
@@ -57,26 +41,16 @@ module _ (state : State) (number : ℕ) (bytes key rest stamp op : List ℕ) (le
     (back : rest ≡ stamp ++ op) (key_size : length key ≡ key_width number) (stamp_size : length stamp ≡ 15) where
   put_read : (k : Key) (s : Stamp) → AreParts state (number ∷ bytes) (before_body k s)
       → (key_in number key ≡ k) × (stamp_in stamp ≡ s) × (slice_index op 0 ≡ 1)
-  put_read k s parts = (
-    ap (λ t. key_in t key) (sym tag) ∙ ap (key_in (key_tag k)) (sym (front_same (key_bytes k) _ key _ text size)) ∙ key_read k parts.here.0.0,
-    ap stamp_in (sym (front_same (stamp_bytes s) _ stamp _ behind width)) ∙ stamp_read _ s ledger parts.here.1,
-    sym (ap (λ xs. slice_index xs 0) (back_same (stamp_bytes s) _ stamp _ behind width)),
-  )
-    where
-      tag : key_tag k ≡ number
-      tag = ap (λ xs. get_or xs 0 0) parts.text
-
-      text : key_bytes k ++ (stamp_bytes s ++ 1 ∷ []) ≡ key ++ (stamp ++ op)
-      text = sym (append_assoc (key_bytes k) (stamp_bytes s) (1 ∷ [])) ∙ ap (drop 1) parts.text ∙ front ∙ ap (λ xs. key ++ xs) back
-
-      size : length (key_bytes k) ≡ length key
-      size = key_width_is _ parts.here.0.0 ∙ ap key_width tag ∙ sym key_size
-
-      behind : stamp_bytes s ++ 1 ∷ [] ≡ stamp ++ op
-      behind = back_same (key_bytes k) _ key _ text size
-
-      width : length (stamp_bytes s) ≡ length stamp
-      width = stamp_width state.ledger _ ledger parts.here.1 ∙ sym stamp_size
+  put_read k s parts =
+      let tag : key_tag k ≡ number = ap (λ xs. get_or xs 0 0) parts.text in
+      let text : key_bytes k ++ (stamp_bytes s ++ 1 ∷ []) ≡ key ++ (stamp ++ op) =
+      sym (append_assoc (key_bytes k) (stamp_bytes s) (1 ∷ [])) ∙ ap (drop 1) parts.text ∙ front ∙ ap (λ xs. key ++ xs) back in
+      let at_key = same_front (key_bytes k) key _ _ (key_width_is _ parts.here.0.0 ∙ ap key_width tag ∙ sym key_size) text in
+      let at_stamp = same_front (stamp_bytes s) stamp _ _ (stamp_width state.ledger _ ledger parts.here.1 ∙ sym stamp_size) at_key.1 in (
+        ap (λ t. key_in t key) (sym tag) ∙ ap (key_in (key_tag k)) (sym at_key.0) ∙ key_read k parts.here.0.0,
+        ap stamp_in (sym at_stamp.0) ∙ stamp_read _ s ledger parts.here.1,
+        sym (ap (λ xs. slice_index xs 0) at_stamp.1),
+      )
 
   -- if the op's byte isn't 1, which stands for a put, the bytes aren't a put's tag, key, stamp and
   -- op
@@ -110,8 +84,11 @@ pub no_put : (state : State) (number n : ℕ) (bytes put body : List ℕ) → Is
 no_put state number n bytes put body ledger split size wide none (before_body key stamp) len ends parts =
     let all = put_size state key stamp ledger parts.here in
     let width = ap key_width (tag_at len number bytes state key stamp parts) in
-    let front = front_of len (part_text (before_body key stamp)) (number ∷ bytes) (number ∷ put) body parts.text (ap (λ xs. number ∷ xs) split) (omega arith) in
-    none key stamp (record { here = parts.here; text = front })
+    none key stamp (record {
+      here = parts.here;
+      text = (same_front (part_text (before_body key stamp)) (number ∷ put) _ body (omega arith)
+          (whole_of len _ (number ∷ bytes) parts.text ∙ ap (λ xs. number ∷ xs) split)).0;
+    })
 no_put state number n bytes put body ledger split size wide none _ len ends parts = ends
 
 -- the head of a TIPLOC's or an association's put is its tag, key, stamp and op
@@ -161,15 +138,12 @@ head_split = search (rules, append-nil, append_assoc)
 
 -- bytes that are too short don't begin with the head of a schedule's put
 pub no_lines : (state : State) (bytes : List ℕ) → IsLedger state.ledger → length bytes < 29 → BeginsWithNoParts IsPutHead state (3 ∷ bytes)
-no_lines state bytes ledger short = of_schedules state bytes none
-  where
-    none : (key : ScheduleKey) (stamp : Stamp) (n len : ℕ) → ¬ AreParts state (take len (3 ∷ bytes)) (before_line key stamp n [])
-    none key stamp n len parts =
-        let all = put_size state (schedule_key key) stamp ledger parts.here.0 in
-        let size = ap length (head_split key stamp n) in
-        let both = length-append (part_text (before_body (schedule_key key) stamp)) (to_be_bytes w32 n) in
-        let fit = fits len (part_text (before_line key stamp n [])) (3 ∷ bytes) parts.text in
-        omega arith
+no_lines state bytes ledger short = of_schedules state bytes (λ key stamp n len parts.
+    let all = put_size state (schedule_key key) stamp ledger parts.here.0 in
+    let size = ap length (head_split key stamp n) in
+    let both = length-append (part_text (before_body (schedule_key key) stamp)) (to_be_bytes w32 n) in
+    let fit = fits len (part_text (before_line key stamp n [])) (3 ∷ bytes) parts.text in
+    omega arith)
 
 -- if the bytes begin with the head of a schedule's put, the parts of this head are read back from
 -- the bytes
@@ -177,38 +151,23 @@ module _ (state : State) (bytes put rest number lines : List ℕ) (ledger : IsLe
     (parted : rest ≡ number ++ lines) (put_size_is : length put ≡ 25) (number_size : length number ≡ 4) where
   lines_read : (key : ScheduleKey) (stamp : Stamp) (n len : ℕ) → AreParts state (take len (3 ∷ bytes)) (before_line key stamp n [])
       → AreParts state (3 ∷ put) (before_body (schedule_key key) stamp) × (from_be_bytes w32 number ≡ n)
-  lines_read key stamp n len parts = (
-    record { here = parts.here.0; text = front_same front behind (3 ∷ put) (number ++ lines) whole size },
-    ap (from_be_bytes w32) (sym (front_same (to_be_bytes w32 n) (drop len (3 ∷ bytes)) number lines
-        (back_same front behind (3 ∷ put) (number ++ lines) whole size) (sym number_size)))
-        ∙ read_32 n (let few = parts.here.1.1 in omega arith),
-  )
-    where
-      front : List ℕ
-      front = part_text (before_body (schedule_key key) stamp)
-
-      behind : List ℕ
-      behind = to_be_bytes w32 n ++ drop len (3 ∷ bytes)
-
-      whole : front ++ behind ≡ (3 ∷ put) ++ (number ++ lines)
-      whole = sym (append_assoc front (to_be_bytes w32 n) (drop len (3 ∷ bytes)))
-          ∙ whole_of len (front ++ to_be_bytes w32 n) (3 ∷ bytes) (sym (head_split key stamp n) ∙ parts.text)
-          ∙ ap (λ xs. 3 ∷ xs) (split ∙ ap (λ xs. put ++ xs) parted)
-
-      size : length front ≡ length (3 ∷ put)
-      size = let all = put_size state (schedule_key key) stamp ledger parts.here.0 in omega arith
+  lines_read key stamp n len parts =
+      let front = part_text (before_body (schedule_key key) stamp) in
+      let all = put_size state (schedule_key key) stamp ledger parts.here.0 in
+      let whole = sym (append_assoc front (to_be_bytes w32 n) (drop len (3 ∷ bytes)))
+      ∙ whole_of len (front ++ to_be_bytes w32 n) (3 ∷ bytes) (sym (head_split key stamp n) ∙ parts.text)
+      ∙ ap (λ xs. 3 ∷ xs) (split ∙ ap (λ xs. put ++ xs) parted) in
+      let at_put = same_front front (3 ∷ put) _ _ (omega arith) whole in
+      let at_number = same_front (to_be_bytes w32 n) number _ lines (sym number_size) at_put.1 in
+      let few = parts.here.1.1 in
+      (record { here = parts.here.0; text = at_put.0 }, ap (from_be_bytes w32) (sym at_number.0) ∙ read_32 n (omega arith))
 
   -- if no schedule can have this number of lines, the bytes don't begin with the head of a put
   pub bad_count : ¬ IsLineCount (from_be_bytes w32 number) → BeginsWithNoParts IsPutHead state (3 ∷ bytes)
-  bad_count bad = of_schedules state bytes none
-    where
-      none : (key : ScheduleKey) (stamp : Stamp) (n len : ℕ) → ¬ AreParts state (take len (3 ∷ bytes)) (before_line key stamp n [])
-      none key stamp n len parts = bad (subst IsLineCount (sym (lines_read key stamp n len parts).1) parts.here.1)
+  bad_count bad = of_schedules state bytes (λ key stamp n len parts.
+      bad (subst IsLineCount (sym (lines_read key stamp n len parts).1) parts.here.1))
 
   -- if the bytes up to the number of lines aren't a put's tag, key, stamp and op, the bytes don't
   -- begin with the head of a put
   pub no_schedule : ((key : Key) (stamp : Stamp) → ¬ AreParts state (3 ∷ put) (before_body key stamp)) → BeginsWithNoParts IsPutHead state (3 ∷ bytes)
-  no_schedule bad = of_schedules state bytes none
-    where
-      none : (key : ScheduleKey) (stamp : Stamp) (n len : ℕ) → ¬ AreParts state (take len (3 ∷ bytes)) (before_line key stamp n [])
-      none key stamp n len parts = bad (schedule_key key) stamp (lines_read key stamp n len parts).0
+  no_schedule bad = of_schedules state bytes (λ key stamp n len parts. bad (schedule_key key) stamp (lines_read key stamp n len parts).0)

@@ -1,7 +1,6 @@
 -- Lemmas on setting the horizon that was read from a text, after the text's ledger items and
 -- entries were read.
-use Rattle.std.proofs.Common.{◌≡◌, ℕ, sym, subst, rules}
-use Rattle.docker_model.specs.state.State.{State, IsJoin, raise_horizon}
+use Rattle.cif_laws.proofs.Common.{◌≡◌, ℕ, sym, subst, rules, State, IsJoin, raise_horizon}
 use Rattle.state_laws.proofs.joins.RaisedHorizon.{join_then_set}
 use Rattle.docker_state.specs.Parts.{under}
 

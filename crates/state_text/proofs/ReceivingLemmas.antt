@@ -1,18 +1,12 @@
 -- Lemmas on staging the entries that are given to a receiving state. Committing the staged entries
 -- joins this state with the given entries and ledger items.
-use Rattle.std.proofs.Common.{◌≡◌, ℕ, ◌-◌, List, [], ◌∷◌, ◌++◌, length, refl, ap, sym, ◌∙◌, subst, inl, inr, arith, length-append, All, Some, None}
-use Rattle.std.proofs.Common.{rules}
-use Rattle.std.specs.Prelude.{Option, slice_get}
-use Rattle.docker_model.specs.file.Change.{Key}
-use Rattle.docker_model.specs.state.Op.{Entry, key_cmp}
-use Rattle.docker_model.specs.state.Order.{IsBelow}
-use Rattle.docker_model.specs.state.Stamp.{FileStamp, IsFloor}
-use Rattle.docker_model.specs.state.State.{State, IsValid, IsJoin}
+use Rattle.cif_laws.proofs.Common.{◌≡◌, ℕ, List, [], ◌∷◌, ◌++◌, sym, subst, inl, inr, All, rules, Option, Key, Entry, key_cmp, IsBelow, FileStamp, IsFloor}
+use Rattle.cif_laws.proofs.Common.{State, IsValid, IsJoin}
 use Rattle.state_laws.specs.Staging.{IsStaged, IsCommit}
 use Rattle.cif_laws.proofs.lists.Membership.{member_of}
 use Rattle.state_laws.proofs.joins.StagedEntry.{nothing_staged, one_staged_more, one_left_out, staging_joins_before}
 use Rattle.docker_state.specs.declared.item.LedgerItem.{LedgerItem}
-use Rattle.docker_state.specs.Parts.{last_key, under}
+use Rattle.docker_state.specs.Parts.{under}
 use Rattle.docker_state.specs.Staging.{Staging, IsOffered, IsAboveStaged}
 use Rattle.state_text.specs.Receiving.{given_state, items_of, IsStagedOf}
 
@@ -47,17 +41,3 @@ pub commit_joins : (own after : State) (items : List LedgerItem) (held : Option 
 commit_joins own after items held entries staging horizon valid told same are commit = subst (λ its. IsJoin own (given_state its entries) after) (sym same)
     (staging_joins_before _ _ _ _ _ valid
     (subst (λ its. IsValid (under horizon (given_state its entries))) same told) are.floor are.staged (commit entries are.staged))
-
--- if there are no entries, there is no last key
-pub no_last : (entries : List (Key × Entry)) → entries ≡ [] → None ≡ last_key entries
-no_last entries none = subst (λ es. None ≡ last_key es) (sym none) refl
-
-last_of : {A : Type 0} (xs : List A) (x : A) → slice_get (xs ++ x ∷ []) (length (xs ++ x ∷ []) - 1) ≡ Some x
-last_of xs x =
-    let size = length-append xs (x ∷ []) in
-    let at : length (xs ++ x ∷ []) - 1 ≡ length xs = omega arith in
-    ap (slice_get (xs ++ x ∷ [])) at ∙ there xs
-  where
-    there : (ys : List _) → slice_get (ys ++ x ∷ []) (length ys) ≡ Some x
-    there [] = refl
-    there (y ∷ ys) = there ys

@@ -1,14 +1,7 @@
 -- Lemmas on how the lines of a schedule are judged.
-use Rattle.std.proofs.Common.{◌≡◌, ℕ, List, [], ◌∷◌, ◌++◌, length, refl, sym, subst, inl, inr, ◌⊎◌, Some, rules}
-use Rattle.std.proofs.Common.{None, ◌+◌, ◌<◌, Bool, true, false, arith, length-append}
-use Rattle.std.specs.Prelude.{Option, IsTrue, ◌↔◌, slice_index_or}
-use Rattle.std.proofs.Math.Seq.{get_or-append_seam}
-use Rattle.std.proofs.lemmas.Bool.{cases_lt}
-use Rattle.docker_model.specs.file.Change.{ScheduleKey}
-use Rattle.docker_model.specs.state.State.{State}
-use Rattle.docker_model.specs.file.File.{IsSchedule, BeginsSchedule}
-use Rattle.docker_model.specs.state.StateFault.{StateCause}
-use Rattle.docker_model.specs.state.StateFault.{bad_body}
+use Rattle.cif_laws.proofs.Common.{◌≡◌, ℕ, List, [], ◌∷◌, ◌++◌, length, refl, sym, subst, inl, inr, ◌⊎◌, Some, rules, None, ◌+◌, ◌<◌, Bool, true, false, arith}
+use Rattle.cif_laws.proofs.Common.{length-append, Option, IsTrue, ◌↔◌, slice_index_or, get_or-append_seam, cases_lt, ScheduleKey, State, IsSchedule}
+use Rattle.cif_laws.proofs.Common.{BeginsSchedule, StateCause, bad_body}
 use Rattle.state_text.specs.Judged.{IsOfKey}
 use Rattle.state_text.specs.Lines.{BeginUpTo, AreLinesIn, AreLinesUpToIn, IsLineRefusal, IsUpToRefusal}
 
@@ -48,7 +41,7 @@ begin_up_to count lines line more tells begin (inr whole) = record { begin = beg
 -- come there if it isn't the last of `count` lines
 pub more_up_to : (count : ℕ) (lines : Lines) (line : List ℕ) → length lines + 1 < count → BeginsSchedule (lines ++ line ∷ [])
     → BeginUpTo count (lines ++ line ∷ [])
-more_up_to count lines line more begin = record { begin = begin; complete = λ all. let size = length-append lines (line ∷ []) in absurd (omega arith) }
+more_up_to = search (rules, length-append)
 
 -- the last line of the buffer is the line that was written there
 pub written_last : (lines after : Lines) (line found : List ℕ) (at : ℕ) → after ≡ lines ++ line ∷ [] → at ≡ length lines → found ≡ slice_index_or after at found

@@ -1,13 +1,7 @@
 -- Lemmas on reading one more ledger item, or one more line, of a state's text.
-use Rattle.std.proofs.Common.{◌≡◌, ℕ, ◌+◌, ◌≤◌, List, [], ◌∷◌, ◌++◌, length, arith, length-append}
-use Rattle.std.proofs.Common.{rules}
-use Rattle.std.specs.Prelude.{Result, IfOk, IfErr}
-use Rattle.docker_model.specs.file.Change.{ScheduleKey, schedule_key, schedule_body}
-use Rattle.docker_model.specs.state.Stamp.{LedgerItem, Stamp}
-use Rattle.docker_model.specs.state.Op.{put_with}
-use Rattle.docker_model.specs.state.State.{State, IsLedger, IsScheduleOf}
-use Rattle.docker_model.specs.state.StateText.{Format}
-use Rattle.docker_model.specs.state.StatePart.{Before, in_entry, before_line, AreLinesUpTo, IsPartHere}
+use Rattle.cif_laws.proofs.Common.{◌≡◌, ℕ, ◌+◌, ◌≤◌, List, [], ◌∷◌, ◌++◌, length, arith, length-append, rules, Result, IfOk, IfErr, ScheduleKey, schedule_key}
+use Rattle.cif_laws.proofs.Common.{schedule_body, LedgerItem, Stamp, put_with, State, IsLedger, IsScheduleOf, Format, Before, in_entry, before_line}
+use Rattle.cif_laws.proofs.Common.{AreLinesUpTo, IsPartHere}
 use Rattle.state_laws.specs.TextStage.{advance, after_entries, with_entry}
 use Rattle.state_laws.proofs.texts.TextsBefore.{all_lines}
 use Rattle.state_laws.proofs.texts.LedgerGrown.{one_item_more}

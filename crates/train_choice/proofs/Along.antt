@@ -1,19 +1,11 @@
 -- A walk over rows computes the chosen schedule, or the chosen association.
-use Rattle.std.proofs.Common.{◌≡◌, ℕ, true, cond, List, [], ◌∷◌, ◌++◌, refl, ap, sym, ◌∙◌, subst, inl, inr, ◌⊎◌, Some, None, Contains, append_assoc, append-nil}
-use Rattle.std.proofs.Common.{rules}
-use Rattle.std.specs.Prelude.{Option, ◌&&◌}
-use Rattle.std.proofs.lemmas.Slice.Eq.{bytes_eq-Decides}
-use Rattle.docker_model.specs.file.File.{first_record}
-use Rattle.std.specs.Ordering.{on}
-use Rattle.docker_model.specs.file.Change.{Key, schedule_key, ScheduleKey, Body, schedule_body}
-use Rattle.docker_model.specs.state.Table.{Table}
-use Rattle.docker_model.specs.docker.Choice.{Group, schedule_runs, schedule_choice_cmp, association_choice_cmp, Train, IsChosenOn}
+use Rattle.cif_laws.proofs.Common.{◌≡◌, ℕ, true, cond, List, [], ◌∷◌, ◌++◌, refl, ap, sym, ◌∙◌, subst, inl, inr, Some, None, Contains, append_assoc, append-nil}
+use Rattle.cif_laws.proofs.Common.{rules, Option, ◌&&◌, bytes_eq-Decides, first_record, on, Key, schedule_key, ScheduleKey, Body, schedule_body, Table, Group}
+use Rattle.cif_laws.proofs.Common.{schedule_runs, schedule_choice_cmp, association_choice_cmp, Train, IsChosenOn, Row, AreRowsOf, HasGoodBodies}
 use Rattle.docker_laws.specs.Best.{with_one_more}
-use Rattle.docker_model.specs.state.Row.{Row, AreRowsOf}
 use Rattle.docker_laws.specs.LiveRows.{Link, HasSchedulesOf, HasAssociationsOf, IsLinkOn}
 use Rattle.docker_laws.specs.LiveRows.{unless_cancelled, train_in, link_in, schedule_of, association_of, is_running, is_linked}
 use Rattle.docker_laws.specs.ChoiceWalk.{IsChosenSoFar, IsLinkSoFar, next_chosen, next_link}
-use Rattle.docker_model.specs.state.State.{HasGoodBodies}
 use Rattle.state_laws.specs.Index.{AreCalling, AreLinked, AreOfUid}
 use Rattle.cif_laws.proofs.lists.Membership.{Contains-cons, cons-Contains, cons-Contains-first}
 use Rattle.docker_laws.proofs.dockers.ChoiceWalk.{none_chosen, chosen_more, none_linked, link_more}
@@ -21,11 +13,8 @@ use Rattle.docker_laws.proofs.dockers.TrainOfRows.{best_is_chosen, one_answer, r
 use Rattle.docker_laws.proofs.dockers.LinkOfRows.{best_is_link, one_link_answer, links_tell}
 use Rattle.train_choice.specs.Along.{chosen_along, link_along, AreGoodRows, AreLive, IsLiveTrain}
 
-no_train : (train : Train) → None ≡ Some train → ⊥
-no_train train h = cc
-
-no_link : (link : Link) → None ≡ Some link → ⊥
-no_link link h = cc
+none_some : {A : Type 0} (value : A) → ◌≡◌ {A = Option A} None (Some value) → ⊥
+none_some value is = cc
 
 chosen_behind : (uid : List ℕ) (day : ℕ) (front rows : List Row) (found : Option Train) → IsChosenSoFar uid day front found
     → IsChosenSoFar uid day (front ++ rows) (chosen_along uid day found rows)
@@ -67,19 +56,6 @@ pub link_of_rows : (live : Table) (rows : List Row) (group : Group) (day : ℕ) 
     → IsLinkOn live group day found → found ≡ link_in rows group day
 link_of_rows live rows group day found are is = one_link_answer live group day found (link_in rows group day) is (links_tell live rows are group day)
 
--- if all bodies of a table are well formed, so are the bodies of its rows
-pub good_rows : (live : Table) (rows : List Row) → HasGoodBodies live → ((key : Key) (body : Body) → Contains rows (key, body) → live key ≡ Some body)
-    → AreGoodRows rows
-good_rows live [] good each = tt
-good_rows live (row ∷ rows) good each = (
-  good row.0 row.1 (each row.0 row.1 (cons-Contains-first _ rows)),
-  good_rows _ rows good (λ key body among. each key body (cons-Contains _ rows _ among)),
-)
-
--- if all bodies of a table are well formed, so are the bodies of a UID's schedules
-pub good_of_uid : (live : Table) (uid : List ℕ) (rows : List Row) → HasGoodBodies live → AreOfUid live uid rows → AreGoodRows rows
-good_of_uid live uid rows good are = good_rows live rows good (λ key body among. ((are.members key body).0 among).4)
-
 -- if each row of a list is live, `AreLive` holds for the list
 live_rows : (live : Table) (rows : List Row) → ((key : Key) (body : Body) → Contains rows (key, body) → live key ≡ Some body) → AreLive live rows
 live_rows live [] each = tt
@@ -88,48 +64,49 @@ live_rows live (row ∷ rows) each = (
   live_rows _ rows (λ key body among. each key body (cons-Contains _ rows _ among)),
 )
 
--- each association at a place is live
-linked_each : (live : Table) (place : List ℕ) (rows : List Row) → AreLinked live place rows
-    → (key : Key) (body : Body) → Contains rows (key, body) → live key ≡ Some body
-linked_each live place rows are key body among = let one = (are.members key body).0 among in ap live one.2 ∙ one.4.is_live ∙ ap Some (sym one.3)
+-- if all bodies of a table are well formed, so are the bodies of live rows
+good_rows : (live : Table) (rows : List Row) → HasGoodBodies live → AreLive live rows → AreGoodRows rows
+good_rows live [] good are = tt
+good_rows live (row ∷ rows) good are = (good row.0 row.1 are.0, good_rows live rows good are.1)
+
+-- if all bodies of a table are well formed, so are the bodies of a UID's schedules
+pub good_of_uid : (live : Table) (uid : List ℕ) (rows : List Row) → HasGoodBodies live → AreOfUid live uid rows → AreGoodRows rows
+good_of_uid live uid rows good are = good_rows live rows good (live_rows live rows (λ key body among. ((are.members key body).0 among).4))
 
 -- the associations at a place are live
 pub live_linked : (live : Table) (place : List ℕ) (rows : List Row) → AreLinked live place rows → AreLive live rows
-live_linked live place rows are = live_rows live rows (linked_each live place rows are)
+live_linked live place rows are = live_rows live rows (λ key body among. let one = (are.members key body).0 among in
+    ap live one.2 ∙ one.4.is_live ∙ ap Some (sym one.3))
 
 -- if all bodies of a table are well formed, so are the bodies of the associations at a place
 pub good_linked : (live : Table) (place : List ℕ) (rows : List Row) → HasGoodBodies live → AreLinked live place rows → AreGoodRows rows
-good_linked live place rows good are = good_rows live rows good (linked_each live place rows are)
-
--- each schedule that calls at a place is live
-calling_each : (live : Table) (place : List ℕ) (rows : List Row) → AreCalling live place rows
-    → (key : Key) (body : Body) → Contains rows (key, body) → live key ≡ Some body
-calling_each live place rows are key body among = let one = (are.members key body).0 among in ap live one.2 ∙ one.4.is_live ∙ ap Some (sym one.3)
+good_linked live place rows good are = good_rows live rows good (live_linked live place rows are)
 
 -- the schedules that call at a place are live
 pub live_calling : (live : Table) (place : List ℕ) (rows : List Row) → AreCalling live place rows → AreLive live rows
-live_calling live place rows are = live_rows live rows (calling_each live place rows are)
+live_calling live place rows are = live_rows live rows (λ key body among. let one = (are.members key body).0 among in
+    ap live one.2 ∙ one.4.is_live ∙ ap Some (sym one.3))
 
 -- if all bodies of a table are well formed, so are the bodies of the schedules that call at a place
 pub good_calling : (live : Table) (place : List ℕ) (rows : List Row) → HasGoodBodies live → AreCalling live place rows → AreGoodRows rows
-good_calling live place rows good are = good_rows live rows good (calling_each live place rows are)
+good_calling live place rows good are = good_rows live rows good (live_calling live place rows are)
 
 -- updating the best schedule with the row of a schedule is the same as updating it with this
 -- schedule
 pub next_is_one : (uid : List ℕ) (day : ℕ) (found : Option Train) (key : Key) (body : Body) (train : Train) → schedule_of key body ≡ Some train
     → with_one_more (on (λ (t : Train). t.key) schedule_choice_cmp) (is_running uid day) found train ≡ next_chosen uid day found key body
-next_is_one = search (rules, no_train)
+next_is_one = search (rules, none_some)
 
 -- updating the best association with the row of an association is the same as updating it with this
 -- association
 pub next_link_is_one : (group : Group) (day : ℕ) (found : Option Link) (key : Key) (body : Body) (link : Link) → association_of key body ≡ Some link
     → with_one_more (on (λ (l : Link). l.key) association_choice_cmp) (is_linked group day) found link ≡ next_link group day found key body
-next_link_is_one = search (rules, no_link)
+next_link_is_one = search (rules, none_some)
 
 -- a row that isn't an association leaves the best association unchanged
 pub next_link_is_none : (group : Group) (day : ℕ) (found : Option Link) (key : Key) (body : Body) → association_of key body ≡ None
     → found ≡ next_link group day found key body
-next_link_is_none = search (rules, no_link)
+next_link_is_none = search (rules, none_some)
 
 -- the row of a schedule
 abbrev row_of : Train → Row
@@ -140,13 +117,12 @@ row_of train = (schedule_key train.key, schedule_body train.lines)
 has_in_front : (live : Table) (train : Train) (rows : List Row) → IsLiveTrain live train → HasSchedulesOf live train.key.uid rows
     → HasSchedulesOf live train.key.uid (row_of train ∷ rows)
 has_in_front live train rows is_live has = record {
-  each = λ key body among. by key body (Contains-cons (row_of train) rows (key, body) among);
+  each = λ key body among. elim (Contains-cons (row_of train) rows (key, body) among) [
+    | inl same ↦ subst (λ (row : Row). live row.0 ≡ Some row.1) same is_live
+    | inr inside ↦ has.each key body inside
+  ];
   all = λ key lines same is. cons-Contains (row_of train) rows (schedule_key key, schedule_body lines) (has.all key lines same is);
 }
-  where
-    by : (key : Key) (body : Body) → (row_of train ≡ (key, body)) ⊎ Contains rows (key, body) → live key ≡ Some body
-    by key body (inl same) = subst (λ (row : Row). live row.0 ≡ Some row.1) same is_live
-    by key body (inr among) = has.each key body among
 
 -- if a list has a single row, and its schedule runs on the day, this schedule is the best in the
 -- list

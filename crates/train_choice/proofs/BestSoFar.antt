@@ -1,11 +1,13 @@
 -- How the best schedule or association changes when one more value is compared with it.
-use Rattle.std.proofs.Common.{◌≡◌, Bool, true, false, cond, sym, ◌∙◌, Some, rules}
-use Rattle.std.specs.Prelude.{Option}
-use Rattle.std.specs.declared.cmp.Ordering.{Ordering}
+use Rattle.cif_laws.proofs.Common.{◌≡◌, Bool, true, false, cond, ap, sym, ◌∙◌, Some, rules, Option, Ordering}
 use Rattle.docker_laws.specs.Best.{better, with_one_more}
 use Rattle.train_choice.specs.Ranked.{is_better}
 
 module _ {A : Type 0} (cmp : A → A → Ordering) (more : A) where
+  -- whether a value is better than the best value so far, if this best value is given by an equation
+  pub told_better : (found shown : Option A) (is : Bool) → shown ≡ found → is ≡ is_better cmp more shown → is_better cmp more found ≡ is
+  told_better found shown is same told = ap (is_better cmp more) (sym same) ∙ sym told
+
   -- a value that isn't better than the best value so far leaves the best value unchanged
   pub best_stays : (found : Option A) → is_better cmp more found ≡ false → found ≡ better cmp found more
   best_stays = search rules

@@ -1,16 +1,8 @@
 -- Facts about a schedule whose lines fit its key, and about an association whose record fits its
 -- key.
-use Rattle.std.proofs.Common.{◌≡◌, ℕ, ◌<◌, ◌≤◌, ◌^◌, false, List, length, ap, All, arith, rules}
-use Rattle.std.specs.Prelude.{◌==◌, ◌&&◌, nat_le}
-use Rattle.std.specs.List.{AllByRecursion}
-use Rattle.std.proofs.lemmas.List.Elements.{recursion_from_All}
-use Rattle.docker_model.specs.records.Record.{association, HasKind, columns}
-use Rattle.docker_model.specs.records.Field.{HasGoodFields, is_deletion}
-use Rattle.docker_model.specs.file.File.{AreExtraDetails, first_record}
-use Rattle.docker_model.specs.file.Change.{AssociationKey, ScheduleKey, schedule_key}
-use Rattle.docker_model.specs.docker.Choice.{schedule_runs}
-use Rattle.docker_model.specs.docker.Event.{falls_to}
-use Rattle.docker_model.specs.state.State.{IsAssociationOf, IsScheduleOf}
+use Rattle.cif_laws.proofs.Common.{◌≡◌, ℕ, ◌<◌, ◌≤◌, ◌^◌, false, List, length, ap, All, arith, rules, ◌==◌, ◌&&◌, nat_le, AllByRecursion, recursion_from_All}
+use Rattle.cif_laws.proofs.Common.{association, HasKind, columns, HasGoodFields, is_deletion, AreExtraDetails, first_record, AssociationKey, ScheduleKey}
+use Rattle.cif_laws.proofs.Common.{schedule_key, schedule_runs, falls_to, IsAssociationOf, IsScheduleOf}
 use Rattle.cif_laws.proofs.records.Columns.{fields_good}
 use Rattle.cif_laws.proofs.lists.AllOf.{all_append}
 use Rattle.docker_laws.proofs.dockers.FewMidnights.{few_midnights, falls_below}

@@ -1,23 +1,14 @@
 -- The remembered train identities and associations are correct, and each look-up preserves their correctness.
-use Rattle.std.proofs.Common.{◌≡◌, ℕ, Bool, true, false, cond, List, refl, sym, ◌∙◌, subst, Some, rules}
-use Rattle.std.specs.Prelude.{Option, option_map, ◌&&◌}
-use Rattle.std.specs.declared.cmp.Ordering.{Ordering}
-use Rattle.std.specs.BTreeMap.{BTreeMap, get, Updates}
-use Rattle.std.specs.declared.cmp.Ordering.TheVariants.{Equal}
-use Rattle.std.specs.Ordering.{on, nat_cmp, is_eq}
-use Rattle.std.proofs.lemmas.Map.Lookups.{exact_bytes, exact_unsigned}
+use Rattle.cif_laws.proofs.Common.{◌≡◌, ℕ, Bool, true, false, cond, List, refl, sym, ◌∙◌, subst, Some, rules, Option, option_map, ◌&&◌, Ordering, get, Updates}
+use Rattle.cif_laws.proofs.Common.{Equal, on, nat_cmp, is_eq, exact_bytes, exact_unsigned, Group, group_of, association_choice_cmp, association_runs}
+use Rattle.cif_laws.proofs.Common.{AssociationKey, association_key_cmp, bytes_cmp, Row, AreRowsOf, Table}
+use Rattle.std.specs.BTreeMap.{BTreeMap}
 use Rattle.std.proofs.lemmas.Map.Text.{is_eq-slice_cmp}
 use Rattle.cif_laws.proofs.orders.AtMost.{eq_is}
 use Rattle.cif_laws.proofs.orders.Orders.{then_equal}
 use Rattle.docker_laws.specs.Best.{better}
-use Rattle.docker_model.specs.docker.Choice.{Group, group_of, association_choice_cmp, association_runs}
 use Rattle.docker_laws.specs.Gathering.{counts_as, identity_of}
 use Rattle.docker_laws.specs.LiveRows.{Link, is_of_group, link_in, train_in}
-use Rattle.docker_model.specs.file.Change.{AssociationKey}
-use Rattle.docker_model.specs.state.Op.{association_key_cmp}
-use Rattle.docker_model.specs.state.Order.{bytes_cmp}
-use Rattle.docker_model.specs.state.Row.{Row, AreRowsOf}
-use Rattle.docker_model.specs.state.Table.{Table}
 use Rattle.train_choice.specs.Known.{uid_day_cmp, AreIdentities, group_cmp, GroupLinks, AreDayLinks, HasOneMore}
 use Rattle.train_choice.specs.Ranked.{is_better}
 use Rattle.train_choice.proofs.BestSoFar.{best_stays, best_goes}
@@ -28,20 +19,16 @@ use Rattle.train_choice.proofs.BestSoFar.{best_stays, best_goes}
 pub one_more_identity : (live : Table) (before after : BTreeMap (List ℕ × ℕ) (List ℕ)) (uid : List ℕ) (day : ℕ) (identity : List ℕ)
     → AreIdentities live before → Updates uid_day_cmp before after (uid, day) (Some identity)
     → ((rows : List Row) → AreRowsOf live rows → identity ≡ identity_of (train_in rows uid day)) → AreIdentities live after
-one_more_identity live before after uid day identity are updates right = λ other_uid other_day other is.
-    by other_uid other_day other (is_eq (uid_day_cmp (uid, day) (other_uid, other_day))) refl (sym (updates.0 (other_uid, other_day)) ∙ is)
-  where
-    some_same : (a b : List ℕ) → Some a ≡ Some b → a ≡ b
-    some_same a b h = cc
-
-    by : (other_uid : List ℕ) (other_day : ℕ) (other : List ℕ) (b : Bool) → is_eq (uid_day_cmp (uid, day) (other_uid, other_day)) ≡ b
-        → cond b (Some identity) (get uid_day_cmp before (other_uid, other_day)) ≡ Some other
-        → (rows : List Row) → AreRowsOf live rows → other ≡ identity_of (train_in rows other_uid other_day)
-    by other_uid other_day other true at is = λ rows each.
-        let parts = then_equal (bytes_cmp uid other_uid) (nat_cmp day other_day) (eq_is (uid_day_cmp (uid, day) (other_uid, other_day)) at) in
-        sym (some_same identity other is) ∙ right rows each
-        ∙ (λ i. identity_of (train_in rows (exact_bytes uid other_uid parts.0 i) (exact_unsigned day other_day parts.1 i)))
-    by other_uid other_day other false at is = are other_uid other_day other is
+one_more_identity live before after uid day identity are updates right = λ other_uid other_day other is rows each.
+    (elim (is_eq (uid_day_cmp (uid, day) (other_uid, other_day))) as (λ b. is_eq (uid_day_cmp (uid, day) (other_uid, other_day)) ≡ b
+    → cond b (Some identity) (get uid_day_cmp before (other_uid, other_day)) ≡ Some other → other ≡ identity_of (train_in rows other_uid other_day)) [
+      | true ↦ λ at found.
+          let parts = then_equal (bytes_cmp uid other_uid) (nat_cmp day other_day) (eq_is (uid_day_cmp (uid, day) (other_uid, other_day)) at) in
+          let same : identity ≡ other = cc in
+          sym same ∙ right rows each
+          ∙ (λ i. identity_of (train_in rows (exact_bytes uid other_uid parts.0 i) (exact_unsigned day other_day parts.1 i)))
+      | false ↦ λ at found. are other_uid other_day other found rows each
+    ]) refl (sym (updates.0 (other_uid, other_day)) ∙ is)
 
 -- ---- groups
 

@@ -1,12 +1,7 @@
 -- A train passes midnight before some event if and only if some time in its schedule is below the
 -- preceding time.
-use Rattle.std.proofs.Common.{◌≡◌, ℕ, ◌+◌, true, cond, List, [], ◌∷◌, ◌++◌, refl, sym, ◌∙◌, subst, Some, None, All, arith}
-use Rattle.std.proofs.Common.{rules}
-use Rattle.std.specs.Prelude.{Option, nat_lt}
-use Rattle.std.proofs.lemmas.Bool.{ltb-true}
-use Rattle.std.proofs.lemmas.List.Elements.{All-from_recursion, recursion_from_All}
-use Rattle.docker_model.specs.records.Field.{HasGoodFields}
-use Rattle.docker_model.specs.file.Journey.{Occasion, times_of}
+use Rattle.cif_laws.proofs.Common.{◌≡◌, ℕ, ◌+◌, true, cond, List, [], ◌∷◌, ◌++◌, refl, sym, ◌∙◌, subst, Some, None, All, arith, rules, Option, nat_lt, ltb-true}
+use Rattle.cif_laws.proofs.Common.{All-from_recursion, recursion_from_All, HasGoodFields, Occasion, times_of}
 use Rattle.docker_laws.specs.EventWalk.{fall_at}
 use Rattle.train_choice.specs.Occurrences.{Occurrence, Progress, before_all, occurrences_at, occurrences_from, past_time, past_times, turned}
 use Rattle.train_choice.specs.Midnights.{some_late, ascends, falls_after, falls_along}
@@ -41,18 +36,12 @@ told p line (time ∷ times) zero = grind (arith, sum, fall_is, (told (past_time
 along : (p : Progress) (lines : List (List ℕ)) → p.falls ≡ 0 → falls_along (last_or_midnight p.last) lines ≡ some_late (occurrences_from p lines)
 along p [] zero = refl
 along p (line ∷ lines) zero =
-    by (ascends (last_or_midnight p.last) (times_of line)) (told (turned p line) line (times_of line) zero)
-    (along (past_times (turned p line) (times_of line)) lines)
-  where
-    next : Progress
-    next = past_times (turned p line) (times_of line)
-
-    by : (found : Option ℕ) → Told (turned p line) line (times_of line) found
-        → (next.falls ≡ 0 → falls_along (last_or_midnight next.last) lines ≡ some_late (occurrences_from next lines))
-        → falls_after found (λ time. falls_along time lines) ≡ some_late (occurrences_at (turned p line) line (times_of line) ++ occurrences_from next lines)
-    by None late rec = sym (late (occurrences_from next lines))
-    by (Some last) (falls, same, early) rec =
-        (λ i. falls_along (sym same i) lines) ∙ rec falls ∙ sym (early (occurrences_from next lines))
+    let next : Progress = past_times (turned p line) (times_of line) in
+    (elim (ascends (last_or_midnight p.last) (times_of line)) as (λ found. Told (turned p line) line (times_of line) found
+    → falls_after found (λ time. falls_along time lines) ≡ some_late (occurrences_from p (line ∷ lines))) [
+      | None ↦ λ late. sym (late (occurrences_from next lines))
+      | Some last ↦ λ found. (λ i. falls_along (sym found.1 i) lines) ∙ along next lines found.0 ∙ sym (found.2 (occurrences_from next lines))
+    ]) (told (turned p line) line (times_of line) zero)
 
 -- the train passes midnight before some event if and only if some time in the lines is below the
 -- preceding time

@@ -1,9 +1,6 @@
 -- The columns in which a line has its times depend on the line's kind.
-use Rattle.std.proofs.Common.{◌≡◌, ℕ, List, Some, true, rules}
-use Rattle.docker_model.specs.records.Record.{origin_location, intermediate_location, terminating_location, HasKind, columns}
-use Rattle.docker_model.specs.records.Clock.{half_minutes, is_present_time, is_scheduled_time}
-use Rattle.docker_model.specs.records.Field.{HasGoodFields}
-use Rattle.docker_model.specs.file.Journey.{arrival, departure, timed, times_of}
+use Rattle.cif_laws.proofs.Common.{◌≡◌, ℕ, List, Some, true, rules, origin_location, intermediate_location, terminating_location, HasKind, columns}
+use Rattle.cif_laws.proofs.Common.{half_minutes, is_present_time, is_scheduled_time, HasGoodFields, arrival, departure, timed, times_of}
 use Rattle.cif_laws.proofs.records.Columns.{good_fields}
 use Rattle.cif_laws.proofs.records.ScheduledTimes.{time_there}
 

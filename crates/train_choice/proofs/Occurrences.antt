@@ -1,13 +1,8 @@
 -- A walk over a schedule's lines yields exactly the schedule's events, in order.
-use Rattle.std.proofs.Common.{◌≡◌, ℕ, ◌+◌, Bool, true, false, cond, List, [], ◌∷◌, ◌++◌, map, length, rules}
-use Rattle.std.proofs.Common.{refl, ap, sym, ◌∙◌, subst, arith, Some, None, append_assoc, append-nil, length-append}
-use Rattle.std.specs.Prelude.{Option, codes}
-use Rattle.std.proofs.lemmas.List.{map-append, length-map}
-use Rattle.std.proofs.lemmas.Slice.Eq.{bytes_eq-Decides}
-use Rattle.docker_model.specs.records.Record.{Kind, change_en_route, kind_of, columns}
-use Rattle.docker_model.specs.file.Journey.{Occasion, times_by_kind, times_of, times_along, fall_count}
-use Rattle.docker_model.specs.docker.Event.{Event, event_line, event_identity, changed_identity, has_identity}
-use Rattle.docker_model.specs.file.File.{first_record}
+use Rattle.cif_laws.proofs.Common.{◌≡◌, ℕ, ◌+◌, Bool, true, false, cond, List, [], ◌∷◌, ◌++◌, map, length, rules, refl, ap, sym, ◌∙◌, subst, arith, Some, None}
+use Rattle.cif_laws.proofs.Common.{append_assoc, append-nil, length-append, Option, codes, map-append, length-map, bytes_eq-Decides, Kind, change_en_route}
+use Rattle.cif_laws.proofs.Common.{kind_of, columns, Occasion, times_by_kind, times_of, times_along, fall_count, Event, event_line, event_identity}
+use Rattle.cif_laws.proofs.Common.{changed_identity, has_identity, first_record}
 use Rattle.docker_laws.specs.EventWalk.{events_here, events_from, fall_at, last_time, last_change}
 use Rattle.docker_laws.proofs.dockers.EventWalk.{events_walked, times_split, falls_here, falls_more, line_here, identity_here, change_more}
 use Rattle.train_choice.specs.Occurrences.{Occurrence, occurrence_of, occurrences, Progress}
@@ -95,7 +90,9 @@ lines_met : (whole front rest : List (List ℕ)) (p : Progress) → whole ≡ fr
     → occurrences_from p rest ≡ map (occurrence_of whole) (events_from p.number (length front) rest)
 lines_met whole front [] p is has same = refl
 lines_met whole front (line ∷ lines) p is has same =
-    (λ i. here i ++ behind (lines_met whole (front ++ line ∷ []) lines) i)
+    (λ i. here_by (has_identity (codes "CR") line) refl i ++ (lines_met whole (front ++ line ∷ []) lines (past_times q (times_of line))
+    (is ∙ sym (append_assoc front (line ∷ []) lines)) further (identity_stays q (times_of line) ∙ identity_more whole front line p same)
+    ∙ (λ j. map (occurrence_of whole) (events_from (counted j) (length-append front (line ∷ []) j) lines))) i)
     ∙ sym (map-append (occurrence_of whole) (events_here p.number (length front) (times_of line))
     (events_from (p.number + length (times_of line)) (length front + 1) lines))
   where
@@ -121,12 +118,6 @@ lines_met whole front (line ∷ lines) p is has same =
         (times_along front) (times_of line) (times_along lines) q met
         ((λ i. cond (h i) (columns 13 16 line) p.identity) ∙ same) all
 
-    here : occurrences_at q line (times_of line) ≡ map (occurrence_of whole) (events_here p.number (length front) (times_of line))
-    here = here_by (has_identity (codes "CR") line) refl
-
-    longer : length (front ++ line ∷ []) ≡ length front + 1
-    longer = length-append front (line ∷ [])
-
     further : HasMet (times_along (front ++ line ∷ [])) (past_times q (times_of line))
     further =
         let passed = times_passed (times_along front) (times_of line) q met in
@@ -141,17 +132,6 @@ lines_met whole front (line ∷ lines) p is has same =
         let long = length-append (times_along front) (clock_times (times_of line)) in
         let short = length-map (times_of line) (λ (time : Occasion × ℕ). time.1) in
         omega arith
-
-    behind : ((next : Progress) → whole ≡ (front ++ line ∷ []) ++ lines → HasMet (times_along (front ++ line ∷ [])) next
-        → next.identity ≡ changed_identity (last_change (front ++ line ∷ [])) (first_record whole)
-        → occurrences_from next lines ≡ map (occurrence_of whole) (events_from next.number (length (front ++ line ∷ [])) lines))
-        → occurrences_from (past_times q (times_of line)) lines ≡ map (occurrence_of whole)
-        (events_from (p.number + length (times_of line)) (length front + 1) lines)
-    behind rest =
-        rest (past_times q (times_of line))
-        (is ∙ sym (append_assoc front (line ∷ []) lines)) further
-        (identity_stays q (times_of line) ∙ identity_more whole front line p same)
-        ∙ (λ i. map (occurrence_of whole) (events_from (counted i) (longer i) lines))
 
 -- a walk over all lines of a schedule yields the schedule's events
 pub all_met : (lines : List (List ℕ)) → occurrences_from (before_all (first_record lines)) lines ≡ occurrences lines

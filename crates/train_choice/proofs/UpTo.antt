@@ -1,12 +1,7 @@
 -- The lines up to and including the last line at a place. The search for this line begins at the
 -- end.
-use Rattle.std.proofs.Common.{◌≡◌, ◌≤◌, ◌<◌, ◌^◌, ◌+◌, ℕ, Bool, true, false, List, [], ◌∷◌, ◌++◌, length, All, arith, rules}
-use Rattle.std.proofs.lemmas.Grind.{common_steps}
-use Rattle.std.specs.List.{AllByRecursion}
-use Rattle.std.proofs.lemmas.List.Elements.{All-from_recursion, recursion_from_All}
-use Rattle.docker_model.specs.records.Field.{HasGoodFields}
-use Rattle.docker_model.specs.file.Change.{ScheduleKey}
-use Rattle.docker_model.specs.state.State.{IsScheduleOf}
+use Rattle.cif_laws.proofs.Common.{◌≡◌, ◌≤◌, ◌<◌, ◌^◌, ◌+◌, ℕ, Bool, true, false, List, [], ◌∷◌, ◌++◌, length, All, arith, rules, common_steps, AllByRecursion}
+use Rattle.cif_laws.proofs.Common.{All-from_recursion, recursion_from_All, HasGoodFields, ScheduleKey, IsScheduleOf}
 use Rattle.train_choice.specs.UpTo.{names_place, before_named, up_to_last}
 use Rattle.train_choice.proofs.KeptLines.{lines_good, lines_few}
 

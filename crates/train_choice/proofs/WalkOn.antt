@@ -1,20 +1,14 @@
 -- Properties of a walk that are preserved when the walk moves to the next line.
-use Rattle.std.proofs.Common.{◌≡◌, ℕ, ◌+◌, ◌*◌, ◌≤◌, List, [], ◌∷◌, length, ap, ◌∙◌, subst, refl, All, arith, rules}
-use Rattle.std.proofs.lemmas.List.Elements.{All-from_recursion, recursion_from_All}
-use Rattle.docker_model.specs.records.Field.{HasGoodFields}
-use Rattle.docker_model.specs.file.Journey.{Occasion, times_of}
+use Rattle.cif_laws.proofs.Common.{◌≡◌, ℕ, ◌+◌, ◌*◌, ◌≤◌, List, [], ◌∷◌, length, ap, ◌∙◌, refl, arith, rules, Occasion, times_of}
 use Rattle.train_choice.specs.Meaning.{times_meant}
 use Rattle.train_choice.specs.Occurrences.{Progress, turned, occurrences_at}
 use Rattle.train_choice.specs.EventWalk.{progress_of, events_here, progress_after_line, events_left, HasRoom, CanWalk}
 use Rattle.train_choice.specs.declared.walk.EventWalk.{EventWalk}
+use Rattle.train_choice.proofs.Late.{rest_good}
 
 no_times : (p : Progress) (line : List ℕ) (times : List (Occasion × ℕ)) → occurrences_at p line times ≡ [] → times ≡ []
 no_times p line [] none = refl
 no_times p line (time ∷ times) none = absurd (let bad : occurrences_at p line (time ∷ times) ≡ [] = none in cc)
-
--- the line to which the walk moves has good fields
-pub next_good : (walk : EventWalk) (lines rest : List (List ℕ)) (line : List ℕ) → lines ≡ line ∷ rest → CanWalk walk lines → HasGoodFields line
-next_good walk lines rest line is can = (recursion_from_All HasGoodFields (line ∷ rest) (subst (All HasGoodFields) is can.good)).0
 
 -- if the current line has no further events, the remaining events are the events of the next line
 -- and of all later lines
@@ -36,6 +30,6 @@ still_can before ended after lines rest line is can room few progress =
     let falls : after.falls ≡ ended.falls = ap (λ (p : Progress). p.falls) progress in
     let long : length lines ≡ length rest + 1 = ap length is ∙ (let e : length (line ∷ rest) ≡ length rest + 1 = omega arith in e) in
     record {
-      good = All-from_recursion HasGoodFields rest (recursion_from_All HasGoodFields (line ∷ rest) (subst (All HasGoodFields) is can.good)).1;
+      good = rest_good lines rest line can.good is;
       room = record { bound = omega arith; few = omega arith };
     }

@@ -1,11 +1,7 @@
 -- The example file is a CIF file, and its text has no fault. Two other texts have a fault.
-use Rattle.std.proofs.Common.{◌≡◌, ℕ, List, [], ◌∷◌, ◌++◌, refl, inl, inr, lit≤, ◌<◌, ap, sym, ◌∙◌, rules}
-use Rattle.std.proofs.lemmas.List.Elements.{All-from_recursion}
-use Rattle.docker_model.specs.records.Record.{HasKind, header, kind_of}
-use Rattle.docker_model.specs.file.File.{IsFile, IsUnit, BeginsFile}
-use Rattle.docker_model.specs.file.Text.{lines_of}
-use Rattle.docker_model.specs.file.FileFault.{IsFileText, IsFileFault, IsOutOfPlace, HoldsOf, FileCause, cause_rank}
-use Rattle.docker_model.specs.file.FileFault.{bad_place, no_end}
+use Rattle.cif_laws.proofs.Common.{◌≡◌, ℕ, List, [], ◌∷◌, ◌++◌, refl, inl, inr, lit≤, ◌<◌, ap, sym, ◌∙◌, rules, All-from_recursion, HasKind, header, kind_of}
+use Rattle.cif_laws.proofs.Common.{IsFile, IsUnit, BeginsFile, lines_of, IsFileText, IsFileFault, HoldsOf, FileCause, cause_rank, bad_place, no_end}
+use Rattle.docker_model.specs.file.FileFault.{IsOutOfPlace}
 use Rattle.cif_laws.proofs.records.Builders.{f2, f2_header, f2_basic, f2_origin, f2_terminus, f2_schedule, zz}
 use Rattle.cif_laws.proofs.schedules.WorkedSchedule.{record_by_test, f2_is_schedule}
 

@@ -1,15 +1,11 @@
 -- Worked examples of records, fields, dates, times and changes, as computed from the definitions.
-use Rattle.std.proofs.Common.{◌≡◌, ℕ, List, [], ◌∷◌, ◌++◌, length, refl, map, Some, None, true, false}
-use Rattle.std.specs.Prelude.{codes}
+use Rattle.cif_laws.proofs.Common.{◌≡◌, ℕ, List, [], ◌∷◌, ◌++◌, length, refl, map, Some, None, true, false, codes, kind_of, header, basic_schedule}
+use Rattle.cif_laws.proofs.Common.{origin_location, terminating_location, trailer, columns, column, leftmost_bad_byte, day_number, date_number, is_date}
+use Rattle.cif_laws.proofs.Common.{end_number, scheduled_time, leftmost_bad_field, times_along, midnights, lines_of, tiploc_key, schedule_named, tiploc_body}
+use Rattle.cif_laws.proofs.Common.{schedule_body, delete, put, Change, changes}
 use Rattle.jiff_core.specs.Calendar.{days_from_civil, day_count, days_of_years, days_of_months}
-use Rattle.docker_model.specs.records.Record.{kind_of, header, basic_schedule, origin_location}
-use Rattle.docker_model.specs.records.Record.{terminating_location, trailer, columns, column, leftmost_bad_byte}
-use Rattle.docker_model.specs.records.Date.{day_number, date_number, is_date, weekday_of, end_number}
-use Rattle.docker_model.specs.records.Clock.{scheduled_time, public_time}
-use Rattle.docker_model.specs.records.Field.{leftmost_bad_field}
-use Rattle.docker_model.specs.file.Journey.{times_along, midnights}
-use Rattle.docker_model.specs.file.Text.{lines_of}
-use Rattle.docker_model.specs.file.Change.{tiploc_key, schedule_named, tiploc_body, schedule_body, delete, put, Change, changes}
+use Rattle.docker_model.specs.records.Date.{weekday_of}
+use Rattle.docker_model.specs.records.Clock.{public_time}
 use Rattle.cif_laws.specs.UnitChange.{changes_of_unit, changes_of_units}
 use Rattle.cif_laws.proofs.records.Builders.{wide, no_text, hd, bs, lo, li, lt, ta, zz, f2, f2_header, f2_basic}
 use Rattle.cif_laws.proofs.records.Builders.{f2_origin, f2_terminus, f2_schedule, rename, rename_amend, night_schedule}

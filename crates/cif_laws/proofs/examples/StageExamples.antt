@@ -1,8 +1,7 @@
 -- Worked examples of the stages and the `Place` that a reader reaches in a file, and of the causes
 -- of faults.
-use Rattle.std.proofs.Common.{◌≡◌, ℕ, List, [], ◌∷◌, ◌++◌, refl, Some, None}
-use Rattle.std.specs.Prelude.{codes}
-use Rattle.docker_model.specs.file.FileFault.{too_many, after_trailer, bad_length, bad_byte, bad_kind, bad_place, bad_field, third_midnight}
+use Rattle.cif_laws.proofs.Common.{◌≡◌, ℕ, List, [], ◌∷◌, ◌++◌, refl, Some, None, codes, too_many, after_trailer, bad_length, bad_byte, bad_kind, bad_place}
+use Rattle.cif_laws.proofs.Common.{bad_field, third_midnight}
 use Rattle.cif_laws.specs.ScheduleStage.{after_basic, in_journey, after_journey, stage_of}
 use Rattle.cif_laws.specs.FileStage.{before_header, between_units, in_schedule, after_end, next_place, place_at}
 use Rattle.cif_laws.specs.RecordCause.{cause_of}

@@ -1,11 +1,7 @@
 -- If two changes of a file have the same key, the second belongs to a later record. Two changes of
 -- one record have different keys.
-use Rattle.std.proofs.Common.{◌≡◌, ℕ, ◌+◌, ◌<◌, ◌≤◌, List, [], ◌∷◌, map, inl, inr, ◌⊎◌, refl, arith, false, rules}
-use Rattle.std.specs.Prelude.{Option}
-use Rattle.std.specs.List.{AllByRecursion, AllPairs}
-use Rattle.docker_model.specs.records.Record.{Kind, kind_of}
-use Rattle.docker_model.specs.file.Change.{Key, tiploc_key, Act, Change, tiploc_named, new_tiploc_named}
-use Rattle.docker_model.specs.file.Change.{keeps_code, acts_by_kind, changes_of_record, changes_from, changes}
+use Rattle.cif_laws.proofs.Common.{◌≡◌, ℕ, ◌+◌, ◌<◌, ◌≤◌, List, [], ◌∷◌, map, inl, inr, ◌⊎◌, refl, arith, rules, Option, AllByRecursion, AllPairs, Kind}
+use Rattle.cif_laws.proofs.Common.{kind_of, Key, Act, Change, acts_by_kind, changes_of_record, changes_from, changes}
 use Rattle.cif_laws.proofs.lists.Later.{AllLater, later_append_all, later_weaker_always, pairs_from_later}
 use Rattle.cif_laws.proofs.lists.AllOf.{all_append, all_weaker}
 
@@ -28,18 +24,6 @@ number_from n (line ∷ lines) =
     (search (rules, all_weaker, number_in))
     (all_weaker (λ (c : Change). n + 1 ≤ c.number) (λ (c : Change). n ≤ c.number) (λ c more. omega arith) (changes_from (n + 1) lines)
     (number_from (n + 1) lines))
-
-code_of : Key → List ℕ
-code_of (tiploc_key code) = code
-code_of _ = []
-
-codes_differ : (line : List ℕ) → keeps_code line ≡ false → ¬ (tiploc_named line ≡ new_tiploc_named line)
-unfolding code_of
-codes_differ = search (rules, code_of)
-
--- two changes have different keys
-abbrev KeysDiffer : Change → Change → Type 0
-KeysDiffer first second = ¬ (first.key ≡ second.key)
 
 acts_apart : (n : ℕ) (kind : Option Kind) (line : List ℕ) (following : List (List ℕ)) → AllLater Apart (changes_of_acts n (acts_by_kind kind line following))
 acts_apart = search (rules, later_weaker_always)

@@ -1,16 +1,13 @@
 -- A text whose bytes are still being read has complete lines, each ended by a line feed, and an
 -- incomplete line after them.
-use Rattle.std.proofs.Common.{ℕ, ◌<◌, List, length, Bool, arith, ◌≡◌, ◌+◌, [], ◌∷◌, ◌++◌, refl, ap, sym, rules}
-use Rattle.std.proofs.Common.{◌∙◌, true, false, map, append-nil, ◌≤◌, cond, length-append}
-use Rattle.std.specs.Prelude.{◌==◌, nat_le, if◌then◌else◌}
-use Rattle.std.specs.List.{slice_split, onto_first}
-use Rattle.std.specs.Str.Lines.{strip_carriage_return}
-use Rattle.std.proofs.lemmas.Bool.{leb-true, le-leb}
-use Rattle.std.proofs.lemmas.List.{map-append, length-map}
-use Rattle.std.proofs.lemmas.List.Splits.{length-slice_split, slice_split-cons_yes, slice_split-cons_no, slice_split_none, slice_split_at}
-use Rattle.docker_model.specs.records.Record.{Lines}
-use Rattle.docker_model.specs.file.Text.{last_piece, without_empty_last, lines_of, but_last, complete_lines, pieces_of}
-use Rattle.docker_model.specs.file.FaultSoFar.{last_of, sure_lines}
+use Rattle.cif_laws.proofs.Common.{ℕ, ◌<◌, List, length, Bool, arith, ◌≡◌, ◌+◌, ◌∷◌, ◌++◌, refl, ap, sym, rules, [], ◌∙◌, map, append-nil, ◌≤◌, length-append}
+use Rattle.cif_laws.proofs.Common.{◌==◌, nat_le, slice_split, strip_carriage_return, map-append, length-map, length-slice_split, slice_split-cons_yes}
+use Rattle.cif_laws.proofs.Common.{slice_split_none, Lines, without_empty_last, lines_of, complete_lines, sure_lines}
+use Rattle.std.specs.Prelude.{if◌then◌else◌}
+use Rattle.std.specs.List.{onto_first}
+use Rattle.std.proofs.lemmas.List.Splits.{slice_split-cons_no, slice_split_at}
+use Rattle.docker_model.specs.file.Text.{last_piece, but_last, pieces_of}
+use Rattle.docker_model.specs.file.FaultSoFar.{last_of}
 use Rattle.cif_laws.specs.CompleteLines.{open_line, line_left, feeds, HasNoFeed}
 
 -- ---- how the pieces of a text change when bytes are appended
@@ -155,12 +152,8 @@ goes_on text more = by (slice_split (λ b. b == 10) more) refl
     by (first ∷ pieces) h = record {
       first = first;
       pieces = pieces;
-      lines = ap (λ all. map strip_carriage_return (without_empty_last all)) whole
-          ∙ ap (map strip_carriage_return) (without_last_append (but_last (pieces_of text)) (open_line text ++ first) pieces)
-          ∙ map-append strip_carriage_return (but_last (pieces_of text)) (without_empty_last ((open_line text ++ first) ∷ pieces));
-      told = ap (λ all. map strip_carriage_return (but_last all)) whole
-          ∙ ap (map strip_carriage_return) (but_last_append (but_last (pieces_of text)) (open_line text ++ first) pieces)
-          ∙ map-append strip_carriage_return (but_last (pieces_of text)) (but_last ((open_line text ++ first) ∷ pieces));
+      lines = search (rules, whole, without_last_append, map-append);
+      told = search (rules, whole, but_last_append, map-append);
       open_is = ap last_of whole ∙ last_of_append (but_last (pieces_of text)) (open_line text ++ first) pieces;
     }
       where
@@ -178,14 +171,6 @@ sure_lines_grow text more = by on.pieces on.told on.open_is
   where
     on : GoesOn text more
     on = goes_on text more
-
-    longer : (b : Bool) → nat_le 82 (length (open_line text)) ≡ b → (if b then 1 else 0) ≤ (if nat_le 82 (length (open_line text ++ on.first)) then 1 else 0)
-    longer true h = search (rules, length-append, leb-true, le-leb, on.first)
-    longer false h = omega arith
-
-    most : (b : Bool) → cond b 1 0 ≤ 1
-    most true = omega arith
-    most false = omega arith
 
     by : (pieces : Lines) → complete_lines (text ++ more) ≡ complete_lines text ++ map strip_carriage_return (but_last ((open_line text ++ on.first) ∷ pieces))
         → open_line (text ++ more) ≡ last_of ((open_line text ++ on.first) ∷ pieces) → sure_lines text ≤ sure_lines (text ++ more)

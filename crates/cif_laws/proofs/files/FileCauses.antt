@@ -1,39 +1,35 @@
 -- The cause of the fault at a record, computed from the `Place` that a reader has reached just
 -- before this record. A text that isn't the text of a file has a fault.
-use Rattle.std.proofs.Common.{◌≡◌, refl, true, [], ◌∷◌, Some, None, ℕ, ◌+◌, List, ◌++◌, sym, ◌∙◌, Bool, false, cond, ◌⊎◌, inl, inr, rules}
-use Rattle.std.proofs.lemmas.Grind.{common_steps}
-use Rattle.std.proofs.Common.{Contains, ap, subst, ◌<◌, ◌≤◌, length, arith, eqb-true, append_assoc, append-nil, length-append}
-use Rattle.std.specs.Prelude.{Any, Option, is_some, ◌&&◌, ◌||◌, nat_le, is_none}
-use Rattle.std.specs.List.{flat_map, AllByRecursion}
-use Rattle.std.proofs.lemmas.Bool.{leb-false, leb-true, eqb-false}
-use Rattle.std.proofs.lemmas.List.Elements.{Contains-append_right, All-from_recursion}
-use Rattle.docker_model.specs.records.Record.{Lines, trailer, HasKind, kind_of, Kind, basic_schedule}
-use Rattle.docker_model.specs.records.Record.{IsRecord, leftmost_bad_byte}
-use Rattle.docker_model.specs.records.Field.{HasGoodFields, leftmost_bad_field, is_deletion}
-use Rattle.docker_model.specs.file.Journey.{midnights}
-use Rattle.docker_model.specs.file.File.{IsFile, follows_basic, AreExtraDetails, first_record}
-use Rattle.docker_model.specs.file.Text.{lines_of}
-use Rattle.docker_model.specs.file.FileFault.{EndsInSchedule, HasThirdFall, FileCause, after_trailer}
-use Rattle.docker_model.specs.file.FileFault.{bad_kind, bad_place, bad_field, third_midnight, no_end, cause_rank, IsOutOfPlace}
-use Rattle.docker_model.specs.file.FileFault.{HoldsOf, IsCause, IsRecordFault, IsUnended, FileFault, IsFileFault, IsFileText}
+use Rattle.cif_laws.proofs.Common.{◌≡◌, refl, true, ◌∷◌, Some, None, ℕ, ◌+◌, List, ◌++◌, sym, ◌∙◌, false, cond, ◌⊎◌, inl, inr, rules, [], common_steps}
+use Rattle.cif_laws.proofs.Common.{Contains, ap, subst, ◌<◌, ◌≤◌, length, arith, eqb-true, append_assoc, append-nil, length-append, Option, is_some, nat_le}
+use Rattle.cif_laws.proofs.Common.{is_none, flat_map, AllByRecursion, cases_lt, leb-false, leb-true, Contains-append_right, All-from_recursion, Lines, trailer}
+use Rattle.cif_laws.proofs.Common.{HasKind, kind_of, Kind, basic_schedule, IsRecord, leftmost_bad_byte, HasGoodFields, leftmost_bad_field, is_deletion}
+use Rattle.cif_laws.proofs.Common.{midnights, IsFile, follows_basic, AreExtraDetails, first_record, lines_of, FileCause, bad_kind, bad_place, bad_field}
+use Rattle.cif_laws.proofs.Common.{third_midnight, no_end, cause_rank, HoldsOf, IsCause, IsRecordFault, FileFault, IsFileFault, IsFileText}
+use Rattle.std.specs.Prelude.{Any}
+use Rattle.std.proofs.lemmas.Bool.{eqb-false}
+use Rattle.docker_model.specs.file.FileFault.{EndsInSchedule, HasThirdFall}
+use Rattle.docker_model.specs.file.FileFault.{IsOutOfPlace}
+use Rattle.docker_model.specs.file.FileFault.{IsUnended}
 use Rattle.cif_laws.specs.RecordTest.{has_good_fields}
-use Rattle.cif_laws.specs.ScheduleStage.{Stage, stage_after, is_sound_next}
+use Rattle.cif_laws.specs.ScheduleStage.{Stage, is_sound_next}
 use Rattle.cif_laws.specs.FileStage.{Place, after_end, next_place, place_from, before_header, in_schedule}
 use Rattle.cif_laws.specs.FileStage.{place_by_kind, is_sound_at, IsPlaceOf, place_at}
 use Rattle.cif_laws.specs.RecordCause.{is_after_end, with_column, cause_of, place_cause, length_cause, field_cause, end_cause, byte_cause, kind_cause}
 use Rattle.cif_laws.proofs.lists.Membership.{Contains-cons, nil-Contains, cons-Contains-first}
 use Rattle.cif_laws.proofs.lists.AllOf.{all_weaker, all_append}
 use Rattle.cif_laws.proofs.files.GoodChanges.{Follows, follows_by, journey_follows}
-use Rattle.cif_laws.proofs.lists.BoolsAndOptions.{then_some, test_by_none, and_true, some_by_test}
+use Rattle.cif_laws.proofs.lists.BoolsAndOptions.{then_some, test_by_none, some_by_test, when_unsound, cond_false}
+use Rattle.cif_laws.proofs.lists.Decisions.{Decided, decided_along}
 use Rattle.cif_laws.proofs.records.RecordTests.{record_iff_test, printable_by_none}
-use Rattle.cif_laws.proofs.schedules.ScheduleStages.{HasShape, details_of, midnights_of_journey, witness, witness_kind}
+use Rattle.cif_laws.proofs.schedules.ScheduleStages.{HasShape, details_of, midnights_of_journey, witness, witness_kind, unsound_by}
 use Rattle.cif_laws.proofs.files.FileStages.{next_by_test, stage_stops, IsWithin, IsAt, next_at, at_of_place, witness_next, at_begins}
 use Rattle.cif_laws.proofs.files.FileStages.{begins_iff_place, file_iff_place, place_of_more, begins_next_iff, one_place}
 
 -- ---- records that include a trailer lead the reader to `after_end`
 
-end_by_test : (place : Place) → is_after_end place ≡ true → place ≡ after_end
-end_by_test = search rules
+end_or_not : (place : Place) → (place ≡ after_end) ⊎ (is_after_end place ≡ false)
+end_or_not = search rules
 
 end_stays : (rest : Lines) (final : Place) → place_from after_end rest ≡ Some final → final ≡ after_end
 end_stays [] final found = cc
@@ -49,17 +45,14 @@ trailer_leads : (records : Lines) (place final : Place) (line : List ℕ) → pl
     → final ≡ after_end
 trailer_leads [] place final line found among kind = absurd (nil-Contains line among)
 trailer_leads (first ∷ rest) place final line found among kind =
-    by (then_some (λ next. place_from next rest) (next_place place first) final found) (λ next told inside. trailer_leads rest next final line told inside kind)
-    (Contains-cons first rest line among)
-  where
-    by : (next : Place) × (next_place place first ≡ Some next) × (place_from next rest ≡ Some final) → ((next : Place) → place_from next rest ≡ Some final
-        → Contains rest line → final ≡ after_end)
-        → (first ≡ line) ⊎ Contains rest line → final ≡ after_end
-    by step later (inl same) =
-        let told = (next_by_test place first step.0 step.1).place_is in
-        let reached = trailer_place place step.0 first ((λ i. place_by_kind place (sym (ap kind_of same ∙ kind) i) first) ∙ told) in
-        end_stays rest final (ap (λ p. place_from p rest) (sym reached) ∙ step.2)
-    by step later (inr inside) = later step.0 step.2 inside
+    let step = then_some (λ next. place_from next rest) (next_place place first) final found in
+    elim (Contains-cons first rest line among) [
+      | inl same ↦
+          let told = (next_by_test place first step.0 step.1).place_is in
+          let reached = trailer_place place step.0 first ((λ i. place_by_kind place (sym (ap kind_of same ∙ kind) i) first) ∙ told) in
+          end_stays rest final (ap (λ p. place_from p rest) (sym reached) ∙ step.2)
+      | inr inside ↦ trailer_leads rest step.0 final line step.2 inside kind
+    ]
 
 -- one of the records of a file is a trailer
 trailer_among : (records : Lines) → IsFile records → Any (HasKind trailer) records
@@ -87,41 +80,22 @@ details_follow = search (rules, follows_by)
 
 -- if records end with an incomplete schedule, its lines are the last schedule among these records
 pub ends_in_schedule : (stage : Stage) (lines records : Lines) → IsWithin stage lines records → EndsInSchedule records lines
-ends_in_schedule stage lines records within = record {
-  before = within.before;
-  basic = within.front.basic;
-  others = within.front.extra ++ within.front.journey;
-  whole = within.whole;
-  schedule = within.front.whole;
-  kind = within.front.kind;
-  last = All-from_recursion (λ line. ¬ HasKind basic_schedule line) (within.front.extra ++ within.front.journey) (all_weaker _ _ no_basic _ (all_append _ _ _
-      (details_follow _ (details_of _ _ _ within.front.shape)) (shape_follows _ _ _ within.front.shape)));
-}
+ends_in_schedule = search (rules, All-from_recursion, all_weaker, no_basic, all_append, details_follow, details_of, shape_follows)
 
 -- if a record has good fields but fails the test `is_sound_next`, its schedule passes midnight for
 -- the third time at this record
 third_fall : (stage : Stage) (lines records : Lines) (line : List ℕ) → IsWithin stage lines records → HasGoodFields line → is_sound_next lines line ≡ false
     → HasThirdFall records line
-third_fall stage lines records line within fields test = (
-  lines,
-  ends_in_schedule stage _ records within,
-  search (rules, midnights_of_journey, details_of),
-  third,
-)
-  where
-    neither : (a b : Bool) → (a || b) ≡ false → (a ≡ false) × (b ≡ false)
-    neither true b h = (cc, cc)
-    neither false b h = (refl, h)
-
-    and_false : (a b : Bool) → a ≡ true → (a && b) ≡ false → b ≡ false
-    and_false true b h g = g
-    and_false false b h g = cc
-
-    parts : (is_deletion (first_record lines) ≡ false) × ((has_good_fields line && nat_le (midnights (lines ++ line ∷ [])) 2) ≡ false)
-    parts = neither (is_deletion (first_record lines)) _ test
-
-    third : 2 < midnights (lines ++ line ∷ [])
-    third = leb-false (midnights (lines ++ line ∷ [])) 2 (and_false (has_good_fields line) _ (test_by_none _ fields) parts.1)
+third_fall stage lines records line within fields test =
+    elim (unsound_by (is_deletion (first_record lines)) (leftmost_bad_field line) (nat_le (midnights (lines ++ line ∷ [])) 2) test) [
+      | inl field ↦ let bad : None ≡ Some field.0 = sym fields ∙ field.1 in cc
+      | inr many ↦ (
+        lines,
+        ends_in_schedule stage _ records within,
+        search (rules, midnights_of_journey, details_of),
+        leb-false (midnights (lines ++ line ∷ [])) 2 many.1,
+      )
+    ]
 
 -- ---- `cause_of` is the cause of the fault at a record
 
@@ -160,24 +134,14 @@ module _ (limit : ℕ) (earlier : Lines) (place : Place) (line : List ℕ) (foun
   -- this record
   third : (next : Place) → IsRecord line → place_by_kind place (kind_of line) line ≡ Some next → HasGoodFields line → next_place place line ≡ None
       → HasThirdFall earlier line
-  third next is told fields nowhere = by place at unsound
+  third next is told fields nowhere =
+      by place at (when_unsound _ (is_sound_at place line) _ next nowhere ((record_iff_test line).0 is) told)
     where
-      unsound : is_sound_at place line ≡ false
-      unsound = pick (is_sound_at place line) refl
-        where
-          pick : (b : Bool) → is_sound_at place line ≡ b → is_sound_at place line ≡ false
-          pick true h = search (rules, and_true, record_iff_test)
-          pick false h = h
-
       good : has_good_fields line ≡ true
       good = test_by_none (leftmost_bad_field line) fields
 
       by : (p : Place) → IsAt p earlier → is_sound_at p line ≡ false → HasThirdFall earlier line
-      by (in_schedule stage lines) here test = staged (stage_after stage (kind_of line)) test
-        where
-          staged : (after : Option Stage) → cond (is_some after) (is_sound_next lines line) (has_good_fields line) ≡ false → HasThirdFall earlier line
-          staged (Some after) t = third_fall stage lines earlier line here fields t
-          staged None t = let bad : true ≡ false = sym good ∙ t in cc
+      by (in_schedule stage lines) here test = third_fall stage lines earlier line here fields (cond_false _ _ _ test good)
       by _ here test = let bad : true ≡ false = sym good ∙ test in cc
 
   -- suppose that a record leads to no next `Place`, although the limit isn't reached and no earlier
@@ -217,11 +181,11 @@ module _ (limit : ℕ) (earlier : Lines) (place : Place) (line : List ℕ) (foun
   length_is = grind (common_steps, arith, byte_is, eqb-true, eqb-false, none_below)
 
   end_is : ¬ (limit ≤ length earlier) → next_place place line ≡ None → IsCause limit earlier line (end_cause place line)
-  end_is r0 nowhere =
-      (elim (is_after_end place) as (λ b. is_after_end place ≡ b → IsCause limit earlier line (cond b after_trailer (length_cause place line))) [
-        | true ↦ λ h. record { holds = trailer_among _ ((file_iff_place _).1 (found ∙ ap Some (end_by_test _ h))); first = search (rules, none_below) }
-        | false ↦ λ h. length_is r0 (search (rules, trailer_leads)) nowhere
-      ]) refl
+  end_is r0 nowhere = elim (end_or_not place) [
+    | inl end ↦ subst (λ p. IsCause limit earlier line (end_cause p line)) (sym end)
+        (record { holds = trailer_among _ ((file_iff_place _).1 (found ∙ ap Some end)); first = search (rules, none_below) })
+    | inr open_end ↦ rw open_end (length_is r0 (search (rules, trailer_leads)) nowhere)
+  ]
 
   -- the cause computed from the reader's `Place` is the cause of the fault at the record
   pub cause_is : (limit ≤ length earlier) ⊎ (next_place place line ≡ None) → IsCause limit earlier line (cause_of limit (length earlier) place line)
@@ -277,21 +241,19 @@ pass_from : (rest : Lines) (limit : ℕ) (records earlier : Lines) (place : Plac
     → Pass limit records ⊎ HasRecordFault limit records
 pass_from [] limit records earlier place found within whole = inl (subst (Pass limit) (sym (whole ∙ append-nil earlier)) (place, found, within))
 pass_from (line ∷ rest) limit records earlier place found within whole =
-    by (nat_le limit (length earlier)) refl (next_place place line) refl
-    (λ next at more. pass_from rest limit records (earlier ++ line ∷ []) next at more (whole ∙ sym (append_assoc earlier (line ∷ []) rest)))
-  where
-    fault : (limit ≤ length earlier) ⊎ (next_place place line ≡ None) → HasRecordFault limit records
-    fault here = (
+    let fault : (limit ≤ length earlier) ⊎ (next_place place line ≡ None) → HasRecordFault limit records =
+    λ here. (
       record { number = length earlier + 1; cause = cause_of limit (length earlier) place line },
       record_fault limit earlier place line found records rest whole within here,
-    )
-
-    by : (b : Bool) → nat_le limit (length earlier) ≡ b → (reached : Option Place) → next_place place line ≡ reached
-        → ((next : Place) → IsPlaceOf (earlier ++ line ∷ []) next → length (earlier ++ line ∷ []) ≤ limit → Pass limit records ⊎ HasRecordFault limit records)
-        → Pass limit records ⊎ HasRecordFault limit records
-    by true h reached told later = inr (fault (inl (leb-true limit (length earlier) h)))
-    by false h None told later = inr (fault (inr told))
-    by false h (Some next) told later = search (rules, leb-false, length-append, place_of_more)
+    ) in
+    elim (cases_lt (length earlier) limit) [
+      | inr over ↦ inr (fault (inl over))
+      | inl under ↦ (elim (next_place place line) as (λ reached. next_place place line ≡ reached → Pass limit records ⊎ HasRecordFault limit records) [
+        | None ↦ λ told. inr (fault (inr told))
+        | Some next ↦ λ told. pass_from rest limit records (earlier ++ line ∷ []) next (place_of_more earlier place line found ∙ told)
+            (let size = length-append earlier (line ∷ []) in omega arith) (whole ∙ sym (append_assoc earlier (line ∷ []) rest))
+      ]) refl
+    ]
 
 -- no record is at fault, or one of the records is at fault
 pub pass_or_fault : (limit : ℕ) (records : Lines) → Pass limit records ⊎ HasRecordFault limit records
@@ -299,26 +261,18 @@ pass_or_fault limit records = pass_from records limit records [] before_header r
 
 -- a text is the text of a file within the limit, or it has a fault
 pub file_or_fault : (limit : ℕ) (text : List ℕ) → ((file : Lines) × IsFileText limit text file) ⊎ ((fault : FileFault) × IsFileFault limit text fault)
-file_or_fault limit text = by (pass_or_fault limit (lines_of text))
-  where
-    by : Pass limit (lines_of text) ⊎ HasRecordFault limit (lines_of text) → ((file : Lines) × IsFileText limit text file)
-        ⊎ ((fault : FileFault) × IsFileFault limit text fault)
-    by (inl pass) = ended (is_after_end pass.0) refl
-      where
-        ended : (b : Bool) → is_after_end pass.0 ≡ b → ((file : Lines) × IsFileText limit text file) ⊎ ((fault : FileFault) × IsFileFault limit text fault)
-        ended true h =
-            inl (lines_of text, record { lines = refl; is = (file_iff_place (lines_of text)).1 (pass.1 ∙ ap Some (end_by_test pass.0 h)); within = pass.2 })
-        ended false h = inr (record { number = length (lines_of text) + 1; cause = no_end }, inr (no_end_behind limit (lines_of text) pass.0 pass.1 h pass.2))
-    by (inr fault) = inr (fault.0, inl fault.1)
+file_or_fault limit text = elim (pass_or_fault limit (lines_of text)) [
+  | inr fault ↦ inr (fault.0, inl fault.1)
+  | inl pass ↦ elim (end_or_not pass.0) [
+    | inl end ↦ inl (lines_of text, record { lines = refl; is = (file_iff_place (lines_of text)).1 (pass.1 ∙ ap Some end); within = pass.2 })
+    | inr open_end ↦
+        inr (record { number = length (lines_of text) + 1; cause = no_end }, inr (no_end_behind limit (lines_of text) pass.0 pass.1 open_end pass.2))
+  ]
+]
+
+ended_decided : (found : Option Place) → Decided (found ≡ Some after_end)
+ended_decided = search rules
 
 -- it is decidable whether records are a file
 pub file_or_not : (records : Lines) → IsFile records ⊎ ¬ IsFile records
-file_or_not records = by (place_at records) refl
-  where
-    by : (found : Option Place) → place_at records ≡ found → IsFile records ⊎ ¬ IsFile records
-    by None h = inr (λ is. let bad : None ≡ Some after_end = sym h ∙ (file_iff_place records).0 is in cc)
-    by (Some place) h = ended (is_after_end place) refl
-      where
-        ended : (b : Bool) → is_after_end place ≡ b → IsFile records ⊎ ¬ IsFile records
-        ended true end = inl ((file_iff_place records).1 (h ∙ ap Some (end_by_test place end)))
-        ended false end = search (rules, one_place, file_iff_place)
+file_or_not records = decided_along (file_iff_place records).1 (file_iff_place records).0 (ended_decided (place_at records))

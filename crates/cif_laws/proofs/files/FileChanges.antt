@@ -1,14 +1,8 @@
 -- The changes of a file within the limit: each change is well formed, and a body that a change puts
 -- belongs to the key of the change.
-use Rattle.std.proofs.Common.{◌≡◌, ℕ, ◌+◌, ◌-◌, ◌^◌, ◌<◌, ◌≤◌, List, [], ◌∷◌, ◌++◌, length, Contains, subst, ap, arith, length-append}
-use Rattle.std.proofs.Common.{rules}
-use Rattle.std.specs.List.{AllByRecursion, flat_map}
-use Rattle.std.proofs.lemmas.List.Elements.{recursion_from_All}
-use Rattle.docker_model.specs.file.File.{IsFile, IsUnit, IsSchedule, most_records}
-use Rattle.docker_model.specs.file.Change.{Key, tiploc_key, association_key, schedule_key, put, Body, schedule_body}
-use Rattle.docker_model.specs.file.Change.{Change, changes_of_record, changes_from, changes}
-use Rattle.docker_model.specs.state.Op.{op_of}
-use Rattle.docker_model.specs.state.State.{IsBodyOf, IsOpOf}
+use Rattle.cif_laws.proofs.Common.{◌≡◌, ℕ, ◌+◌, ◌-◌, ◌^◌, ◌<◌, ◌≤◌, List, [], ◌∷◌, ◌++◌, length, Contains, subst, ap, arith, length-append, rules}
+use Rattle.cif_laws.proofs.Common.{AllByRecursion, flat_map, recursion_from_All, IsFile, IsUnit, IsSchedule, most_records, Key, tiploc_key, association_key}
+use Rattle.cif_laws.proofs.Common.{schedule_key, put, Body, schedule_body, Change, changes_of_record, changes_from, changes, op_of, IsBodyOf, IsOpOf}
 use Rattle.cif_laws.proofs.lists.Membership.{below_by_recursion}
 use Rattle.cif_laws.proofs.lists.AllOf.{all_append, all_weaker}
 use Rattle.cif_laws.proofs.files.GoodChanges.{IsGoodChange, units_changes}

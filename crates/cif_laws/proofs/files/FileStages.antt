@@ -1,31 +1,27 @@
 -- The `Place` of a reader in a file determines which records may follow. It also determines whether
 -- the records up to the `Place` are a file. Each record leads the reader from one `Place` to the
 -- next.
-use Rattle.std.proofs.Common.{◌≡◌, ℕ, List, ◌∷◌, ◌++◌, [], true, Some, refl, Bool, false, cond, None, ◌∙◌, ap, sym, rules}
-use Rattle.std.proofs.Common.{append-nil, inl, inr, subst, append_assoc, ◌<◌, length, arith, length-append, ◌⊎◌}
-use Rattle.std.specs.Prelude.{◌&&◌, Option, is_some, option_and_then, ◌↔◌, ⊤}
-use Rattle.std.specs.List.{AllByRecursion, flat_map}
-use Rattle.std.proofs.lemmas.Grind.{flat_map-append}
-use Rattle.std.proofs.lemmas.List.Elements.{All-from_recursion, recursion_from_All}
-use Rattle.docker_model.specs.records.Record.{header, IsRecord, HasKind, Lines, kind_of, Kind, tiploc_insert, tiploc_amend}
-use Rattle.docker_model.specs.records.Record.{tiploc_delete, association, basic_schedule, trailer, terminating_location}
-use Rattle.docker_model.specs.records.Record.{origin_location}
-use Rattle.docker_model.specs.records.Field.{HasGoodFields, leftmost_bad_field}
-use Rattle.docker_model.specs.file.File.{IsUnit, IsFile, BeginsFile, follows_basic, IsSingleKind}
+use Rattle.cif_laws.proofs.Common.{◌≡◌, ℕ, List, ◌∷◌, ◌++◌, true, Some, refl, false, cond, None, ◌∙◌, ap, sym, rules, [], append-nil, inl, inr, subst}
+use Rattle.cif_laws.proofs.Common.{append_assoc, ◌<◌, length, arith, length-append, ◌⊎◌, ◌&&◌, Option, is_some, option_and_then, ◌↔◌, ⊤, AllByRecursion}
+use Rattle.cif_laws.proofs.Common.{flat_map, flat_map-append, All-from_recursion, recursion_from_All, header, IsRecord, HasKind, Lines, kind_of, Kind}
+use Rattle.cif_laws.proofs.Common.{basic_schedule, trailer, terminating_location, origin_location, HasGoodFields, leftmost_bad_field, IsUnit, IsFile}
+use Rattle.cif_laws.proofs.Common.{BeginsFile, follows_basic}
+use Rattle.docker_model.specs.file.File.{IsSingleKind}
 use Rattle.cif_laws.specs.RecordTest.{is_record, has_good_fields}
-use Rattle.cif_laws.specs.ScheduleStage.{Stage, after_basic, may_end, after_details, in_journey, after_journey}
+use Rattle.cif_laws.specs.ScheduleStage.{Stage, after_basic, may_end, in_journey, after_journey}
 use Rattle.cif_laws.specs.ScheduleStage.{next_stage, stage_after, is_sound_next, stage_from, is_first_line, stage_of}
 use Rattle.cif_laws.specs.FileStage.{in_schedule, Place, after_end, between_units, before_header, place_by_kind, is_sound_at, next_place}
 use Rattle.cif_laws.specs.FileStage.{unit_by_kind, place_in, in_stage_or, is_header_kind, place_from, IsPlaceOf, place_at}
 use Rattle.cif_laws.proofs.files.OneFileFault.{begins_front}
 use Rattle.cif_laws.proofs.lists.AllOf.{all_append}
 use Rattle.cif_laws.proofs.records.Columns.{fields_good}
-use Rattle.cif_laws.proofs.lists.BoolsAndOptions.{both, and_true, none_by_test, test_by_none, then_some, some_then}
+use Rattle.cif_laws.proofs.lists.BoolsAndOptions.{both, and_true, none_by_test, test_by_none, then_some, some_then, when_some, cond_true}
+use Rattle.cif_laws.proofs.lists.Decisions.{decided_along, some_decided}
 use Rattle.cif_laws.proofs.files.GoodChanges.{StopsHere, units_stop}
 use Rattle.cif_laws.proofs.records.RecordTests.{record_iff_test}
 use Rattle.cif_laws.proofs.schedules.ScheduleStages.{IsFront, front_of_basic, schedule_of_front, next_front, test_by_next_line}
 use Rattle.cif_laws.proofs.schedules.ScheduleStages.{witness, witness_kind, witness_record, witness_fields, witness_sound}
-use Rattle.cif_laws.proofs.schedules.ScheduleStages.{next_line_by_test, IsNextLine, first_line_iff_test, stage_of_schedule, stage_of_more}
+use Rattle.cif_laws.proofs.schedules.ScheduleStages.{next_line_by_test, first_line_iff_test, stage_of_schedule, stage_of_more}
 
 -- ---- for each `Place`, the structure of the records that lead the reader to it
 
@@ -67,12 +63,10 @@ pub record IsNext (place : Place) (line : List ℕ) (next : Place) : Type 0 wher
 -- if a record leads the reader to a next `Place`, the record is sound, and its kind leads to that
 -- `Place`
 pub next_by_test : (place : Place) (line : List ℕ) (next : Place) → next_place place line ≡ Some next → IsNext place line next
-next_by_test place line next found = by (is_record line && is_sound_at place line) refl found
-  where
-    by : (b : Bool) → (is_record line && is_sound_at place line) ≡ b → cond b (place_by_kind place (kind_of line) line) None ≡ Some next
-        → IsNext place line next
-    by true h told = let parts = both (is_record line) _ h in record { is = (record_iff_test line).1 parts.0; sound = parts.1; place_is = told }
-    by false h told = cc
+next_by_test place line next found =
+    let told = when_some (is_record line && is_sound_at place line) (place_by_kind place (kind_of line) line) next found in
+    let parts = both (is_record line) (is_sound_at place line) told.0 in
+    record { is = (record_iff_test line).1 parts.0; sound = parts.1; place_is = told.1 }
 
 -- if a record is sound, and its kind leads to a next `Place`, the record leads the reader to that
 -- `Place`
@@ -94,23 +88,11 @@ between_more records unit between is = record {
 
 -- if the records are a header and complete units, appending a good record of this kind gives
 -- records with the structure of the next `Place`
-unit_more : (records : Lines) (kind : Kind) (line : List ℕ) (next : Place) → IsBetween records → IsRecord line → HasKind kind line → HasGoodFields line
-    → unit_by_kind (Some kind) line ≡ Some next
+unit_more : (records : Lines) (kind : Option Kind) (line : List ℕ) (next : Place) → IsBetween records → IsRecord line → kind_of line ≡ kind
+    → HasGoodFields line → unit_by_kind kind line ≡ Some next
     → IsAt next (records ++ line ∷ [])
-unit_more records tiploc_insert line next between is kind fields found =
-    let same : between_units ≡ next = cc in subst (λ p. IsAt p (records ++ line ∷ [])) same
-    (between_more records (line ∷ []) between (inl (line, refl, is, inl kind, fields)))
-unit_more records tiploc_amend line next between is kind fields found =
-    let same : between_units ≡ next = cc in subst (λ p. IsAt p (records ++ line ∷ [])) same
-    (between_more records (line ∷ []) between (inl (line, refl, is, inr (inl kind), fields)))
-unit_more records tiploc_delete line next between is kind fields found =
-    let same : between_units ≡ next = cc in subst (λ p. IsAt p (records ++ line ∷ [])) same
-    (between_more records (line ∷ []) between (inl (line, refl, is, inr (inr (inl kind)), fields)))
-unit_more records association line next between is kind fields found =
-    let same : between_units ≡ next = cc in subst (λ p. IsAt p (records ++ line ∷ [])) same
-    (between_more records (line ∷ []) between (inl (line, refl, is, inr (inr (inr kind)), fields)))
-unit_more records basic_schedule line next between is kind fields found = search (rules, front_of_basic)
-unit_more records trailer line next between is kind fields found =
+unit_more records (Some basic_schedule) line next between is kind fields found = search (rules, front_of_basic)
+unit_more records (Some trailer) line next between is kind fields found =
     let same : after_end ≡ next = cc in
     subst (λ p. IsAt p (records ++ line ∷ [])) same (record {
       first = between.first;
@@ -124,17 +106,9 @@ unit_more records trailer line next between is kind fields found =
       trailer_record = is;
       trailer_kind = kind;
     })
-unit_more records _ line next between is kind fields found = cc
-
--- if the records are a header and complete units, appending a good record gives records with the
--- structure of the next `Place`
-unit_more_of : (records : Lines) (line : List ℕ) (next : Place) → IsBetween records → IsRecord line → HasGoodFields line
-    → unit_by_kind (kind_of line) line ≡ Some next → IsAt next (records ++ line ∷ [])
-unit_more_of records line next between is fields found = by (kind_of line) refl found
-  where
-    by : (kind : Option Kind) → kind_of line ≡ kind → unit_by_kind kind line ≡ Some next → IsAt next (records ++ line ∷ [])
-    by None h told = cc
-    by (Some kind) h told = unit_more records kind line next between is h fields told
+unit_more records _ line next between is kind fields found =
+    let same : between_units ≡ next = cc in
+    subst (λ p. IsAt p (records ++ line ∷ [])) same (between_more records (line ∷ []) between (inl (line, refl, is, search rules, fields)))
 
 -- records that end with a complete schedule are a header and complete units
 within_ended : (stage : Stage) (lines records : Lines) → IsWithin stage lines records → may_end stage lines ≡ true → IsBetween records
@@ -142,49 +116,51 @@ within_ended stage lines records within may =
     subst IsBetween (sym within.whole) (between_more within.before lines within.between (inr (schedule_of_front stage lines within.front may)))
 
 at_place_in : (stage : Stage) (lines records : Lines) → IsWithin stage lines records → IsAt (place_in stage lines) records
-at_place_in after_basic lines records within = within
-at_place_in after_details lines records within = within
-at_place_in in_journey lines records within = within
 at_place_in after_journey lines records within = within_ended after_journey lines records within refl
+at_place_in _ lines records within = within
 
 within_more : (stage : Stage) (lines records : Lines) (line : List ℕ) (next : Stage) → IsWithin stage lines records → next_stage stage lines line ≡ Some next
     → IsWithin next (lines ++ line ∷ []) (records ++ line ∷ [])
 within_more stage lines records line next within found = search (rules, append_assoc, next_front, within.before, within.whole, within.between, within.front)
+
+header_told : (kind : Option Kind) (next : Place) → cond (is_header_kind kind) (Some between_units) None ≡ Some next
+    → (kind ≡ Some header) × (between_units ≡ next)
+header_told = search rules
+
+-- a record after some records of a schedule continues the schedule, or the schedule may end and the
+-- record begins a unit
+next_told : (stage : Stage) (lines : Lines) (line : List ℕ) (next : Place) → IsNext (in_schedule stage lines) line next
+    → ((after : Stage) × (next_stage stage lines line ≡ Some after) × (place_in after (lines ++ line ∷ []) ≡ next))
+    ⊎ ((may_end stage lines ≡ true) × (has_good_fields line ≡ true) × (unit_by_kind (kind_of line) line ≡ Some next))
+next_told stage lines line next told = by (stage_after stage (kind_of line)) refl told.sound told.place_is
+  where
+    by : (after : Option Stage) → stage_after stage (kind_of line) ≡ after → cond (is_some after) (is_sound_next lines line) (has_good_fields line) ≡ true
+        → in_stage_or (lines ++ line ∷ []) after (cond (may_end stage lines) (unit_by_kind (kind_of line) line) None) ≡ Some next
+        → ((after : Stage) × (next_stage stage lines line ≡ Some after) × (place_in after (lines ++ line ∷ []) ≡ next))
+        ⊎ ((may_end stage lines ≡ true) × (has_good_fields line ≡ true) × (unit_by_kind (kind_of line) line ≡ Some next))
+    by (Some after) h sound found =
+        inl (after, test_by_next_line stage lines line after (record { is = told.is; sound = sound; stage_is = h }), cc)
+    by None h good found = let parts = when_some (may_end stage lines) _ next found in inr (parts.0, good, parts.1)
 
 -- suppose that records have the structure of a `Place`, and that one more record leads the reader
 -- from this `Place` to a next `Place`. With that record, they have the structure of the next
 -- `Place`
 pub next_at : (place : Place) (records : Lines) (line : List ℕ) (next : Place) → IsAt place records → next_place place line ≡ Some next
     → IsAt next (records ++ line ∷ [])
-next_at before_header records line next at found = by (next_by_test before_header line next found) (kind_of line) refl
-  where
-    by : IsNext before_header line next → (kind : Option Kind) → kind_of line ≡ kind → IsAt next (records ++ line ∷ [])
-    by told (Some header) h = search (rules, none_by_test, told.place_is, told.is, told.sound)
-    by told _ h = let none = (λ i. cond (is_header_kind (sym h i)) (Some between_units) None) ∙ told.place_is in cc
+next_at before_header records line next at found =
+    let told = next_by_test before_header line next found in
+    let kind = header_told (kind_of line) next told.place_is in
+    search (rules, none_by_test, kind.0, kind.1, told.is, told.sound)
 next_at between_units records line next at found =
     let told = next_by_test between_units line next found in
-    unit_more_of records line next at told.is (none_by_test (leftmost_bad_field line) told.sound) told.place_is
+    unit_more records (kind_of line) line next at told.is refl (none_by_test (leftmost_bad_field line) told.sound) told.place_is
 next_at (in_schedule stage lines) records line next at found =
-    by (next_by_test (in_schedule stage lines) line next found) (stage_after stage (kind_of line)) refl
-  where
-    by : IsNext (in_schedule stage lines) line next → (after : Option Stage) → stage_after stage (kind_of line) ≡ after → IsAt next (records ++ line ∷ [])
-    by told (Some after) h =
-        let reached : Some (place_in after (lines ++ line ∷ [])) ≡ Some next =
-        (λ i. in_stage_or (lines ++ line ∷ []) (sym h i) (cond (may_end stage lines) (unit_by_kind (kind_of line) line) None)) ∙ told.place_is in
-        let same : place_in after (lines ++ line ∷ []) ≡ next = cc in
-        let sound : is_sound_next lines line ≡ true = (λ i. cond (is_some (sym h i)) (is_sound_next lines line) (has_good_fields line)) ∙ told.sound in
-        subst (λ p. IsAt p (records ++ line ∷ [])) same (search (rules, at_place_in, within_more, test_by_next_line, told.is))
-    by told None h = (elim (may_end stage lines) as (λ b. may_end stage lines ≡ b → IsAt next (records ++ line ∷ [])) [
-      | true ↦ λ may. unit_more_of records line next (within_ended stage lines records at may) told.is (none_by_test (leftmost_bad_field line) good)
-          ((λ i. cond (sym may i) (unit_by_kind (kind_of line) line) None) ∙ reached)
-      | false ↦ λ may. let none = (λ i. cond (sym may i) (unit_by_kind (kind_of line) line) None) ∙ reached in cc
-    ]) refl
-      where
-        reached : cond (may_end stage lines) (unit_by_kind (kind_of line) line) None ≡ Some next
-        reached = (λ i. in_stage_or (lines ++ line ∷ []) (sym h i) (cond (may_end stage lines) (unit_by_kind (kind_of line) line) None)) ∙ told.place_is
-
-        good : has_good_fields line ≡ true
-        good = (λ i. cond (is_some (sym h i)) (is_sound_next lines line) (has_good_fields line)) ∙ told.sound
+    let told = next_by_test (in_schedule stage lines) line next found in
+    elim (next_told stage lines line next told) [
+      | inl on ↦ subst (λ p. IsAt p (records ++ line ∷ [])) on.2 (at_place_in on.0 _ _ (within_more stage lines records line on.0 at on.1))
+      | inr over ↦ unit_more records (kind_of line) line next (within_ended stage lines records at over.0) told.is refl
+          (none_by_test (leftmost_bad_field line) over.1) over.2
+    ]
 next_at after_end records line next at found = let told = (next_by_test after_end line next found).place_is in cc
 
 at_from : (rest : Lines) (place : Place) (records : Lines) (final : Place) → IsAt place records → place_from place rest ≡ Some final
@@ -201,29 +177,21 @@ at_of_place records place found = at_from records before_header [] place refl fo
 
 -- ---- records that lead the reader to a `Place` begin some file
 
+witness_sound_at : (place : Place) (records : Lines) (kind : Kind) → IsAt place records → is_sound_at place (witness kind) ≡ true
+witness_sound_at (in_schedule stage lines) records kind here =
+    cond_true (is_some (stage_after stage (kind_of (witness kind)))) (is_sound_next lines (witness kind)) _ (witness_sound stage lines kind here.front)
+    (test_by_none _ (witness_fields kind))
+witness_sound_at _ records kind here = test_by_none (leftmost_bad_field (witness kind)) (witness_fields kind)
+
 -- for each kind of record that is allowed at a `Place`, some good record of this kind leads the
 -- reader to a next `Place`
 pub witness_next : (place : Place) (records : Lines) (kind : Kind) (next : Place) → IsAt place records → place_by_kind place (Some kind)
     (witness kind) ≡ Some next → next_place place (witness kind) ≡ Some next
 witness_next place records kind next at found = test_by_next place (witness kind) next (record {
   is = (record_iff_test (witness kind)).1 (witness_record kind);
-  sound = sound place at;
+  sound = witness_sound_at place records kind at;
   place_is = ap (λ k. place_by_kind place k (witness kind)) (witness_kind kind) ∙ found;
 })
-  where
-    good : has_good_fields (witness kind) ≡ true
-    good = test_by_none (leftmost_bad_field (witness kind)) (witness_fields kind)
-
-    either_way : (b s : Bool) → s ≡ true → cond b s (has_good_fields (witness kind)) ≡ true
-    either_way true s h = h
-    either_way false s h = good
-
-    sound : (p : Place) → IsAt p records → is_sound_at p (witness kind) ≡ true
-    sound before_header here = good
-    sound between_units here = good
-    sound (in_schedule stage lines) here =
-        either_way (is_some (stage_after stage (kind_of (witness kind)))) (is_sound_next lines (witness kind)) (witness_sound stage lines kind here.front)
-    sound after_end here = good
 
 leads : (place : Place) (records : Lines) (kind : Kind) (next : Place) → IsAt place records → place_by_kind place (Some kind) (witness kind) ≡ Some next
     → IsAt next (records ++ witness kind ∷ [])
@@ -244,14 +212,11 @@ pub at_begins : (place : Place) (records : Lines) → IsAt place records → Beg
 at_begins before_header records at =
     begins_front records (witness header ∷ []) (between_begins (records ++ witness header ∷ []) (leads before_header records header between_units at refl))
 at_begins between_units records at = between_begins records at
-at_begins (in_schedule after_basic lines) records at =
-    begins_front records (witness origin_location ∷ []) (journey_begins (lines ++ witness origin_location ∷ []) (records ++ witness origin_location ∷ [])
-    (leads (in_schedule after_basic lines) records origin_location (in_schedule in_journey (lines ++ witness origin_location ∷ [])) at refl))
-at_begins (in_schedule after_details lines) records at =
-    begins_front records (witness origin_location ∷ []) (journey_begins (lines ++ witness origin_location ∷ []) (records ++ witness origin_location ∷ [])
-    (leads (in_schedule after_details lines) records origin_location (in_schedule in_journey (lines ++ witness origin_location ∷ [])) at refl))
 at_begins (in_schedule in_journey lines) records at = journey_begins lines records at
 at_begins (in_schedule after_journey lines) records at = between_begins records (within_ended after_journey lines records at refl)
+at_begins (in_schedule stage lines) records at =
+    begins_front records (witness origin_location ∷ []) (journey_begins (lines ++ witness origin_location ∷ []) (records ++ witness origin_location ∷ [])
+    (leads (in_schedule stage lines) records origin_location (in_schedule in_journey (lines ++ witness origin_location ∷ [])) at refl))
 at_begins after_end records at = file_begins records at
 
 -- ---- the records of a whole file lead the reader to the `Place` after the trailer
@@ -274,13 +239,8 @@ next_of_stage stage lines line next found =
 -- like `next_of_stage`, for a reader at the `Place` that `place_in` gives for the stage
 next_in : (stage : Stage) (lines : Lines) (line : List ℕ) (next : Stage) → next_stage stage lines line ≡ Some next
     → next_place (place_in stage lines) line ≡ Some (place_in next (lines ++ line ∷ []))
-next_in stage lines line next found = by stage (next_line_by_test stage lines line next found)
-  where
-    by : (s : Stage) → IsNextLine s lines line next → next_place (place_in s lines) line ≡ Some (place_in next (lines ++ line ∷ []))
-    by after_basic told = next_of_stage after_basic lines line next (test_by_next_line after_basic lines line next told)
-    by after_details told = next_of_stage after_details lines line next (test_by_next_line after_details lines line next told)
-    by in_journey told = next_of_stage in_journey lines line next (test_by_next_line in_journey lines line next told)
-    by after_journey told = let none : None ≡ Some next = told.stage_is in cc
+next_in after_journey lines line next found = let none : None ≡ Some next = (next_line_by_test after_journey lines line next found).stage_is in cc
+next_in stage lines line next found = next_of_stage stage lines line next found
 
 schedule_from : (rest : Lines) (stage : Stage) (done : Lines) (final : Stage) (more : Lines) → stage_from stage done rest ≡ Some final
     → place_from (place_in stage done) (rest ++ more) ≡ place_from (place_in final (done ++ rest)) more
@@ -298,15 +258,11 @@ next_between = search (rules, test_by_next, test_by_none)
 unit_from : (unit : Lines) (stage : Stage) (more : Lines) → stage_of unit ≡ Some stage → place_from between_units (unit ++ more) ≡ place_from
     (place_in stage unit) more
 unit_from [] stage more found = cc
-unit_from (basic ∷ rest) stage more found = by (is_first_line basic) refl found
-  where
-    by : (b : Bool) → is_first_line basic ≡ b → cond b (stage_from after_basic (basic ∷ []) rest) None ≡ Some stage
-        → place_from between_units ((basic ∷ rest) ++ more) ≡ place_from (place_in stage (basic ∷ rest)) more
-    by true h told =
-        let first = (first_line_iff_test basic).1 h in
-        (search (rules, next_between, first.is, first.fields, first.kind))
-        ∙ schedule_from rest after_basic (basic ∷ []) stage more told
-    by false h told = cc
+unit_from (basic ∷ rest) stage more found =
+    let told = when_some (is_first_line basic) (stage_from after_basic (basic ∷ []) rest) stage found in
+    let first = (first_line_iff_test basic).1 told.0 in
+    (search (rules, next_between, first.is, first.fields, first.kind))
+    ∙ schedule_from rest after_basic (basic ∷ []) stage more told.1
 
 -- a record that can't follow a basic schedule leads to no next stage
 pub stage_stops : (stage : Stage) (kind : Option Kind) → follows_basic kind ≡ false → stage_after stage kind ≡ None
@@ -321,16 +277,9 @@ next_behind = search (rules, stage_stops)
 behind : (stage : Stage) (lines rest : Lines) → may_end stage lines ≡ true → StopsHere rest → 0 < length rest
     → place_from (place_in stage lines) rest ≡ place_from between_units rest
 behind stage lines [] may anew some = absurd (omega arith)
-behind stage lines (line ∷ rest) may anew some = by stage may
-  where
-    step : (s : Stage) → may_end s lines ≡ true → place_from (in_schedule s lines) (line ∷ rest) ≡ place_from between_units (line ∷ rest)
-    step s h = ap (option_and_then (λ next. place_from next rest)) (next_behind s lines line h anew)
-
-    by : (s : Stage) → may_end s lines ≡ true → place_from (place_in s lines) (line ∷ rest) ≡ place_from between_units (line ∷ rest)
-    by after_basic h = step after_basic h
-    by after_details h = step after_details h
-    by in_journey h = step in_journey h
-    by after_journey h = refl
+behind after_journey lines (line ∷ rest) may anew some = refl
+behind in_journey lines (line ∷ rest) may anew some = cc
+behind stage lines (line ∷ rest) may anew some = ap (option_and_then (λ next. place_from next rest)) (next_behind stage lines line may anew)
 
 single_place : (line : List ℕ) → IsSingleKind line → unit_by_kind (kind_of line) line ≡ Some between_units
 single_place = search rules
@@ -403,11 +352,7 @@ begins_next_iff records place line found = (
 
 -- it is decidable whether records begin a file
 pub begins_file_or_not : (records : Lines) → BeginsFile records ⊎ ¬ BeginsFile records
-begins_file_or_not records = by (place_at records) refl
-  where
-    by : (found : Option Place) → place_at records ≡ found → BeginsFile records ⊎ ¬ BeginsFile records
-    by None h = inr (λ begins. let at = (begins_iff_place records).0 begins in let bad : None ≡ Some at.0 = sym h ∙ at.1 in cc)
-    by (Some place) h = inl ((begins_iff_place records).1 (place, h))
+begins_file_or_not records = decided_along (begins_iff_place records).1 (begins_iff_place records).0 (some_decided (place_at records))
 
 -- ---- a `Place` inside a schedule has the stage of the schedule's records
 
@@ -427,19 +372,10 @@ tracked_in = search rules
 next_tracked : (place : Place) (line : List ℕ) (next : Place) → IsTracked place → IsNext place line next → IsTracked next
 next_tracked before_header line next tracked told = search rules
 next_tracked between_units line next tracked told = tracked_unit (kind_of line) line next refl told.is told.sound told.place_is
-next_tracked (in_schedule stage lines) line next tracked told = by (stage_after stage (kind_of line)) refl told.sound told.place_is
-  where
-    by : (after : Option Stage) → stage_after stage (kind_of line) ≡ after → cond (is_some after) (is_sound_next lines line) (has_good_fields line) ≡ true
-        → in_stage_or (lines ++ line ∷ []) after (cond (may_end stage lines) (unit_by_kind (kind_of line) line) None) ≡ Some next → IsTracked next
-    by (Some after) h sound found =
-        let same : place_in after (lines ++ line ∷ []) ≡ next = cc in
-        let reached = test_by_next_line stage lines line after (record { is = told.is; sound = sound; stage_is = h }) in
-        subst IsTracked same (tracked_in after (lines ++ line ∷ []) (stage_of_more lines stage line tracked.0 ∙ reached))
-    by None h sound found = ended (may_end stage lines) found
-      where
-        ended : (b : Bool) → cond b (unit_by_kind (kind_of line) line) None ≡ Some next → IsTracked next
-        ended true reached = tracked_unit (kind_of line) line next refl told.is sound reached
-        ended false reached = cc
+next_tracked (in_schedule stage lines) line next tracked told = elim (next_told stage lines line next told) [
+  | inl on ↦ subst IsTracked on.2 (tracked_in on.0 (lines ++ line ∷ []) (stage_of_more lines stage line tracked.0 ∙ on.1))
+  | inr over ↦ tracked_unit (kind_of line) line next refl told.is over.1 over.2
+]
 next_tracked after_end line next tracked told = let none : None ≡ Some next = told.place_is in cc
 
 tracked_from : (rest : Lines) (place final : Place) → IsTracked place → place_from place rest ≡ Some final → IsTracked final

@@ -1,23 +1,15 @@
 -- The changes of a file within the limit have well-formed keys and bodies, and the records of a
 -- schedule's body are a schedule.
-use Rattle.std.proofs.Common.{◌≡◌, ℕ, ◌+◌, ◌-◌, ◌^◌, ◌<◌, ◌⊎◌, inl, inr, List, [], ◌∷◌, ◌++◌, length, take, All, subst, rules}
-use Rattle.std.proofs.Common.{refl, ap, sym, ◌∙◌, Bool, true, false, cond, Some, arith, append_assoc, length-append}
-use Rattle.std.specs.Prelude.{Option, ⊤, ◌||◌, ◌==◌}
-use Rattle.std.specs.List.{AllByRecursion, flat_map, prefix_len}
-use Rattle.std.proofs.Math.Seq.{take-append_seam}
-use Rattle.std.proofs.lemmas.List.Elements.{All-from_recursion, recursion_from_All}
-use Rattle.docker_model.specs.records.Record.{Kind, tiploc_insert, tiploc_amend, association, basic_schedule}
-use Rattle.docker_model.specs.records.Record.{trailer, IsRecord, HasKind, kind_of, columns, column}
-use Rattle.docker_model.specs.records.Date.{is_date}
-use Rattle.docker_model.specs.records.Clock.{is_blank}
-use Rattle.docker_model.specs.records.Field.{HasGoodFields, is_deletion, is_stp_letter, is_stp_indicator, is_tiploc}
-use Rattle.docker_model.specs.records.Field.{is_transaction, checked, checked_fields, as_new, IsTiploc}
-use Rattle.docker_model.specs.file.File.{IsSchedule, IsJourney, IsSoundJourney, IsWithinJourney}
-use Rattle.docker_model.specs.file.File.{IsSingleKind, IsUnit, follows_basic}
-use Rattle.docker_model.specs.file.Change.{Key, Act, Change, association_named, schedule_named}
-use Rattle.docker_model.specs.file.Change.{keeps_code, schedule_rest, acts_by_kind, changes_of_record, changes_from}
-use Rattle.docker_model.specs.state.Op.{op_of}
-use Rattle.docker_model.specs.state.State.{IsGoodKey, IsOpOf}
+use Rattle.cif_laws.proofs.Common.{◌≡◌, ℕ, ◌+◌, ◌-◌, ◌^◌, ◌<◌, inl, inr, List, ◌∷◌, ◌++◌, length, take, All, subst, rules, [], refl, ap, sym, ◌∙◌, Bool, true}
+use Rattle.cif_laws.proofs.Common.{false, cond, Some, arith, append_assoc, length-append, Option, ⊤, ◌||◌, ◌==◌, AllByRecursion, flat_map, prefix_len}
+use Rattle.cif_laws.proofs.Common.{take-append_seam, All-from_recursion, recursion_from_All, Kind, tiploc_insert, tiploc_amend, association, basic_schedule}
+use Rattle.cif_laws.proofs.Common.{trailer, IsRecord, HasKind, kind_of, columns, column, is_date, is_blank, HasGoodFields, is_deletion, is_stp_letter}
+use Rattle.cif_laws.proofs.Common.{is_stp_indicator, is_tiploc, is_transaction, checked, as_new, IsTiploc, IsSchedule, IsJourney, IsWithinJourney, IsUnit}
+use Rattle.cif_laws.proofs.Common.{follows_basic, Key, Act, Change, schedule_named, schedule_rest, acts_by_kind, changes_of_record, changes_from, op_of}
+use Rattle.cif_laws.proofs.Common.{IsGoodKey, IsOpOf}
+use Rattle.docker_model.specs.file.File.{IsSingleKind}
+use Rattle.docker_model.specs.file.Change.{association_named}
+use Rattle.docker_model.specs.file.Change.{keeps_code}
 use Rattle.cif_laws.proofs.lists.AllOf.{all_append, all_weaker, all_map}
 use Rattle.cif_laws.proofs.records.Columns.{IsGoodIn, good_fields, fields_good, text_in, one_column, printable_column}
 use Rattle.cif_laws.proofs.records.Columns.{new_columns, new_column, new_kind, new_record, is_new}
@@ -43,11 +35,11 @@ record AssociationFields (line : List ℕ) : Type 0 where
   pub indicator : is_stp_indicator (columns 80 80 line) ≡ true
 
 association_fields : (line : List ℕ) → HasKind association line → HasGoodFields line → AssociationFields line
-association_fields line kind good = by (is_deletion line) refl (good_fields association line kind good)
-  where
-    by : (b : Bool) → is_deletion line ≡ b → AllByRecursion (IsGoodIn line) (checked_fields association line) → AssociationFields line
-    by true h all = let found = rw h at all in record { start = found.1.0; location = found.1.1.0; indicator = found.1.1.1.0 }
-    by false h all = let found = rw h at all in record { start = found.1.0; location = found.1.1.1.1.0; indicator = found.1.1.1.1.1.0 }
+association_fields line kind good = (elim (is_deletion line) as (λ b. is_deletion line ≡ b → AssociationFields line) [
+  | true ↦ λ h. let found = rw h at (good_fields association line kind good) in record { start = found.1.0; location = found.1.1.0; indicator = found.1.1.1.0 }
+  | false ↦ λ h. let found = rw h at (good_fields association line kind good) in
+      record { start = found.1.0; location = found.1.1.1.1.0; indicator = found.1.1.1.1.1.0 }
+]) refl
 
 association_key_good : (line : List ℕ) → IsRecord line → HasKind association line → HasGoodFields line → IsGoodKey (association_named line)
 association_key_good line is kind good =
@@ -66,11 +58,10 @@ record BasicFields (line : List ℕ) : Type 0 where
   pub indicator : is_stp_indicator (columns 80 80 line) ≡ true
 
 basic_fields : (line : List ℕ) → HasKind basic_schedule line → HasGoodFields line → BasicFields line
-basic_fields line kind good = by (is_deletion line) refl (good_fields basic_schedule line kind good)
-  where
-    by : (b : Bool) → is_deletion line ≡ b → AllByRecursion (IsGoodIn line) (checked_fields basic_schedule line) → BasicFields line
-    by true h all = let found = rw h at all in record { start = found.1.0; indicator = found.1.1.0 }
-    by false h all = let found = rw h at all in record { start = found.1.0; indicator = found.1.1.1.1.0 }
+basic_fields line kind good = (elim (is_deletion line) as (λ b. is_deletion line ≡ b → BasicFields line) [
+  | true ↦ λ h. let found = rw h at (good_fields basic_schedule line kind good) in record { start = found.1.0; indicator = found.1.1.0 }
+  | false ↦ λ h. let found = rw h at (good_fields basic_schedule line kind good) in record { start = found.1.0; indicator = found.1.1.1.1.0 }
+]) refl
 
 schedule_key_good : (line : List ℕ) → IsRecord line → HasKind basic_schedule line → HasGoodFields line → IsGoodKey (schedule_named line)
 schedule_key_good line is kind good =
@@ -103,19 +94,16 @@ transaction_good line is = ap (λ b. (b == 78) || (b == 68) || (b == 82)) (one_c
 -- setting the transaction to N preserves the good fields of an association that isn't a deletion
 pub new_association_fields : (line : List ℕ) → IsRecord line → HasKind association line → HasGoodFields line → is_deletion line ≡ false
     → HasGoodFields (as_new line)
-new_association_fields line is kind good kept = fields_good association (as_new line) (new_kind line ∙ kind) (by (good_fields association line kind good))
-  where
-    by : AllByRecursion (IsGoodIn line) (checked_fields association line) → AllByRecursion (IsGoodIn (as_new line)) (checked_fields association (as_new line))
-    by all = search (rules, no_deletion, transaction_good, still_good)
+new_association_fields line is kind good kept =
+    let all = good_fields association line kind good in
+    fields_good association (as_new line) (new_kind line ∙ kind) (search (rules, no_deletion, transaction_good, still_good))
 
 -- setting the transaction to N preserves the good fields of a basic schedule that isn't a deletion
 pub new_basic_fields : (line : List ℕ) → IsRecord line → HasKind basic_schedule line → HasGoodFields line → is_deletion line ≡ false
     → HasGoodFields (as_new line)
-new_basic_fields line is kind good kept = fields_good basic_schedule (as_new line) (new_kind line ∙ kind) (by (good_fields basic_schedule line kind good))
-  where
-    by : AllByRecursion (IsGoodIn line) (checked_fields basic_schedule line) → AllByRecursion (IsGoodIn (as_new line))
-        (checked_fields basic_schedule (as_new line))
-    by all = search (rules, no_deletion, transaction_good, still_good)
+new_basic_fields line is kind good kept =
+    let all = good_fields basic_schedule line kind good in
+    fields_good basic_schedule (as_new line) (new_kind line ∙ kind) (search (rules, no_deletion, transaction_good, still_good))
 
 -- ---- the changes of a single record are well formed
 
@@ -125,32 +113,32 @@ kept_or = search rules
 single_acts : (line : List ℕ) (following : List (List ℕ)) → IsRecord line → IsSingleKind line → HasGoodFields line
     → AllByRecursion IsGoodAct (acts_by_kind (kind_of line) line following)
 single_acts line following is (inl kind) good =
-    let fields = good_fields tiploc_insert line kind good in
-    subst (λ k. AllByRecursion IsGoodAct (acts_by_kind k line following)) (sym kind)
-    ((tiploc_at line is fields.0, text_in line 10 72 is (omega arith) (omega arith)), tt)
+    rw kind ((tiploc_at line is (good_fields tiploc_insert line kind good).0, text_in line 10 72 is (omega arith) (omega arith)), tt)
 single_acts line following is (inr (inl kind)) good =
-    subst (λ k. AllByRecursion IsGoodAct (acts_by_kind k line following)) (sym kind) (by (keeps_code line) refl (good_fields tiploc_amend line kind good))
-  where
-    by : (b : Bool) → keeps_code line ≡ b → AllByRecursion (IsGoodIn line) (checked_fields tiploc_amend line)
-        → AllByRecursion IsGoodAct (acts_by_kind (Some tiploc_amend) line following)
-    by true h fields = rw h ((tiploc_at line is fields.0, text_in line 10 72 is (omega arith) (omega arith)), tt)
-    by false h fields = rw h (
-      (tiploc_at line is fields.0, tt),
-      (
+    let fields = good_fields tiploc_amend line kind good in
+    rw kind ((elim (keeps_code line) as (λ b. keeps_code line ≡ b → AllByRecursion IsGoodAct (acts_by_kind (Some tiploc_amend) line following)) [
+      | true ↦ λ h. rw h ((tiploc_at line is fields.0, text_in line 10 72 is (omega arith) (omega arith)), tt)
+      | false ↦ λ h. rw h (
+        (tiploc_at line is fields.0, tt),
         (
-          (text_in line 73 79 is (omega arith) (omega arith), new_tiploc_starts (columns 73 79 line) fields.1.0 (kept_or (is_blank (columns 73 79 line)) _ h)),
-          text_in line 10 72 is (omega arith) (omega arith),
+          (
+            (
+              text_in line 73 79 is (omega arith) (omega arith),
+              new_tiploc_starts (columns 73 79 line) fields.1.0
+                  (kept_or (is_blank (columns 73 79 line)) _ h),
+            ),
+            text_in line 10 72 is (omega arith) (omega arith),
+          ),
+          tt,
         ),
-        tt,
-      ),
-    )
+      )
+    ]) refl)
 single_acts line following is (inr (inr (inl kind))) good = search (rules, good_fields, tiploc_at)
 single_acts line following is (inr (inr (inr kind))) good =
-    subst (λ k. AllByRecursion IsGoodAct (acts_by_kind k line following)) (sym kind) (by (is_deletion line) refl)
-  where
-    by : (b : Bool) → is_deletion line ≡ b → AllByRecursion IsGoodAct (acts_by_kind (Some association) line following)
-    by true h = rw h ((association_key_good line is kind good, tt), tt)
-    by false h = search (rules, association_key_good, new_record, new_kind, new_association_fields, is_new, same_association)
+    rw kind ((elim (is_deletion line) as (λ b. is_deletion line ≡ b → AllByRecursion IsGoodAct (acts_by_kind (Some association) line following)) [
+      | true ↦ λ h. rw h ((association_key_good line is kind good, tt), tt)
+      | false ↦ λ h. search (rules, association_key_good, new_record, new_kind, new_association_fields, is_new, same_association)
+    ]) refl)
 
 -- ---- the changes of a schedule are well formed
 
@@ -169,13 +157,8 @@ new_is_schedule lines schedule kept =
       fields = new_basic_fields schedule.basic records.0 schedule.kind schedule.fields kept;
       details = schedule.details;
       journey_or_none = search (rules, new_column);
-      sound = sound schedule.sound;
+      sound = elim schedule.sound [ inl deletion ↦ let bad : false ≡ true = sym kept ∙ deletion in cc | inr good ↦ inr good ];
     }
-  where
-    sound : (is_deletion schedule.basic ≡ true) ⊎ IsSoundJourney schedule.journey → (is_deletion (as_new schedule.basic) ≡ true)
-        ⊎ IsSoundJourney schedule.journey
-    sound (inl deletion) = let bad : false ≡ true = sym kept ∙ deletion in cc
-    sound (inr good) = inr good
 
 -- the schedule that precedes these records is complete: there are no records, or the first of them
 -- can't follow a basic schedule

@@ -1,24 +1,10 @@
 -- A text has at most one fault, and the text of a file has none.
-use Rattle.std.proofs.Common.{ℕ, List, [], ◌∷◌, ◌≡◌, ◌++◌, ◌⊎◌, inl, inr, refl, ap, sym, subst, rules}
-use Rattle.std.proofs.Common.{append_assoc, ◌≤◌, length, arith, length-append, ◌∙◌, append-nil}
-use Rattle.std.specs.Prelude.{◌==◌, if◌then◌else◌, unwrap_or}
-use Rattle.std.proofs.lemmas.Bool.{cases_order}
-use Rattle.docker_model.specs.records.Record.{Lines, leftmost_bad_byte}
-use Rattle.docker_model.specs.records.Field.{leftmost_bad_field}
-use Rattle.docker_model.specs.file.File.{IsFile, BeginsFile}
-use Rattle.docker_model.specs.file.Text.{lines_of}
-use Rattle.docker_model.specs.file.FileFault.{FileFault, IsRecordFault, FileCause, bad_byte, bad_field, too_many, after_trailer, bad_length, bad_kind}
-use Rattle.docker_model.specs.file.FileFault.{bad_place, third_midnight, no_end, cause_rank, IsCause, IsUnended, IsFileFault, IsFileText}
-
--- the first line of the list, or `line` if the list is empty. Proofs use this value to compare the
--- indexes of two records in a list
-head_or : List ℕ → Lines → List ℕ
-head_or line [] = line
-head_or line (first ∷ rest) = first
-
-tail_of : Lines → Lines
-tail_of [] = []
-tail_of (first ∷ rest) = rest
+use Rattle.cif_laws.proofs.Common.{ℕ, List, ◌∷◌, ◌≡◌, ◌++◌, ◌⊎◌, inl, inr, refl, sym, subst, rules, [], append_assoc, ◌≤◌, length, arith, length-append, ◌∙◌}
+use Rattle.cif_laws.proofs.Common.{append-nil, ◌==◌, cases_order, Lines, leftmost_bad_byte, leftmost_bad_field, IsFile, BeginsFile, lines_of, FileFault}
+use Rattle.cif_laws.proofs.Common.{IsRecordFault, FileCause, bad_byte, bad_field, too_many, after_trailer, bad_length, bad_kind, bad_place, third_midnight}
+use Rattle.cif_laws.proofs.Common.{no_end, cause_rank, IsCause, IsFileFault, IsFileText}
+use Rattle.std.specs.Prelude.{if◌then◌else◌, unwrap_or}
+use Rattle.docker_model.specs.file.FileFault.{IsUnended}
 
 abbrev Earlier : Lines → List ℕ → Lines → Type 0
 Earlier first line second = (between : Lines) × (second ≡ first ++ line ∷ between)
@@ -27,12 +13,18 @@ abbrev Placed : Lines → List ℕ → Lines → List ℕ → Type 0
 Placed first line second other = ((first ≡ second) × (line ≡ other)) ⊎ (Earlier first line second ⊎ Earlier second other first)
 
 same_place : (first second : Lines) (line other : List ℕ) (rest more : Lines) → first ++ line ∷ rest ≡ second ++ other ∷ more → Placed first line second other
-unfolding head_or tail_of
-same_place [] [] line other rest more e = inl (refl, ap (head_or line) e)
-same_place [] (second ∷ seconds) line other rest more e = inr (inl (seconds, λ i. sym (ap (head_or line) e) i ∷ seconds))
-same_place (first ∷ firsts) [] line other rest more e = inr (inr (firsts, λ i. ap (head_or line) e i ∷ firsts))
+same_place [] [] line other rest more e = let whole : line ∷ rest ≡ other ∷ more = e in inl (refl, cc)
+same_place [] (second ∷ seconds) line other rest more e =
+    let whole : line ∷ rest ≡ second ∷ (seconds ++ other ∷ more) = e in
+    let heads : line ≡ second = cc in inr (inl (seconds, λ i. sym heads i ∷ seconds))
+same_place (first ∷ firsts) [] line other rest more e =
+    let whole : first ∷ (firsts ++ line ∷ rest) ≡ other ∷ more = e in
+    let heads : first ≡ other = cc in inr (inr (firsts, λ i. heads i ∷ firsts))
 same_place (first ∷ firsts) (second ∷ seconds) line other rest more e =
-    grind (arith, head_or, tail_of, (same_place firsts seconds line other rest more (ap tail_of e)))
+    let whole : first ∷ (firsts ++ line ∷ rest) ≡ second ∷ (seconds ++ other ∷ more) = e in
+    let heads : first ≡ second = cc in
+    let tails : firsts ++ line ∷ rest ≡ seconds ++ other ∷ more = cc in
+    grind (arith, (same_place firsts seconds line other rest more tails))
 
 -- if records begin a file, each prefix of these records begins a file
 pub begins_front : (front rest : Lines) → BeginsFile (front ++ rest) → BeginsFile front

@@ -1,17 +1,13 @@
 -- If the first bytes of a text determine no fault, their number is bounded. Each complete line has
 -- at most 82 bytes with its line feed, and the incomplete line has at most 81.
-use Rattle.std.proofs.Common.{◌≡◌, ℕ, List, length, [], ◌∷◌, Some, ◌+◌, ◌<◌, arith, refl, Bool, ◌*◌, ◌≤◌, map, ◌⊎◌, inl, inr}
-use Rattle.std.proofs.Common.{rules}
-use Rattle.std.specs.Prelude.{◌==◌}
-use Rattle.std.specs.List.{AllByRecursion, onto_first, slice_split}
-use Rattle.std.specs.Str.Lines.{strip_carriage_return}
-use Rattle.std.proofs.lemmas.List.{length-map}
-use Rattle.std.proofs.lemmas.List.Splits.{slice_split-cons_yes, slice_split-cons_no, length-slice_split}
-use Rattle.docker_model.specs.records.Record.{Lines}
-use Rattle.docker_model.specs.file.FileFault.{FileFault}
-use Rattle.docker_model.specs.file.FaultSoFar.{last_of, IsFaultSoFar}
+use Rattle.cif_laws.proofs.Common.{◌≡◌, ℕ, List, length, ◌∷◌, Some, ◌+◌, ◌<◌, arith, refl, Bool, ◌*◌, ◌≤◌, map, inl, inr, [], rules, ◌==◌, AllByRecursion}
+use Rattle.cif_laws.proofs.Common.{slice_split, strip_carriage_return, length-map, slice_split-cons_yes, length-slice_split, Lines, FileFault, IsFaultSoFar}
+use Rattle.cif_laws.proofs.Common.{complete_lines}
+use Rattle.std.specs.List.{onto_first}
+use Rattle.std.proofs.lemmas.List.Splits.{slice_split-cons_no}
+use Rattle.docker_model.specs.file.FaultSoFar.{last_of}
 use Rattle.cif_laws.specs.FileStage.{Place, next_place, place_from, before_header}
-use Rattle.docker_model.specs.file.Text.{but_last, pieces_of, complete_lines}
+use Rattle.docker_model.specs.file.Text.{but_last, pieces_of}
 use Rattle.cif_laws.proofs.lists.BoolsAndOptions.{then_some}
 use Rattle.cif_laws.proofs.files.FileStages.{next_by_test, begins_iff_place}
 use Rattle.cif_laws.proofs.files.ReportedFaults.{strip_long, TellsNoFault, fault_so_far_or_none}
@@ -75,8 +71,7 @@ bound_of_none limit text none =
 
 -- if the first bytes of a text determine no fault, their number is at most `82 * limit + 81`
 pub text_without_fault_is_bounded : (limit : ℕ) (text : List ℕ) → ((fault : FileFault) → ¬ IsFaultSoFar limit text fault) → length text ≤ 82 * limit + 81
-text_without_fault_is_bounded limit text never = by (fault_so_far_or_none limit text)
-  where
-    by : ((fault : FileFault) × IsFaultSoFar limit text fault) ⊎ TellsNoFault limit text → length text ≤ 82 * limit + 81
-    by (inl fault) = absurd (never fault.0 fault.1)
-    by (inr none) = bound_of_none limit text none
+text_without_fault_is_bounded limit text never = elim (fault_so_far_or_none limit text) [
+  | inl fault ↦ absurd (never fault.0 fault.1)
+  | inr none ↦ bound_of_none limit text none
+]

@@ -1,25 +1,18 @@
 -- A fault that the first bytes of a text determine is the fault of the whole text. If the first
 -- bytes determine no fault, their complete lines begin some file.
-use Rattle.std.proofs.Common.{ℕ, ◌+◌, ◌≤◌, List, take, length, Bool, true, false, cond, arith, ◌≡◌, refl, None, rules}
-use Rattle.std.proofs.lemmas.Grind.{common_steps}
-use Rattle.std.proofs.Common.{[], ◌∷◌, ◌++◌, ◌<◌, sym, ◌∙◌, append_assoc, ◌⊎◌, inl, inr, map, subst, length-append, ap}
-use Rattle.std.specs.Prelude.{◌==◌, ◌≢◌, nat_le}
-use Rattle.std.specs.List.{slice_split}
-use Rattle.std.specs.Str.Lines.{strip_carriage_return}
-use Rattle.std.proofs.lemmas.Bool.{cases_lt, leb-true, lt-leb, le-leb, ne_eqb}
-use Rattle.std.proofs.lemmas.List.{length-take-le, take_at}
-use Rattle.docker_model.specs.records.Record.{Lines}
-use Rattle.docker_model.specs.file.File.{BeginsFile}
-use Rattle.docker_model.specs.file.Text.{without_empty_last, lines_of, complete_lines}
-use Rattle.docker_model.specs.file.FileFault.{FileCause, too_many, after_trailer, bad_length, bad_byte, bad_kind, bad_place, bad_field}
-use Rattle.docker_model.specs.file.FileFault.{third_midnight, no_end, cause_rank, HoldsOf, IsCause, FileFault, IsRecordFault, IsFileFault}
-use Rattle.docker_model.specs.file.FaultSoFar.{IsFaultSoFar, sure_lines, last_of}
+use Rattle.cif_laws.proofs.Common.{ℕ, ◌+◌, ◌≤◌, List, take, length, cond, arith, ◌≡◌, refl, None, rules, [], common_steps, ◌∷◌, ◌++◌, ◌<◌, sym, ◌∙◌}
+use Rattle.cif_laws.proofs.Common.{append_assoc, ◌⊎◌, inl, inr, map, subst, length-append, ap, ◌≢◌, strip_carriage_return, cases_lt, lt-leb, le-leb}
+use Rattle.cif_laws.proofs.Common.{length-take-le, Lines, BeginsFile, without_empty_last, lines_of, complete_lines, FileCause, bad_length, cause_rank, HoldsOf}
+use Rattle.cif_laws.proofs.Common.{IsCause, FileFault, IsRecordFault, IsFileFault, IsFaultSoFar, sure_lines}
+use Rattle.std.proofs.lemmas.Bool.{ne_eqb}
+use Rattle.std.proofs.lemmas.List.{take_at}
 use Rattle.cif_laws.specs.FileStage.{Place, next_place, IsPlaceOf}
+use Rattle.cif_laws.specs.LawTerms.{BeginsWithin}
 use Rattle.cif_laws.specs.RecordCause.{cause_of, cause_of_long}
 use Rattle.cif_laws.specs.CompleteLines.{open_line, line_left, HasNoFeed}
 use Rattle.cif_laws.proofs.files.OneFileFault.{begins_front, one_fault}
 use Rattle.cif_laws.proofs.files.FileStages.{next_by_test, begins_iff_place, begins_next_iff}
-use Rattle.cif_laws.proofs.files.FileCauses.{Pass, HasRecordFault, pass_or_fault, record_fault}
+use Rattle.cif_laws.proofs.files.FileCauses.{pass_or_fault, record_fault}
 use Rattle.cif_laws.proofs.files.CompleteLines.{GoesOn, goes_on, lines_of_told, lines_of_open, sure_lines_is, sure_lines_grow, complete_lines_cut}
 
 -- ---- a piece of more than 81 bytes isn't a record, even without its carriage return
@@ -67,36 +60,23 @@ behind_front = grind (common_steps, arith)
 
 -- ---- a fault that the first bytes of a text determine stays when more bytes are appended
 
+-- of two lines that don't have 80 bytes, after the same earlier records, a cause with a rank of at
+-- most 2 applies to both or to neither
+low_stays : (limit : ℕ) (earlier : Lines) (line other : List ℕ) (cause : FileCause) → cause_rank cause ≤ 2 → length other ≢ 80
+    → HoldsOf limit earlier line cause → HoldsOf limit earlier other cause
+low_stays = search rules
+
 -- after the same earlier records, the faults at two lines that don't have 80 bytes have the same
 -- cause
 cause_stays : (limit : ℕ) (earlier : Lines) (line other : List ℕ) (cause : FileCause) → length line ≢ 80 → length other ≢ 80 → IsCause limit earlier line cause
     → IsCause limit earlier other cause
-cause_stays limit earlier line other cause one two is = by cause is
-  where
-    above : (c : FileCause) → IsCause limit earlier line c → 2 < cause_rank c → ⊥
-    above c told high = told.first bad_length high one
-
-    below : (c : FileCause) → IsCause limit earlier line c → cause_rank c ≤ 2 → (o : FileCause) → cause_rank o < cause_rank c → ¬ HoldsOf limit earlier other o
-    below c told low too_many less holds = told.first too_many less holds
-    below c told low after_trailer less holds = told.first after_trailer less holds
-    below c told low bad_length less holds = absurd (omega arith)
-    below c told low (bad_byte at) less holds = absurd (omega arith)
-    below c told low bad_kind less holds = absurd (omega arith)
-    below c told low bad_place less holds = absurd (omega arith)
-    below c told low (bad_field at) less holds = absurd (omega arith)
-    below c told low third_midnight less holds = absurd (omega arith)
-    below c told low no_end less holds = holds
-
-    by : (c : FileCause) → IsCause limit earlier line c → IsCause limit earlier other c
-    by too_many told = record { holds = told.holds; first = below too_many told (omega arith) }
-    by after_trailer told = record { holds = told.holds; first = below after_trailer told (omega arith) }
-    by bad_length told = record { holds = two; first = below bad_length told (omega arith) }
-    by (bad_byte at) told = absurd (above (bad_byte at) told (omega arith))
-    by bad_kind told = absurd (above bad_kind told (omega arith))
-    by bad_place told = absurd (above bad_place told (omega arith))
-    by (bad_field at) told = absurd (above (bad_field at) told (omega arith))
-    by third_midnight told = absurd (above third_midnight told (omega arith))
-    by no_end told = absurd told.holds
+cause_stays limit earlier line other cause one two is = elim (cases_lt 2 (cause_rank cause)) [
+  | inl high ↦ absurd (is.first bad_length high one)
+  | inr low ↦ record {
+    holds = low_stays limit earlier line other cause low two is.holds;
+    first = λ o less holds. is.first o less (low_stays limit earlier other line o (omega arith) one holds);
+  }
+]
 
 -- if one of the records of a prefix is at fault, the prefix and the whole list have the same fault
 fault_in_front : (limit : ℕ) (front records more : Lines) (fault : FileFault) → records ≡ front ++ more → IsRecordFault limit front fault
@@ -108,6 +88,15 @@ first_left : (piece : List ℕ) (pieces : Lines) → 0 < length piece → (other
 first_left [] [] some = absurd (omega arith)
 first_left (b ∷ bytes) [] some = ([], refl)
 first_left piece (next ∷ pieces) some = (without_empty_last (next ∷ pieces), refl)
+
+-- if the incomplete line has at most 81 bytes, `sure_lines` is the number of complete lines
+pub sure_lines_short : (text : List ℕ) → length (open_line text) ≤ 81 → sure_lines text ≡ length (complete_lines text)
+sure_lines_short = search (rules, sure_lines_is, lt-leb)
+
+-- if the incomplete line has more than 81 bytes, `sure_lines` is the number of complete lines plus
+-- one
+pub sure_lines_long : (text : List ℕ) → 82 ≤ length (open_line text) → sure_lines text ≡ length (complete_lines text) + 1
+sure_lines_long text long = sure_lines_is text ∙ ap (λ b. length (complete_lines text) + cond b 1 0) (le-leb 82 (length (open_line text)) long)
 
 -- a fault that the first bytes of a text determine is still determined after more bytes are
 -- appended
@@ -121,15 +110,14 @@ fault_stays limit text more fault told =
     on : GoesOn text more
     on = goes_on text more
 
-    open_told : length (complete_lines text) ≤ length told.is.earlier → (b : Bool) → nat_le 82 (length (open_line text)) ≡ b
-        → length told.is.earlier + 1 ≤ length
-        (complete_lines text) + cond b 1 0
-        → (length told.is.earlier ≡ length (complete_lines text)) × (82 ≤ length (open_line text))
-    open_told high true h most = (omega arith, leb-true 82 (length (open_line text)) h)
-    open_told high false h most = absurd (omega arith)
-
-    most : length told.is.earlier + 1 ≤ length (complete_lines text) + cond (nat_le 82 (length (open_line text))) 1 0
-    most = search (rules, sure_lines_is, told.is.number, fault.number, told.told)
+    long_by : length (complete_lines text) ≤ length told.is.earlier → 82 ≤ length (open_line text)
+    long_by high = elim (cases_lt (length (open_line text)) 82) [
+      | inl short ↦
+          let same = sure_lines_short text (omega arith) in
+          let number = told.is.number in
+          let within = told.told in absurd (omega arith)
+      | inr long ↦ long
+    ]
 
     by : (length told.is.earlier < length (complete_lines text)) ⊎ (length (complete_lines text) ≤ length told.is.earlier)
         → IsRecordFault limit (lines_of (text ++ more)) fault
@@ -138,12 +126,14 @@ fault_stays limit text more fault told =
         ∙ told.is.whole) below in
         search (rules, fault_in_front, on.first, on.pieces, on.lines, told.is.earlier, told.is.line, within.0)
     by (inr high) =
-        let opened = open_told high (nat_le 82 (length (open_line text))) refl most in
-        let long = opened.1 in
+        let long = long_by high in
         let size = length-append (open_line text) on.first in
         let left = first_left (open_line text ++ on.first) on.pieces (omega arith) in
+        let same = sure_lines_long text long in
+        let number = told.is.number in
+        let most = told.told in
         let place = behind_front (complete_lines text) (strip_carriage_return (open_line text)) told.is.earlier told.is.line told.is.later
-        (sym (lines_of_open text (omega arith)) ∙ told.is.whole) opened.0 in
+        (sym (lines_of_open text (omega arith)) ∙ told.is.whole) (omega arith) in
         let longer : length (strip_carriage_return (open_line text ++ on.first)) ≢ 80 = not_80 (open_line text ++ on.first) (omega arith) in
         let short : length told.is.line ≢ 80 = subst (λ line. length line ≢ 80) (sym place.1) (not_80 (open_line text) long) in
         record {
@@ -168,15 +158,6 @@ one_fault_so_far limit text first second one two = one_fault limit text first se
 
 -- ---- the first bytes of a text determine a fault, or their complete lines begin a file
 
--- if the incomplete line has at most 81 bytes, `sure_lines` is the number of complete lines
-pub sure_lines_short : (text : List ℕ) → length (open_line text) ≤ 81 → sure_lines text ≡ length (complete_lines text)
-sure_lines_short = search (rules, sure_lines_is, lt-leb)
-
--- if the incomplete line has more than 81 bytes, `sure_lines` is the number of complete lines plus
--- one
-pub sure_lines_long : (text : List ℕ) → 82 ≤ length (open_line text) → sure_lines text ≡ length (complete_lines text) + 1
-sure_lines_long text long = sure_lines_is text ∙ ap (λ b. length (complete_lines text) + cond b 1 0) (le-leb 82 (length (open_line text)) long)
-
 -- if the incomplete line has at most 81 bytes, the first `sure_lines` lines of the text are its
 -- complete lines
 pub take_told : (text : List ℕ) → length (open_line text) ≤ 81 → take (sure_lines text) (lines_of text) ≡ complete_lines text
@@ -195,54 +176,43 @@ number_within limit records fault is = let size = ap length is.whole ∙ length-
 -- either the first bytes of a text determine a fault, or their complete lines begin some file
 -- within the limit and their incomplete line has at most 81 bytes
 pub fault_so_far_or_none : (limit : ℕ) (text : List ℕ) → ((fault : FileFault) × IsFaultSoFar limit text fault) ⊎ TellsNoFault limit text
-fault_so_far_or_none limit text = by (cases_lt (length (open_line text)) 82)
-  where
-    told : Pass limit (complete_lines text) ⊎ HasRecordFault limit (complete_lines text) → length (open_line text) ≤ 81
-        → ((fault : FileFault) × IsFaultSoFar limit text fault) ⊎ TellsNoFault limit text
-    told (inl pass) short = inr (record { begin = (begins_iff_place (complete_lines text)).1 (pass.0, pass.1); within = pass.2; short = short })
-    told (inr fault) short =
-        let same = sure_lines_short text short in
-        let number = number_within limit (complete_lines text) fault.0 fault.1 in
-        inl (
-          fault.0,
-          search (rules, fault_in_front, lines_of_told, fault.0, fault.1),
-        )
-
-    opened : Pass limit (lines_of text) ⊎ HasRecordFault limit (lines_of text) → 82 ≤ length (open_line text)
-        → ((fault : FileFault) × IsFaultSoFar limit text fault) ⊎ TellsNoFault limit text
-    opened (inl pass) long =
+fault_so_far_or_none limit text = elim (cases_lt (length (open_line text)) 82) [
+  | inl low ↦
+      let short : length (open_line text) ≤ 81 = omega arith in
+      elim (pass_or_fault limit (complete_lines text)) [
+        | inl pass ↦ inr (record { begin = (begins_iff_place (complete_lines text)).1 (pass.0, pass.1); within = pass.2; short = short })
+        | inr fault ↦
+            let same = sure_lines_short text short in
+            let number = number_within limit (complete_lines text) fault.0 fault.1 in
+            inl (fault.0, search (rules, fault_in_front, lines_of_told, fault.0, fault.1))
+      ]
+  | inr long ↦ elim (pass_or_fault limit (lines_of text)) [
+    | inl pass ↦
         absurd (no_begin (complete_lines text) (strip_carriage_return (open_line text)) (not_80 (open_line text) long)
         (subst BeginsFile (lines_of_open text (omega arith)) ((begins_iff_place (lines_of text)).1 (pass.0, pass.1))))
-    opened (inr fault) long =
+    | inr fault ↦
         let same = sure_lines_long text long in
         let size = ap length (lines_of_open text (omega arith)) ∙ length-append (complete_lines text) (strip_carriage_return (open_line text) ∷ []) in
         let number = number_within limit (lines_of text) fault.0 fault.1 in
         inl (fault.0, record { is = fault.1; told = omega arith })
+  ]
+]
 
-    by : (length (open_line text) < 82) ⊎ (82 ≤ length (open_line text)) → ((fault : FileFault) × IsFaultSoFar limit text fault) ⊎ TellsNoFault limit text
-    by (inl short) = told (pass_or_fault limit (complete_lines text)) (omega arith)
-    by (inr long) = opened (pass_or_fault limit (lines_of text)) long
-
--- the same statement as `TellsNoFault`, in terms of the definitions that the laws use
-abbrev pub PassesSoFar : ℕ → List ℕ → Type 0
-PassesSoFar limit text =
-    BeginsFile (take (sure_lines text) (lines_of text)) × (sure_lines text ≤ limit) × (length (last_of (slice_split (λ b. b == 10) text)) ≤ 81)
-
--- `TellsNoFault` implies `PassesSoFar`, the same statement in terms of the definitions that the
+-- `TellsNoFault` implies `BeginsWithin`, the same statement in terms of the definitions that the
 -- laws use
-pub passes_so_far : (limit : ℕ) (text : List ℕ) → TellsNoFault limit text → PassesSoFar limit text
+pub passes_so_far : (limit : ℕ) (text : List ℕ) → TellsNoFault limit text → BeginsWithin limit text
 passes_so_far limit text none =
     let same = sure_lines_short text none.short in
     let within = none.within in
     (subst BeginsFile (sym (take_told text none.short)) none.begin, omega arith, none.short)
 
--- like `fault_so_far_or_none`, with `PassesSoFar` in place of `TellsNoFault`
-pub fault_so_far_or_passes : (limit : ℕ) (text : List ℕ) → ((fault : FileFault) × IsFaultSoFar limit text fault) ⊎ PassesSoFar limit text
+-- like `fault_so_far_or_none`, with `BeginsWithin` in place of `TellsNoFault`
+pub fault_so_far_or_passes : (limit : ℕ) (text : List ℕ) → ((fault : FileFault) × IsFaultSoFar limit text fault) ⊎ BeginsWithin limit text
 fault_so_far_or_passes limit text = elim (fault_so_far_or_none limit text) [ inl fault ↦ inl fault | inr none ↦ inr (passes_so_far limit text none) ]
 
 -- suppose that the complete lines in the first bytes of a text begin some file within the limit. If
 -- the incomplete line has at most 81 bytes, the first bytes of the text determine no fault
-pub passes_no_fault : (limit : ℕ) (text : List ℕ) (fault : FileFault) → PassesSoFar limit text → ¬ IsFaultSoFar limit text fault
+pub passes_no_fault : (limit : ℕ) (text : List ℕ) (fault : FileFault) → BeginsWithin limit text → ¬ IsFaultSoFar limit text fault
 passes_no_fault limit text fault passes told = elim told.is.here [
   | inl over ↦ let most = passes.1 in let under = below in let told_is = same in absurd (omega arith)
   | inr none ↦

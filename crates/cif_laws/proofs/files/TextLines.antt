@@ -1,18 +1,11 @@
 -- Records are the lines of a text if and only if the text consists of these records, each with its
 -- line end.
-use Rattle.std.proofs.Common.{◌≡◌, ℕ, suc, ◌-◌, ◌<◌, ◌≤◌, ◌⊎◌, List, [], ◌∷◌, ◌++◌, length, map, take, refl, ap, sym, ◌∙◌, subst, rules}
-use Rattle.std.proofs.lemmas.Grind.{common_steps}
-use Rattle.std.proofs.Common.{inl, inr, true, false, arith, All, eqb-true, append_assoc, append-nil, length-append}
-use Rattle.std.specs.Prelude.{◌↔◌, ◌==◌, slice_index, ◌≢◌}
-use Rattle.std.specs.List.{slice_split, join_with_byte, AllByRecursion, AllPass}
-use Rattle.std.specs.Str.Lines.{strip_carriage_return}
-use Rattle.std.proofs.lemmas.List.Splits.{join_with_byte-slice_split, slice_split_at, slice_split_none, length-slice_split}
-use Rattle.std.proofs.lemmas.Bool.{leb-true}
-use Rattle.std.proofs.lemmas.Bool.Decides.{eqb_tells}
-use Rattle.std.proofs.lemmas.List.Elements.{recursion_from_All}
-use Rattle.std.proofs.Math.Seq.{take-append_seam, get_or-append_seam}
-use Rattle.docker_model.specs.records.Record.{is_printable, IsRecord}
-use Rattle.docker_model.specs.file.Text.{without_empty_last, lines_of}
+use Rattle.cif_laws.proofs.Common.{◌≡◌, ℕ, ◌-◌, ◌<◌, ◌≤◌, ◌⊎◌, List, ◌∷◌, ◌++◌, length, map, take, refl, ap, sym, ◌∙◌, subst, rules, [], common_steps, inl, inr}
+use Rattle.cif_laws.proofs.Common.{true, false, arith, All, eqb-true, append_assoc, append-nil, length-append, ◌↔◌, ◌==◌, slice_index, ◌≢◌, slice_split}
+use Rattle.cif_laws.proofs.Common.{AllByRecursion, AllPass, strip_carriage_return, slice_split_none, length-slice_split, leb-true, eqb_tells}
+use Rattle.cif_laws.proofs.Common.{recursion_from_All, take-append_seam, get_or-append_seam, is_printable, IsRecord, without_empty_last, lines_of}
+use Rattle.std.specs.List.{join_with_byte}
+use Rattle.std.proofs.lemmas.List.Splits.{join_with_byte-slice_split, slice_split_at}
 use Rattle.cif_laws.specs.RecordText.{IsLineEnd, IsLastLineEnd, IsTextOf}
 
 -- if the last byte of a list is 13, the list consists of the bytes before its last byte, followed
@@ -20,13 +13,7 @@ use Rattle.cif_laws.specs.RecordText.{IsLineEnd, IsLastLineEnd, IsTextOf}
 last_is : (bytes : List ℕ) → slice_index bytes (length bytes - 1) ≡ 13 → bytes ≡ take (length bytes - 1) bytes ++ 13 ∷ []
 last_is [] h = absurd (omega arith)
 last_is (x ∷ []) h = λ i. h i ∷ []
-last_is (x ∷ y ∷ bytes) h =
-    let less : suc (suc (length bytes)) - 1 ≡ suc (length bytes) = omega arith in
-    let one : suc (length bytes) - 1 ≡ length bytes = omega arith in
-    let inner : slice_index (y ∷ bytes) (suc (length bytes) - 1) ≡ 13 =
-    subst (λ k. slice_index (y ∷ bytes) k ≡ 13) (sym one) (subst (λ k. slice_index (x ∷ y ∷ bytes) k ≡ 13) less h) in
-    let rest : (y ∷ bytes) ≡ take (length bytes) (y ∷ bytes) ++ 13 ∷ [] = subst (λ k. (y ∷ bytes) ≡ take k (y ∷ bytes) ++ 13 ∷ []) one (last_is _ inner) in
-    subst (λ k. (x ∷ y ∷ bytes) ≡ take k (x ∷ y ∷ bytes) ++ 13 ∷ []) (sym less) (ap (λ zs. x ∷ zs) rest)
+last_is (x ∷ y ∷ bytes) h = grind (common_steps, arith, (last_is (y ∷ bytes)))
 
 -- a piece of a split text is a line by itself, or a line followed by a carriage return
 piece_is : (piece : List ℕ) → (piece ≡ strip_carriage_return piece) ⊎ (piece ≡ strip_carriage_return piece ++ 13 ∷ [])
@@ -49,12 +36,10 @@ one_more piece (line ∷ lines) rest told = elim (piece_is _) [
 pieces_text : (pieces : List (List ℕ)) → IsTextOf (map strip_carriage_return (without_empty_last pieces)) (join_with_byte 10 pieces)
 pieces_text [] = refl
 pieces_text ([] ∷ []) = refl
-pieces_text ((b ∷ bytes) ∷ []) = by (piece_is (b ∷ bytes))
-  where
-    by : ((b ∷ bytes) ≡ strip_carriage_return (b ∷ bytes)) ⊎ ((b ∷ bytes) ≡ strip_carriage_return (b ∷ bytes) ++ 13 ∷ [])
-        → IsTextOf (strip_carriage_return (b ∷ bytes) ∷ []) (b ∷ bytes)
-    by (inl e) = ([], inr (inr refl), e ∙ sym (append-nil (strip_carriage_return (b ∷ bytes))))
-    by (inr e) = (13 ∷ [], inr (inl refl), e)
+pieces_text ((b ∷ bytes) ∷ []) = elim (piece_is (b ∷ bytes)) [
+  | inl e ↦ ([], inr (inr refl), e ∙ sym (append-nil (strip_carriage_return (b ∷ bytes))))
+  | inr e ↦ (13 ∷ [], inr (inl refl), e)
+]
 pieces_text (piece ∷ next ∷ pieces) = grind (arith, one_more, (pieces_text (next ∷ pieces)))
 
 -- each text consists of its lines

@@ -1,14 +1,8 @@
 -- The changes of a file are the changes of its units, in order. A schedule ends before the first
 -- record that can't follow a basic schedule.
-use Rattle.std.proofs.Common.{◌≡◌, ℕ, ◌+◌, List, [], ◌∷◌, ◌++◌, length, map, subst, ap, sym, ◌∙◌, true, arith, append_assoc, append-nil}
-use Rattle.std.proofs.Common.{rules}
-use Rattle.std.specs.Prelude.{Option}
-use Rattle.std.specs.List.{AllByRecursion, flat_map}
-use Rattle.std.proofs.lemmas.List.Elements.{recursion_from_All}
-use Rattle.docker_model.specs.records.Record.{Kind, basic_schedule}
-use Rattle.docker_model.specs.records.Record.{trailer, HasKind, kind_of}
-use Rattle.docker_model.specs.file.File.{IsFile, IsSchedule, IsUnit, follows_basic}
-use Rattle.docker_model.specs.file.Change.{Key, Act, Change, schedule_rest, acts_by_kind, changes_of_record, changes_from, changes}
+use Rattle.cif_laws.proofs.Common.{◌≡◌, ℕ, ◌+◌, List, ◌∷◌, ◌++◌, length, map, subst, ap, sym, ◌∙◌, true, arith, append_assoc, append-nil, [], rules, Option}
+use Rattle.cif_laws.proofs.Common.{AllByRecursion, flat_map, recursion_from_All, Kind, basic_schedule, trailer, HasKind, kind_of, IsFile, IsSchedule, IsUnit}
+use Rattle.cif_laws.proofs.Common.{follows_basic, Key, Act, Change, schedule_rest, acts_by_kind, changes_of_record, changes_from, changes}
 use Rattle.cif_laws.specs.UnitChange.{changes_of_unit, changes_of_units, change_of_schedule}
 use Rattle.cif_laws.proofs.files.GoodChanges.{StopsHere, Follows, rest_is, schedule_follows, units_stop}
 
@@ -45,12 +39,9 @@ behind_followers n (line ∷ lines) rest all =
 -- each record of a schedule after the first can follow a basic schedule
 others_follow : (basic : List ℕ) (others : List (List ℕ)) → IsSchedule (basic ∷ others) → AllByRecursion Follows others
 others_follow basic others is =
-    let same : others ≡ is.extra ++ is.journey = ap tail is.whole in
+    let whole : basic ∷ others ≡ is.basic ∷ (is.extra ++ is.journey) = is.whole in
+    let same : others ≡ is.extra ++ is.journey = cc in
     subst (AllByRecursion Follows) (sym same) (schedule_follows (basic ∷ others) is)
-  where
-    tail : List (List ℕ) → List (List ℕ)
-    tail [] = []
-    tail (line ∷ lines) = lines
 
 is_basic : (basic : List ℕ) (others : List (List ℕ)) → IsSchedule (basic ∷ others) → HasKind basic_schedule basic
 is_basic = search rules

@@ -1,7 +1,6 @@
 -- Lemmas on `AllByRecursion`, which says that all elements of a list have a property. It is defined
 -- by recursion on the list.
-use Rattle.std.proofs.Common.{List, [], ◌∷◌, ◌++◌, map}
-use Rattle.std.specs.List.{AllByRecursion}
+use Rattle.cif_laws.proofs.Common.{List, [], ◌∷◌, ◌++◌, map, AllByRecursion}
 
 -- if all elements of two lists have a property, all elements of their concatenation have it
 pub all_append : {A : Type 0} (P : A → Type 0) (xs ys : List A) → AllByRecursion P xs → AllByRecursion P ys → AllByRecursion P (xs ++ ys)

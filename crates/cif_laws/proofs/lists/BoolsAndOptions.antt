@@ -1,6 +1,5 @@
 -- Facts about tests and about optional values.
-use Rattle.std.proofs.Common.{◌≡◌, Bool, true, false, ◌⊎◌, Some, None, rules}
-use Rattle.std.specs.Prelude.{◌&&◌, ◌||◌, not, Option, is_none, option_and_then, is_some}
+use Rattle.cif_laws.proofs.Common.{◌≡◌, Bool, true, false, ◌⊎◌, Some, None, rules, cond, ◌&&◌, ◌||◌, Option, is_none, option_and_then, is_some}
 
 -- if `a && b` is true, so are `a` and `b`
 pub both : (a b : Bool) → (a && b) ≡ true → (a ≡ true) × (b ≡ true)
@@ -9,10 +8,6 @@ both = search rules
 -- if `a || b` is true, `a` or `b` is true
 pub either : (a b : Bool) → (a || b) ≡ true → (a ≡ true) ⊎ (b ≡ true)
 either = search rules
-
--- if `not b` is true, `b` is false
-pub not_true : (b : Bool) → not b ≡ true → b ≡ false
-not_true = search rules
 
 -- an option that passes `is_none` is `None`
 pub none_by_test : {A : Type 0} (o : Option A) → is_none o ≡ true → o ≡ None
@@ -45,3 +40,20 @@ true_is_not same = cc
 -- anything follows if `None` equals `Some x`
 pub none_some : {A B : Type 0} (x : A) → None ≡ Some x → B
 none_some x same = absurd cc
+
+-- if `cond b o None` is `Some y`, then `b` is true and `o` is `Some y`
+pub when_some : {A : Type 0} (b : Bool) (o : Option A) (y : A) → cond b o None ≡ Some y → (b ≡ true) × (o ≡ Some y)
+when_some = search rules
+
+-- suppose that `cond (a && b) o None` is `None`, although `a` is true and `o` is `Some y`. Then `b`
+-- is false
+pub when_unsound : {A : Type 0} (a b : Bool) (o : Option A) (y : A) → cond (a && b) o None ≡ None → a ≡ true → o ≡ Some y → b ≡ false
+when_unsound = search rules
+
+-- if `cond b s g` is false and `g` is true, `s` is false
+pub cond_false : (b s g : Bool) → cond b s g ≡ false → g ≡ true → s ≡ false
+cond_false = search rules
+
+-- if `s` and `g` are true, so is `cond b s g`
+pub cond_true : (b s g : Bool) → s ≡ true → g ≡ true → cond b s g ≡ true
+cond_true = search rules

@@ -1,15 +1,9 @@
 -- Decidable facts. A fact is decidable if there is a proof of the fact or of its negation.
-use Rattle.std.proofs.Common.{◌≡◌, ℕ, suc, ◌<◌, ◌≤◌, List, [], ◌∷◌, subst, inl, rules}
-use Rattle.std.proofs.Common.{◌⊎◌, Bool, true, nat_le, All, None}
-use Rattle.std.specs.Prelude.{Option}
-use Rattle.std.specs.List.{AllByRecursion}
-use Rattle.std.specs.declared.cmp.Ordering.{Ordering}
-use Rattle.std.specs.declared.cmp.Ordering.TheVariants.{Less, Equal}
-use Rattle.std.specs.Cmp.{IsTotalOrder, tied_itself}
-use Rattle.std.proofs.lemmas.Bool.Decides.{leb_tells, eqb_tells}
-use Rattle.std.proofs.lemmas.List.Elements.{All-from_recursion, recursion_from_All}
+use Rattle.cif_laws.proofs.Common.{◌≡◌, ℕ, suc, ◌<◌, ◌≤◌, List, ◌∷◌, subst, inl, rules, [], ◌⊎◌, Bool, true, nat_le, All, None, Some, inr, refl, ap, ◌∙◌}
+use Rattle.cif_laws.proofs.Common.{Option, AllByRecursion, Ordering, Less, Equal, IsTotalOrder, tied_itself, leb_tells, eqb_tells, All-from_recursion}
+use Rattle.cif_laws.proofs.Common.{recursion_from_All, Kind}
 use Rattle.std.proofs.lemmas.Map.Lookups.{CmpEqualImpliesEq}
-use Rattle.docker_model.specs.records.Record.{Kind}
+use Rattle.std.proofs.lemmas.Option.{none-some}
 
 -- the fact is decidable: there is a proof of the fact or of its negation
 abbrev pub Decided : Type 0 → Type 0
@@ -73,6 +67,16 @@ same_decided {A} {cmp} total exact a b = decided_along (exact a b) (λ same. sub
 -- it is decidable whether an option is `None`
 pub none_decided : {A : Type 0} (o : Option A) → Decided (o ≡ None)
 none_decided = search rules
+
+-- it is decidable whether an option is `Some`
+pub some_decided : {A : Type 0} (o : Option A) → Decided ((x : A) × (o ≡ Some x))
+some_decided None = inr (λ is. none-some is.0 is.1)
+some_decided (Some x) = inl (x, refl)
+
+-- it is decidable whether an option has a value that passes a test
+pub passes_decided : {A : Type 0} (o : Option A) (test : A → Bool) → Decided ((x : A) × (o ≡ Some x) × (test x ≡ true))
+passes_decided None test = inr (λ is. none-some is.0 is.1)
+passes_decided (Some x) test = decided_along (λ h. (x, refl, h)) (λ is. let same : x ≡ is.0 = cc in ap test same ∙ is.2) (bool_decided (test x))
 
 -- it is decidable whether two kinds of record are equal
 pub kind_decided : (first second : Option Kind) → Decided (first ≡ second)

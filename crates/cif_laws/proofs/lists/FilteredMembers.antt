@@ -1,9 +1,7 @@
 -- Lemmas on membership in the lists that `filter` and `filter_map` return, and on the results of a
 -- search.
-use Rattle.std.proofs.Common.{◌≡◌, List, [], ◌∷◌, refl, ap, sym, ◌∙◌, subst, inl, inr, ◌⊎◌, Some, None, Bool, true, false, cond, Contains, arith}
-use Rattle.std.proofs.Common.{rules}
-use Rattle.std.specs.Prelude.{Option, filter, find, ◌&&◌}
-use Rattle.std.specs.List.{list_all, filter_map, cons_option}
+use Rattle.cif_laws.proofs.Common.{◌≡◌, List, ◌∷◌, refl, ap, ◌∙◌, subst, inl, inr, Some, None, Bool, true, false, cond, Contains, arith, [], Option, filter}
+use Rattle.cif_laws.proofs.Common.{find, ◌&&◌, list_all, filter_map, cons_option}
 use Rattle.cif_laws.proofs.lists.Membership.{Contains-cons, cons-Contains, cons-Contains-first, nil-Contains}
 use Rattle.cif_laws.proofs.lists.BoolsAndOptions.{both, none_some}
 
@@ -17,14 +15,13 @@ module _ {A : Type 0} (test : A → Bool) where
   -- a member of the list that passes the test is in the filtered list
   pub filter_forth : (xs : List A) (z : A) → Contains xs z → test z ≡ true → Contains (filter test xs) z
   filter_forth [] z among passes = absurd (nil-Contains z among)
-  filter_forth (x ∷ xs) z among passes = by (test x) refl (filter_forth xs z) (Contains-cons x xs z among)
-    where
-      by : (b : Bool) → test x ≡ b → (Contains xs z → test z ≡ true → Contains (filter test xs) z) → (x ≡ z) ⊎ Contains xs z
-          → Contains (cond b (x ∷ filter test xs) (filter test xs)) z
-      by true h rest (inl same) = subst (Contains (x ∷ filter test xs)) same (cons-Contains-first x (filter test xs))
-      by true h rest (inr inside) = cons-Contains x (filter test xs) z (rest inside passes)
-      by false h rest (inl same) = absurd (let bad : false ≡ true = sym h ∙ ap test same ∙ passes in cc)
-      by false h rest (inr inside) = rest inside passes
+  filter_forth (x ∷ xs) z among passes = elim (Contains-cons x xs z among) [
+    | inl same ↦ rw (ap test same ∙ passes) (subst (Contains (x ∷ filter test xs)) same (cons-Contains-first x (filter test xs)))
+    | inr inside ↦ elim (test x) as (λ b. Contains (cond b (x ∷ filter test xs) (filter test xs)) z) [
+      | true ↦ cons-Contains x (filter test xs) z (filter_forth xs z inside passes)
+      | false ↦ filter_forth xs z inside passes
+    ]
+  ]
 
   -- the result of a search is a member that passes the test
   pub find_some : (xs : List A) (z : A) → find test xs ≡ Some z → Contains xs z × (test z ≡ true)
@@ -56,10 +53,10 @@ module _ {A B : Type 0} (h : A → Option B) where
   -- if `h` has a value at a member of `xs`, this value is a member of `filter_map h xs`
   pub part_forth : (xs : List A) (x : A) (y : B) → Contains xs x → h x ≡ Some y → Contains (filter_map h xs) y
   part_forth [] x y among is = absurd (nil-Contains x among)
-  part_forth (z ∷ xs) x y among is = by (h z) refl (λ inside. part_forth xs x y inside is) (Contains-cons z xs x among)
-    where
-      by : (o : Option B) → h z ≡ o → (Contains xs x → Contains (filter_map h xs) y) → (z ≡ x) ⊎ Contains xs x → Contains (cons_option o (filter_map h xs)) y
-      by None none rest (inl same) = absurd (let bad : None ≡ Some y = sym none ∙ ap h same ∙ is in cc)
-      by None none rest (inr inside) = rest inside
-      by (Some b) some rest (inl same) = search (rules, cons-Contains-first)
-      by (Some b) some rest (inr inside) = cons-Contains b (filter_map h xs) y (rest inside)
+  part_forth (z ∷ xs) x y among is = elim (Contains-cons z xs x among) [
+    | inl same ↦ rw (ap h same ∙ is) (cons-Contains-first y (filter_map h xs))
+    | inr inside ↦ elim (h z) as (λ o. Contains (cons_option o (filter_map h xs)) y) [
+      | None ↦ part_forth xs x y inside is
+      | Some b ↦ cons-Contains b (filter_map h xs) y (part_forth xs x y inside is)
+    ]
+  ]

@@ -1,10 +1,7 @@
 -- Lemmas on `AllLater`, which says that each member of a list is related to each later member. For
 -- example, a list is strictly ascending if each member is below each later member.
-use Rattle.std.proofs.Common.{arith, List, [], ◌∷◌, ◌≡◌, inl, inr, ◌⊎◌, Contains, Bool, true, false, cond, map, ◌++◌, rules}
-use Rattle.std.proofs.lemmas.Grind.{common_steps}
-use Rattle.std.specs.Prelude.{⊤, filter}
-use Rattle.std.specs.List.{AllByRecursion, AllPairs, flat_map}
-use Rattle.std.proofs.lemmas.List.Elements.{All-from_recursion, Contains-append_cases}
+use Rattle.cif_laws.proofs.Common.{arith, List, ◌∷◌, ◌≡◌, ◌⊎◌, Contains, Bool, map, ◌++◌, rules, [], common_steps, ⊤, filter, AllByRecursion, AllPairs}
+use Rattle.cif_laws.proofs.Common.{flat_map, All-from_recursion}
 use Rattle.std.proofs.lemmas.List.Kept.{AllPairs-cons}
 use Rattle.cif_laws.proofs.lists.AllOf.{all_append, all_map, all_weaker}
 use Rattle.cif_laws.proofs.lists.Membership.{nil-Contains, below_by_recursion, cons-Contains}
@@ -30,45 +27,34 @@ later_weaker R S (x ∷ xs) to later = (
   later_weaker R S xs (λ a b in_a in_b. to a b (cons-Contains x xs a in_a) (cons-Contains x xs b in_b)) later.1,
 )
 
+-- if all members of a list have a property, so have all members of the filtered list
+all_filter : {A : Type 0} (P : A → Type 0) (test : A → Bool) (xs : List A) → AllByRecursion P xs → AllByRecursion P (filter test xs)
+all_filter P test [] all = tt
+all_filter P test (x ∷ xs) all = grind (arith, (all_filter P test xs all.1))
+
 -- if `AllLater` holds for a list, it also holds for the filtered list
 pub later_filter : {A : Type 0} (R : A → A → Type 0) (test : A → Bool) (xs : List A) → AllLater R xs → AllLater R (filter test xs)
 later_filter R test [] later = tt
-later_filter {A} R test (x ∷ xs) later = by (test x) (later_filter R test xs later.1)
-  where
-    above : (ys : List A) → AllByRecursion (R x) ys → AllByRecursion (R x) (filter test ys)
-    above [] all = tt
-    above (y ∷ ys) all = step (test y) (above ys all.1)
-      where
-        step : (b : Bool) → AllByRecursion (R x) (filter test ys) → AllByRecursion (R x) (cond b (y ∷ filter test ys) (filter test ys))
-        step true rest = (all.0, rest)
-        step false rest = rest
-
-    by : (b : Bool) → AllLater R (filter test xs) → AllLater R (cond b (x ∷ filter test xs) (filter test xs))
-    by true rest = (above xs later.0, rest)
-    by false rest = rest
+later_filter R test (x ∷ xs) later = grind (arith, all_filter, (later_filter R test xs later.1))
 
 -- if the image of each member is related to the image of each later member, `AllLater` holds for
 -- the mapped list
 pub later_map : {A B : Type 0} (R : B → B → Type 0) (f : A → B) (xs : List A) → AllLater (λ a b. R (f a) (f b)) xs → AllLater R (map f xs)
 later_map R f [] later = tt
-later_map {A} R f (x ∷ xs) later = (above xs later.0, later_map R f xs later.1)
-  where
-    above : (ys : List A) → AllByRecursion (λ b. R (f x) (f b)) ys → AllByRecursion (R (f x)) (map f ys)
-    above [] all = tt
-    above (y ∷ ys) all = (all.0, above ys all.1)
+later_map R f (x ∷ xs) later = (all_map f (R (f x)) xs later.0, later_map R f xs later.1)
 
 -- suppose that `AllLater` holds for two lists. If each member of the first list is related to each
--- member of the second, `AllLater` holds for their concatenation
+-- member of the second (`AllByRecursion`), `AllLater` holds for their concatenation
+pub later_append_all : {A : Type 0} (R : A → A → Type 0) (xs ys : List A) → AllLater R xs → AllLater R ys → AllByRecursion (λ x. AllByRecursion (R x) ys) xs
+    → AllLater R (xs ++ ys)
+later_append_all R [] ys left right across = right
+later_append_all R (x ∷ xs) ys left right across = (all_append (R x) xs ys left.0 across.0, later_append_all R xs ys left.1 right across.1)
+
+-- like `later_append_all`, without `AllByRecursion`
 pub later_append : {A : Type 0} (R : A → A → Type 0) (xs ys : List A) → AllLater R xs → AllLater R ys → ((a b : A) → Contains xs a → Contains ys b → R a b)
     → AllLater R (xs ++ ys)
-later_append R [] ys first second across = second
-later_append {A} R (x ∷ xs) ys first second across = (
-  each_member _ (xs ++ ys) (λ z among. elim (Contains-append_cases xs ys z among) [
-    | inl here ↦ below_by_recursion _ xs _ first.0 here
-    | inr there ↦ across x z (cons-Contains-first x _) there
-  ]),
-  later_append _ xs _ first.1 second (λ a b in_a in_b. across a b (cons-Contains x _ a in_a) in_b),
-)
+later_append R xs ys first second across =
+    later_append_all R xs ys first second (each_member _ xs (λ a in_a. each_member (R a) ys (λ b in_b. across a b in_a in_b)))
 
 -- suppose that `AllLater` holds for several lists. If each member of a list is related to each
 -- member of every later list, `AllLater` holds for their concatenation
@@ -80,13 +66,6 @@ later_flat_map R S f (x ∷ xs) later each across = later_append R _ (flat_map f
     (later_flat_map _ S _ xs later.1 (λ y among. each y (cons-Contains _ xs _ among)) (search (rules, cons-Contains))) (λ a b in_a in_b.
     let found = Contains-flat_map f _ b in_b in
     across x found.0 (cons-Contains-first _ xs) (cons-Contains _ xs _ found.1) (below_by_recursion (S x) _ found.0 later.0 found.1) a b in_a found.2)
-
--- like `later_append`, but `AllByRecursion` says that each member of the first list is related to
--- each member of the second
-pub later_append_all : {A : Type 0} (R : A → A → Type 0) (xs ys : List A) → AllLater R xs → AllLater R ys → AllByRecursion (λ x. AllByRecursion (R x) ys) xs
-    → AllLater R (xs ++ ys)
-later_append_all R [] ys left right across = right
-later_append_all R (x ∷ xs) ys left right across = (all_append (R x) xs ys left.0 across.0, later_append_all R xs ys left.1 right across.1)
 
 -- suppose that a relation between two values implies another relation between their images. If
 -- `AllLater` holds for the first relation and a list, it holds for the second relation and the

@@ -1,10 +1,7 @@
 -- Lemmas on membership in lists: in lists of one element, in `x ∷ xs`, in mapped lists, and in
 -- concatenations.
-use Rattle.std.proofs.Common.{◌≡◌, ℕ, suc, ◌<◌, List, ◌∷◌, length, inl, inr, arith, Contains, get_or, ◌⊎◌, refl, [], subst, lit<, map, ◌++◌, sym, All}
-use Rattle.std.proofs.Common.{rules}
-use Rattle.std.proofs.lemmas.List.Elements.{Contains-append_cases, Contains-append_left, Contains-append_right}
-use Rattle.std.specs.List.{AllByRecursion, flat_map}
-use Rattle.std.specs.Prelude.{◌↔◌}
+use Rattle.cif_laws.proofs.Common.{◌≡◌, ℕ, suc, ◌<◌, List, ◌∷◌, length, inl, inr, arith, Contains, get_or, ◌⊎◌, refl, subst, lit<, map, ◌++◌, sym, All, []}
+use Rattle.cif_laws.proofs.Common.{rules, Contains-append_cases, Contains-append_left, Contains-append_right, AllByRecursion, flat_map, ◌↔◌}
 
 -- a member of `x ∷ xs` is `x` or a member of `xs`
 pub Contains-cons : {A : Type 0} (x : A) (xs : List A) (z : A) → Contains (x ∷ xs) z → (x ≡ z) ⊎ Contains xs z
@@ -60,11 +57,10 @@ Contains-flat_map f (x ∷ xs) y among = elim (Contains-append_cases (f x) (flat
 -- each member of `f x`, for a member `x` of `xs`, is a member of `flat_map f xs`
 pub flat_map-Contains : {A B : Type 0} (f : A → List B) (xs : List A) (x : A) (y : B) → Contains xs x → Contains (f x) y → Contains (flat_map f xs) y
 flat_map-Contains f [] x y among there = absurd (nil-Contains x among)
-flat_map-Contains f (z ∷ xs) x y among there = by (λ inside. flat_map-Contains f xs x y inside there) (Contains-cons z xs x among)
-  where
-    by : (Contains xs x → Contains (flat_map f xs) y) → (z ≡ x) ⊎ Contains xs x → Contains (f z ++ flat_map f xs) y
-    by rest (inl same) = Contains-append_left (f z) (flat_map f xs) y (subst (λ v. Contains (f v) y) (sym same) there)
-    by rest (inr inside) = Contains-append_right (f z) (flat_map f xs) y (rest inside)
+flat_map-Contains f (z ∷ xs) x y among there = elim (Contains-cons z xs x among) [
+  | inl same ↦ Contains-append_left (f z) (flat_map f xs) y (subst (λ v. Contains (f v) y) (sym same) there)
+  | inr inside ↦ Contains-append_right (f z) (flat_map f xs) y (flat_map-Contains f xs x y inside there)
+]
 
 -- if `All` holds for a property, each member of the list has the property
 pub member_of : {A : Type 0} (P : A → Type 0) (xs : List A) (x : A) → All P xs → Contains xs x → P x

@@ -1,16 +1,11 @@
 -- A sorted list is strictly ascending if no two of its elements tie. Two elements tie if they
 -- compare as equal.
-use Rattle.std.proofs.Common.{◌≡◌, ℕ, suc, ◌+◌, ◌≤◌, List, [], ◌∷◌, get_or, refl, ap, sym, ◌∙◌, subst, true, false, cond, arith, rules}
-use Rattle.std.proofs.lemmas.Grind.{common_steps}
-use Rattle.std.specs.List.{AllByRecursion, sum_by}
-use Rattle.std.specs.List.Sorted.{IsSorted, IsPermutation}
-use Rattle.std.specs.declared.cmp.Ordering.{Ordering}
-use Rattle.std.specs.declared.cmp.Ordering.TheVariants.{Less, Equal, Greater}
-use Rattle.std.specs.Ordering.{is_eq, is_lt, ordering_reverse}
-use Rattle.std.specs.Cmp.{IsTotalOrder, tied_itself}
+use Rattle.cif_laws.proofs.Common.{◌≡◌, ℕ, suc, ◌+◌, ◌≤◌, List, [], ◌∷◌, get_or, refl, ap, sym, ◌∙◌, subst, true, false, cond, arith, rules, common_steps}
+use Rattle.cif_laws.proofs.Common.{AllByRecursion, IsSorted, IsPermutation, Ordering, Less, Equal, Greater, is_eq, is_lt, ordering_reverse, IsTotalOrder}
+use Rattle.cif_laws.proofs.Common.{tied_itself, IsBelow, IsStrictlyAscending}
+use Rattle.std.specs.List.{sum_by}
 use Rattle.std.proofs.lemmas.List.Sums.{sum_by-cons}
 use Rattle.std.proofs.lemmas.List.Sorted.{sum_by-IsPermutation}
-use Rattle.docker_model.specs.state.Order.{IsBelow, IsStrictlyAscending}
 use Rattle.cif_laws.proofs.lists.Membership.{below_by_recursion, each_member}
 use Rattle.cif_laws.proofs.lists.Later.{AllLater}
 

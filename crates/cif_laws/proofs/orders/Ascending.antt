@@ -1,12 +1,6 @@
 -- Two strictly ascending lists with the same members are equal.
-use Rattle.std.proofs.Common.{◌≡◌, List, [], ◌∷◌, refl, inl, inr, sym, Contains, ◌⊎◌, ◌++◌, arith, rules}
-use Rattle.std.proofs.lemmas.Grind.{common_steps}
-use Rattle.std.specs.Prelude.{◌↔◌}
-use Rattle.std.specs.List.{AllByRecursion}
-use Rattle.std.specs.declared.cmp.Ordering.{Ordering}
-use Rattle.std.specs.Cmp.{IsTotalOrder, tied_itself}
-use Rattle.std.proofs.lemmas.List.Elements.{Contains-append_right}
-use Rattle.docker_model.specs.state.Order.{IsBelow, IsStrictlyAscending}
+use Rattle.cif_laws.proofs.Common.{◌≡◌, List, [], ◌∷◌, refl, sym, Contains, ◌⊎◌, ◌++◌, arith, rules, common_steps, ◌↔◌, AllByRecursion, Ordering, IsTotalOrder}
+use Rattle.cif_laws.proofs.Common.{tied_itself, Contains-append_right, IsBelow, IsStrictlyAscending}
 use Rattle.cif_laws.proofs.lists.AllOf.{all_append}
 use Rattle.cif_laws.proofs.lists.Later.{AllLater}
 use Rattle.cif_laws.proofs.lists.Membership.{below_by_recursion, nil-Contains, Contains-cons, cons-Contains-first, cons-Contains}
@@ -22,7 +16,7 @@ module _ {A : Type 0} {cmp : A → A → Ordering} (total : IsTotalOrder cmp) wh
 
   -- two ascending lists with the same members have the same first element
   same_heads : (x y : A) (xs ys : List A) → AllByRecursion (IsBelow cmp x) xs → AllByRecursion (IsBelow cmp y) ys
-      → (x ≡ y) ⊎ Contains ys x → (y ≡ x) ⊎ Contains xs y → x ≡ y
+      → (y ≡ x) ⊎ Contains ys x → (x ≡ y) ⊎ Contains xs y → x ≡ y
   same_heads = grind (common_steps, arith, not_both, below_by_recursion)
 
   -- if two ascending lists with the same members have equal first elements, their tails have the
@@ -36,17 +30,13 @@ module _ {A : Type 0} {cmp : A → A → Ordering} (total : IsTotalOrder cmp) wh
   same_list [] (y ∷ ys) up_x up_y same = absurd (nil-Contains y ((same y).1 (cons-Contains-first _ ys)))
   same_list (x ∷ xs) [] up_x up_y same = absurd (nil-Contains _ ((same x).0 (cons-Contains-first x _)))
   same_list (x ∷ xs) (y ∷ ys) up_x up_y same =
-      let heads = same_heads x _ xs _ up_x.0 up_y.0 (swapped (Contains-cons y _ x ((same x).0 (cons-Contains-first _ xs))))
-      (swapped (Contains-cons _ xs _ ((same y).1 (cons-Contains-first y _)))) in
+      let heads = same_heads x _ xs _ up_x.0 up_y.0 (Contains-cons y _ x ((same x).0 (cons-Contains-first _ xs)))
+      (Contains-cons _ xs _ ((same y).1 (cons-Contains-first y _))) in
       let tails = same_list xs _ up_x.1 up_y.1 (λ z. (
         λ among. in_tail x _ z _ ys heads up_x.0 among (Contains-cons _ ys _ ((same z).0 (cons-Contains x _ z among))),
         λ among. in_tail _ x _ ys _ (sym heads) up_y.0 among (Contains-cons x _ z ((same z).1 (cons-Contains _ ys _ among))),
       )) in
       λ i. heads i ∷ tails i
-    where
-      swapped : {a b : A} {P : Type 0} → (a ≡ b) ⊎ P → (b ≡ a) ⊎ P
-      swapped (inl e) = inl (sym e)
-      swapped (inr p) = inr p
 
 -- in a strictly ascending list each element is below each later element
 pub later_of : {A : Type 0} (cmp : A → A → Ordering) (xs : List A) → IsStrictlyAscending cmp xs → AllLater (IsBelow cmp) xs

@@ -1,10 +1,5 @@
 -- Lemmas on the relation "at most" in a total order.
-use Rattle.std.proofs.Common.{◌≡◌, true, ◌⊎◌, rules}
-use Rattle.std.specs.Cmp.{IsTotalOrder, tied_itself}
-use Rattle.std.specs.Ordering.{is_eq}
-use Rattle.std.specs.declared.cmp.Ordering.{Ordering}
-use Rattle.std.specs.declared.cmp.Ordering.TheVariants.{Less, Equal, Greater}
-use Rattle.docker_model.specs.state.Order.{IsAtMost, IsBelow}
+use Rattle.cif_laws.proofs.Common.{◌≡◌, true, ◌⊎◌, rules, IsTotalOrder, tied_itself, is_eq, Ordering, Less, Equal, Greater, IsAtMost, IsBelow}
 
 -- an ordering that passes the test `is_eq` is `Equal`
 pub eq_is : (o : Ordering) → is_eq o ≡ true → o ≡ Equal

@@ -1,16 +1,7 @@
 -- Two well-formed keys compare like their bytes, and so do two well-formed ledger items.
-use Rattle.std.proofs.Common.{◌≡◌, ℕ, ◌<◌, ◌^◌, List, [], ◌∷◌, ◌++◌, length, sym, ◌∙◌, arith, append_assoc, length-append}
-use Rattle.std.proofs.lemmas.Grind.{common_steps}
-use Rattle.std.proofs.Common.{rules}
-use Rattle.std.specs.Int.{w16, to_be_bytes}
-use Rattle.std.specs.declared.cmp.Ordering.{Ordering}
-use Rattle.std.specs.Ordering.{ordering_then, nat_cmp}
-use Rattle.docker_model.specs.file.Change.{Key, schedule_key, ScheduleKey}
-use Rattle.docker_model.specs.state.Order.{bytes_cmp}
-use Rattle.docker_model.specs.state.Stamp.{LedgerItem, ledger_item_cmp}
-use Rattle.docker_model.specs.state.Op.{key_cmp, key_tag, schedule_key_cmp}
-use Rattle.docker_model.specs.state.State.{IsGoodItem, IsGoodKey, IsGoodScheduleKey}
-use Rattle.docker_model.specs.state.StateText.{item_bytes, key_bytes}
+use Rattle.cif_laws.proofs.Common.{◌≡◌, ℕ, ◌<◌, ◌^◌, List, [], ◌∷◌, ◌++◌, length, sym, ◌∙◌, arith, append_assoc, length-append, common_steps, rules, w16}
+use Rattle.cif_laws.proofs.Common.{to_be_bytes, Ordering, ordering_then, nat_cmp, Key, schedule_key, ScheduleKey, bytes_cmp, LedgerItem, ledger_item_cmp}
+use Rattle.cif_laws.proofs.Common.{key_cmp, key_tag, schedule_key_cmp, IsGoodItem, IsGoodKey, IsGoodScheduleKey, item_bytes, key_bytes}
 use Rattle.cif_laws.proofs.orders.Orders.{then_equal_right}
 
 -- `ordering_then` is associative
@@ -40,10 +31,6 @@ pub item_order : (first second : LedgerItem) → IsGoodItem first → IsGoodItem
     (item_bytes second)
 item_order = grind (common_steps, arith, two_bytes_cmp, fronts_first, length-append)
 
--- the concatenation of lists is associative
-of_three : (a b c : List ℕ) → a ++ b ++ c ≡ a ++ (b ++ c)
-of_three a b c = append_assoc a b c
-
 of_five : (a b c d e : List ℕ) → a ++ b ++ c ++ d ++ e ≡ a ++ (b ++ (c ++ (d ++ e)))
 of_five a b c d e = simp append_assoc
 
@@ -58,8 +45,8 @@ schedule_order a b good other =
     let days = day_first a.runs_from b.runs_from (a.indicator ∷ []) (b.indicator ∷ []) _ (omega arith) (omega arith) ends in
     let whole = fronts_first a.uid b.uid (to_be_bytes w16 a.runs_from ++ a.indicator ∷ []) (to_be_bytes w16 b.runs_from ++ b.indicator ∷ []) _
     (omega arith) days in
-    let left = of_three a.uid (to_be_bytes w16 a.runs_from) (a.indicator ∷ []) in
-    let right = of_three b.uid (to_be_bytes w16 b.runs_from) (b.indicator ∷ []) in
+    let left = append_assoc a.uid (to_be_bytes w16 a.runs_from) (a.indicator ∷ []) in
+    let right = append_assoc b.uid (to_be_bytes w16 b.runs_from) (b.indicator ∷ []) in
     sym ((λ i. bytes_cmp (left i) (right i)) ∙ whole)
 
 -- two well-formed keys compare like their bytes, if the tag of each key is put before its bytes

@@ -1,10 +1,7 @@
 -- The laws of taking the greater of two values. Some of them hold only if valid values that compare as equal are equal.
-use Rattle.std.proofs.Common.{◌≡◌, refl, sym, subst, inl, inr, rules}
-use Rattle.std.specs.declared.cmp.Ordering.{Ordering}
-use Rattle.std.specs.declared.cmp.Ordering.TheVariants.{Equal}
+use Rattle.cif_laws.proofs.Common.{◌≡◌, refl, sym, subst, inl, inr, rules, Ordering, Equal, IsTotalOrder, IsAtMost}
 use Rattle.std.specs.Ordering.{ord_max}
-use Rattle.std.specs.Cmp.{IsTotalOrder}
-use Rattle.docker_model.specs.state.Order.{IsAtMost, IsGreater}
+use Rattle.docker_model.specs.state.Order.{IsGreater}
 use Rattle.cif_laws.proofs.orders.AtMost.{level, at_most_trans, at_most_itself, at_most_below}
 
 -- Says that valid values that compare as equal are equal.

@@ -1,12 +1,8 @@
 -- The least of the members of a list that pass a test. There is a least member if any member passes
 -- the test.
-use Rattle.std.proofs.Common.{◌≡◌, List, [], ◌∷◌, refl, sym, ◌∙◌, subst, inl, inr, ◌⊎◌, Some, None, Bool, true, false, Contains, rules}
-use Rattle.std.specs.Prelude.{find, ◌&&◌, not}
-use Rattle.std.specs.List.{list_all}
-use Rattle.std.specs.declared.cmp.Ordering.{Ordering}
+use Rattle.cif_laws.proofs.Common.{◌≡◌, List, [], ◌∷◌, refl, sym, ◌∙◌, subst, inl, inr, ◌⊎◌, Some, None, Bool, true, false, Contains, rules, find, ◌&&◌, not}
+use Rattle.cif_laws.proofs.Common.{list_all, Ordering, IsTotalOrder, IsAtMost, IsBelow}
 use Rattle.std.specs.Ordering.{is_gt}
-use Rattle.std.specs.Cmp.{IsTotalOrder}
-use Rattle.docker_model.specs.state.Order.{IsAtMost, IsBelow}
 use Rattle.cif_laws.proofs.lists.Membership.{Contains-cons, cons-Contains, cons-Contains-first, nil-Contains}
 use Rattle.cif_laws.proofs.lists.BoolsAndOptions.{both}
 use Rattle.cif_laws.proofs.orders.AtMost.{at_most_itself, at_most_or}

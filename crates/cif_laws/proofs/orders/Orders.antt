@@ -1,20 +1,17 @@
 -- All orders that `docker_model` defines are total. Each distinguishes different values, with three
 -- exceptions. The orders of bodies, ops and entries do so only if all lines in the bodies are
 -- records.
+use Rattle.cif_laws.proofs.Common.{◌≡◌, subst, sym, ℕ, List, ap, true, false, rules, [], Ordering, Equal, ordering_then, nat_cmp, on, is_eq, IsTotalOrder}
+use Rattle.cif_laws.proofs.Common.{then_total, on_total, nat_cmp_total, tied_itself, nat_list_cmp_total, exact_unsigned, exact_bytes, Key, tiploc_key}
+use Rattle.cif_laws.proofs.Common.{association_key, AssociationKey, schedule_key, ScheduleKey, Body, bytes_cmp, moment_cmp, file_stamp_cmp, stamp_cmp}
+use Rattle.cif_laws.proofs.Common.{ledger_item_cmp, association_key_cmp, schedule_key_cmp, key_tag, key_cmp, body_end, Op, deleted, lapsed, put_with, op_cmp}
+use Rattle.cif_laws.proofs.Common.{entry_cmp, docker_line_cmp}
 use mathlib.Core.Path.{fun_ext}
-use Rattle.std.proofs.Common.{◌≡◌, subst, sym, ℕ, List, [], ap, true, false, rules}
-use Rattle.std.specs.declared.cmp.Ordering.{Ordering}
-use Rattle.std.specs.declared.cmp.Ordering.TheVariants.{Equal}
-use Rattle.std.specs.Ordering.{ordering_then, nat_cmp, on, then_cmp, is_eq}
-use Rattle.std.specs.Cmp.{IsTotalOrder, then_total, on_total, nat_cmp_total, tied_itself}
-use Rattle.std.specs.Cmp.Lexicographic.{nat_list_cmp_total}
-use Rattle.std.proofs.lemmas.Map.Lookups.{CmpEqualImpliesEq, exact_unsigned, exact_bytes}
-use Rattle.docker_model.specs.file.Change.{Key, tiploc_key, association_key, AssociationKey, schedule_key, ScheduleKey}
-use Rattle.docker_model.specs.state.Order.{bytes_cmp}
-use Rattle.docker_model.specs.state.Stamp.{moment_cmp, file_stamp_cmp, stamp_cmp, ledger_item_cmp}
-use Rattle.docker_model.specs.state.Op.{association_key_cmp, schedule_key_cmp, key_tag, key_cmp, body_cmp, body_end}
-use Rattle.docker_model.specs.state.Op.{body_bytes, body_tag, Op, deleted, lapsed, put_with, op_cmp, entry_cmp}
-use Rattle.docker_model.specs.docker.DockerLine.{docker_line_cmp, occasion_rank, associated_uid}
+use Rattle.std.specs.Ordering.{then_cmp}
+use Rattle.std.proofs.lemmas.Map.Lookups.{CmpEqualImpliesEq}
+use Rattle.docker_model.specs.state.Op.{body_cmp}
+use Rattle.docker_model.specs.state.Op.{body_bytes, body_tag}
+use Rattle.docker_model.specs.docker.DockerLine.{occasion_rank, associated_uid}
 use Rattle.cif_laws.proofs.orders.AtMost.{eq_is}
 
 -- an order that agrees with a total order is total
@@ -145,14 +142,9 @@ key_total =
 -- different keys don't compare as equal
 pub exact_key : CmpEqualImpliesEq key_cmp
 exact_key (tiploc_key a) (tiploc_key b) e = ap tiploc_key (exact_bytes a b e)
-exact_key (tiploc_key a) (association_key b) e = cc
-exact_key (tiploc_key a) (schedule_key b) e = cc
-exact_key (association_key a) (tiploc_key b) e = cc
 exact_key (association_key a) (association_key b) e = ap association_key (exact_association_key a b e)
-exact_key (association_key a) (schedule_key b) e = cc
-exact_key (schedule_key a) (tiploc_key b) e = cc
-exact_key (schedule_key a) (association_key b) e = cc
 exact_key (schedule_key a) (schedule_key b) e = ap schedule_key (exact_schedule_key a b e)
+exact_key a b e = cc
 
 -- the order of bodies is total. Two schedules with different lines may compare as equal if the
 -- concatenations of their lines are equal
@@ -164,23 +156,14 @@ op_rank deleted = 0
 op_rank lapsed = 1
 op_rank (put_with body) = 2
 
-abbrev bodies_in : Op → List ℕ
-bodies_in deleted = []
-bodies_in lapsed = []
-bodies_in (put_with body) = body_bytes body
-
-abbrev end_in : Op → ℕ
-end_in deleted = 0
-end_in lapsed = 0
-end_in (put_with body) = body_end body
-
-abbrev tag_in : Op → ℕ
-tag_in deleted = 0
-tag_in lapsed = 0
-tag_in (put_with body) = body_tag body
+abbrev body_or : {A : Type 0} → (Body → A) → A → Op → A
+body_or f none (put_with body) = f body
+body_or f none _ = none
 
 abbrev op_by_parts : Op → Op → Ordering
-op_by_parts = then_cmp (on op_rank nat_cmp) (then_cmp (on end_in nat_cmp) (then_cmp (on bodies_in bytes_cmp) (on tag_in nat_cmp)))
+op_by_parts =
+    then_cmp (on op_rank nat_cmp) (then_cmp (on (body_or body_end 0) nat_cmp) (then_cmp (on (body_or body_bytes []) bytes_cmp)
+    (on (body_or body_tag 0) nat_cmp)))
 
 op_is_by_parts : (a b : Op) → op_cmp a b ≡ op_by_parts a b
 op_is_by_parts = search rules
@@ -189,8 +172,8 @@ op_is_by_parts = search rules
 pub op_total : IsTotalOrder op_cmp
 op_total =
     total_along op_is_by_parts
-    (then_total (on_total op_rank nat_cmp_total) (then_total (on_total end_in nat_cmp_total)
-    (then_total (on_total bodies_in nat_list_cmp_total) (on_total tag_in nat_cmp_total))))
+    (then_total (on_total op_rank nat_cmp_total) (then_total (on_total (body_or body_end 0) nat_cmp_total)
+    (then_total (on_total (body_or body_bytes []) nat_list_cmp_total) (on_total (body_or body_tag 0) nat_cmp_total))))
 
 -- the order of entries is total
 pub entry_total : IsTotalOrder entry_cmp

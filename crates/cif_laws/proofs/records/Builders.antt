@@ -1,7 +1,6 @@
 -- Functions that build records of 80 bytes from their fields, for the examples. Each argument is
 -- padded with spaces to the width of its field.
-use Rattle.std.proofs.Common.{ℕ, ◌-◌, List, [], ◌∷◌, ◌++◌, length, replicate}
-use Rattle.std.specs.Prelude.{codes}
+use Rattle.cif_laws.proofs.Common.{ℕ, ◌-◌, List, [], ◌∷◌, ◌++◌, length, replicate, codes}
 
 -- the text, padded with spaces to this width
 abbrev pub wide : ℕ → List ℕ → List ℕ

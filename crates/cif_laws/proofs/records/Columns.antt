@@ -1,14 +1,12 @@
 -- Lemmas on the columns and the good fields of a record, before and after the record's transaction
 -- is set to N.
-use Rattle.std.proofs.Common.{◌≡◌, ℕ, ◌-◌, ◌<◌, ◌≤◌, List, [], ◌∷◌, take, drop, set, subst, refl, rules}
-use Rattle.std.proofs.lemmas.Grind.{common_steps}
-use Rattle.std.proofs.Common.{ap, sym, ◌∙◌, true, cond, Some, None, arith, length-drop, length-set}
-use Rattle.std.specs.Prelude.{not, option_map, find, slice_index}
-use Rattle.std.specs.List.{AllByRecursion}
-use Rattle.std.proofs.lemmas.List.{length-take-le, get_or-drop, get_or-take, get_or-set_other, get_or-set_same, take-set}
-use Rattle.std.proofs.lemmas.List.Elements.{All-set}
-use Rattle.docker_model.specs.records.Record.{Kind, IsRecord, is_printable, columns, column, kind_of, HasKind, IsTextOfLength}
-use Rattle.docker_model.specs.records.Field.{CheckedField, HasGoodFields, checked_fields, fields_of, as_new, HasNewTransaction}
+use Rattle.cif_laws.proofs.Common.{◌≡◌, ℕ, ◌-◌, ◌<◌, ◌≤◌, List, [], ◌∷◌, take, drop, set, subst, refl, rules, common_steps, ap, sym, ◌∙◌, true, cond, Some}
+use Rattle.cif_laws.proofs.Common.{None, arith, length-drop, not, option_map, find, slice_index, AllByRecursion, length-take-le, get_or-drop, get_or-take}
+use Rattle.cif_laws.proofs.Common.{All-set, Kind, IsRecord, is_printable, columns, column, kind_of, HasKind, IsTextOfLength, CheckedField, HasGoodFields}
+use Rattle.cif_laws.proofs.Common.{checked_fields, as_new}
+use Rattle.std.proofs.Common.{length-set}
+use Rattle.std.proofs.lemmas.List.{get_or-set_other, get_or-set_same, take-set}
+use Rattle.docker_model.specs.records.Field.{fields_of, HasNewTransaction}
 
 -- the field is good in this record
 abbrev pub IsGoodIn : List ℕ → CheckedField → Type 0

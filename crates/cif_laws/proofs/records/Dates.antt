@@ -1,15 +1,13 @@
 -- Lemmas on day numbers, and on their relation to the calendar of the crate `jiff`.
-use Rattle.std.proofs.Common.{◌≡◌, ℕ, ◌≤◌, true, pos, arith, zero, suc, ◌+◌, ◌<◌, ◌∙◌, subst, Bool, false, cond, refl, inl, inr, ◌-◌}
-use Rattle.std.proofs.Common.{rules}
-use Rattle.std.specs.Prelude.{◌↔◌, nat_le, count_by}
+use Rattle.cif_laws.proofs.Common.{◌≡◌, ℕ, ◌≤◌, true, pos, arith, zero, suc, ◌+◌, ◌<◌, ◌∙◌, subst, Bool, false, cond, refl, inl, inr, ◌-◌, rules, ◌↔◌, nat_le}
+use Rattle.cif_laws.proofs.Common.{leb-true, le-leb, cases_order, lt-leb, is_calendar_day, day_number, day_text, date_text}
+use Rattle.std.specs.Prelude.{count_by}
 use Rattle.std.specs.List.{range_with_len}
-use Rattle.std.proofs.lemmas.Bool.{leb-true, le-leb, cases_order, lt-leb}
 use Rattle.std.proofs.lemmas.List.Sums.{sum_by-cons}
 use Rattle.jiff_core.specs.Calendar.{IsDate, days_in_month, day_count, days_of_years, days_of_months, IsCivilDate}
 use Rattle.jiff_core.proofs.SignedLemmas.{signed_arith}
 use Rattle.jiff_core.proofs.CalendarLemmas.{days_in_month_bounds, day_count-lt_year, day_count-lt_month, day_count-day, days_from_civil-day_count}
-use Rattle.docker_model.specs.records.Date.{is_calendar_day, day_number, year_of, month_of, day_of_month}
-use Rattle.docker_model.specs.records.PrintedTime.{day_text, date_text}
+use Rattle.docker_model.specs.records.Date.{year_of, month_of, day_of_month}
 use Rattle.cif_laws.proofs.lists.BoolsAndOptions.{and_true as and_both, both}
 
 -- a year, a month and a day pass the test `is_calendar_day` if and only if they are a date in the

@@ -1,18 +1,12 @@
 -- The values of good fields: day numbers, minutes, TIPLOCs and letters are within their bounds.
-use Rattle.std.proofs.Common.{◌≡◌, ℕ, ◌≤◌, List, true, arith, ◌+◌, refl, rules}
-use Rattle.std.proofs.lemmas.Grind.{common_steps}
-use Rattle.std.proofs.Common.{false, pos, ◌<◌, sym, ◌∙◌, ◌⊎◌, eqb-true}
-use Rattle.std.specs.Prelude.{slice_index, not, ◌==◌, ◌||◌}
-use Rattle.std.specs.List.{list_all}
-use Rattle.std.specs.Char.{is_ascii_digit}
-use Rattle.std.proofs.lemmas.Bool.{leb-true, leb-false, ltb-true}
+use Rattle.cif_laws.proofs.Common.{◌≡◌, ℕ, ◌≤◌, List, true, arith, ◌+◌, refl, rules, common_steps, false, pos, ◌<◌, sym, ◌∙◌, ◌⊎◌, eqb-true, slice_index, not}
+use Rattle.cif_laws.proofs.Common.{◌==◌, ◌||◌, list_all, is_ascii_digit, leb-true, leb-false, ltb-true, two_digits, full_year, is_calendar_day, day_number}
+use Rattle.cif_laws.proofs.Common.{IsDay, is_date, date_number, is_date_day_first, is_clock, is_blank, is_tiploc, is_new_tiploc}
 use Rattle.jiff_core.specs.Calendar.{day_count, days_of_years, days_of_months}
 use Rattle.jiff_core.proofs.SignedLemmas.{signed_arith}
 use Rattle.jiff_core.proofs.CalendarLemmas.{day_count-lt_year}
-use Rattle.docker_model.specs.records.Date.{two_digits, full_year, is_calendar_day, day_number, IsDay}
-use Rattle.docker_model.specs.records.Date.{is_date, date_number, is_date_day_first, date_number_day_first}
-use Rattle.docker_model.specs.records.Clock.{is_clock, minute_of, is_blank}
-use Rattle.docker_model.specs.records.Field.{is_tiploc, is_new_tiploc}
+use Rattle.docker_model.specs.records.Date.{date_number_day_first}
+use Rattle.docker_model.specs.records.Clock.{minute_of}
 use Rattle.cif_laws.proofs.records.Dates.{is_calendar_day-IsDate, day_number-day_count}
 use Rattle.cif_laws.proofs.lists.BoolsAndOptions.{both, either}
 

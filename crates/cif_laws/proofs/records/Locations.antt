@@ -1,6 +1,5 @@
 -- Location records: an origin, an intermediate location or a terminus.
-use Rattle.std.proofs.Common.{ℕ, List, ◌⊎◌}
-use Rattle.docker_model.specs.records.Record.{origin_location, intermediate_location, terminating_location, HasKind}
+use Rattle.cif_laws.proofs.Common.{ℕ, List, ◌⊎◌, origin_location, intermediate_location, terminating_location, HasKind}
 
 -- the record is a location record
 abbrev pub IsLocation : List ℕ → Type 0

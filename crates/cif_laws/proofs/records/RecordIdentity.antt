@@ -1,13 +1,10 @@
 -- Lemmas on the kind of a record, and on the record identity in its first two columns.
-use Rattle.std.proofs.Common.{◌≡◌, ℕ, List, [], ◌∷◌, refl, ap, sym, ◌∙◌, Some, Bool, true, false, cond}
-use Rattle.std.specs.Prelude.{option_map, find, codes}
-use Rattle.std.specs.List.{AllByRecursion}
-use Rattle.std.specs.Str.{bytes_eq}
-use Rattle.std.proofs.lemmas.Slice.Eq.{bytes_eq-Decides}
-use Rattle.docker_model.specs.records.Record.{Kind, header, tiploc_insert, tiploc_amend, tiploc_delete, association}
-use Rattle.docker_model.specs.records.Record.{basic_schedule, extra_details, origin_location, intermediate_location}
-use Rattle.docker_model.specs.records.Record.{terminating_location, change_en_route, trailer, HasKind, columns, identities}
-use Rattle.docker_model.specs.docker.Event.{has_identity}
+use Rattle.cif_laws.proofs.Common.{◌≡◌, ℕ, List, [], ◌∷◌, refl, ap, sym, ◌∙◌, Some, Bool, true, false, cond, option_map, find, codes, AllByRecursion, bytes_eq}
+use Rattle.cif_laws.proofs.Common.{bytes_eq-Decides, Kind, header, tiploc_insert, tiploc_amend, association, basic_schedule, origin_location}
+use Rattle.cif_laws.proofs.Common.{intermediate_location, terminating_location, change_en_route, trailer, HasKind, columns, has_identity}
+use Rattle.docker_model.specs.records.Record.{tiploc_delete}
+use Rattle.docker_model.specs.records.Record.{extra_details}
+use Rattle.docker_model.specs.records.Record.{identities}
 
 -- the record identity of a kind
 abbrev pub identity_of : Kind → List ℕ

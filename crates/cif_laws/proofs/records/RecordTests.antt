@@ -1,18 +1,10 @@
 -- Tests of a record, and the number of times that a schedule passes midnight, counted record by
 -- record.
-use Rattle.std.proofs.Common.{ℕ, List, ◌≡◌, refl, true, ◌+◌, [], ◌∷◌, length, ◌∙◌, cond, arith, Bool, false, rules}
-use Rattle.std.proofs.Common.{◌≤◌, Some, None, sym, ap, eqb-true, ◌++◌, map, subst}
-use Rattle.std.specs.Prelude.{not, option_map, nat_lt, ◌↔◌, Option}
-use Rattle.std.specs.List.{prefix_len, AllByRecursion, AllPass, flat_map}
-use Rattle.std.proofs.lemmas.Bool.{ltb-true, ltb-false}
-use Rattle.std.proofs.lemmas.List.{map-append}
-use Rattle.std.proofs.lemmas.Grind.{flat_map-append}
-use Rattle.std.proofs.lemmas.List.Elements.{recursion_from_All, All-from_recursion}
-use Rattle.docker_model.specs.records.Record.{is_printable, leftmost_bad_byte, IsRecord, Kind, HasKind}
-use Rattle.docker_model.specs.records.Record.{kind_of}
-use Rattle.docker_model.specs.records.Clock.{is_present_time, is_scheduled_time, scheduled_time}
-use Rattle.docker_model.specs.records.Field.{HasGoodFields}
-use Rattle.docker_model.specs.file.Journey.{fall_count, Occasion, times_of, times_along, midnights, times_by_kind, timed}
+use Rattle.cif_laws.proofs.Common.{ℕ, List, ◌≡◌, refl, true, ◌+◌, ◌∷◌, length, ◌∙◌, cond, arith, Bool, false, rules, [], ◌≤◌, Some, None, sym, ap, eqb-true}
+use Rattle.cif_laws.proofs.Common.{◌++◌, map, not, option_map, nat_lt, ◌↔◌, prefix_len, AllByRecursion, AllPass, flat_map, ltb-true, ltb-false, map-append}
+use Rattle.cif_laws.proofs.Common.{flat_map-append, recursion_from_All, All-from_recursion, is_printable, leftmost_bad_byte, IsRecord, Kind, HasKind, kind_of}
+use Rattle.cif_laws.proofs.Common.{is_present_time, is_scheduled_time, scheduled_time, HasGoodFields, fall_count, Occasion, times_of, times_along, midnights}
+use Rattle.cif_laws.proofs.Common.{times_by_kind, timed}
 use Rattle.cif_laws.specs.RecordTest.{is_record}
 use Rattle.cif_laws.specs.TimesSoFar.{falls_after, last_of, later_or}
 use Rattle.cif_laws.proofs.lists.AllOf.{all_append, all_map}
@@ -149,11 +141,10 @@ times_by_kind_within : (kind : Kind) (line : List ℕ) → HasKind kind line →
 times_by_kind_within = search (rules, good_fields, timed_within, present_scheduled, all_append)
 
 times_within : (line : List ℕ) → HasGoodFields line → AllByRecursion IsWithinDay (times_of line)
-times_within line good = by (kind_of line) refl
-  where
-    by : (kind : Option Kind) → kind_of line ≡ kind → AllByRecursion IsWithinDay (times_by_kind (kind_of line) line)
-    by None h = subst (λ k. AllByRecursion IsWithinDay (times_by_kind k line)) (sym h) tt
-    by (Some kind) h = subst (λ k. AllByRecursion IsWithinDay (times_by_kind k line)) (sym h) (times_by_kind_within kind line h good)
+times_within line good = (elim (kind_of line) as (λ kind. kind_of line ≡ kind → AllByRecursion IsWithinDay (times_by_kind kind line)) [
+  | None ↦ λ h. tt
+  | Some kind ↦ λ h. times_by_kind_within kind line h good
+]) refl
 
 lines_within : (lines : List (List ℕ)) → AllByRecursion HasGoodFields lines → AllByRecursion IsWithinDay (flat_map times_of lines)
 lines_within [] all = tt

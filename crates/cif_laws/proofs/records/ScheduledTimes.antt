@@ -1,7 +1,5 @@
 -- A scheduled time that is present isn't blank, so `scheduled_time` isn't `None`.
-use Rattle.std.proofs.Common.{◌≡◌, ℕ, List, Some, None, true, false, cond, rules}
-use Rattle.std.proofs.lemmas.Bool.{eqb-true}
-use Rattle.docker_model.specs.records.Clock.{is_blank, is_present_time, half_minutes, scheduled_time}
+use Rattle.cif_laws.proofs.Common.{◌≡◌, ℕ, List, Some, None, true, false, cond, rules, eqb-true, is_blank, is_present_time, half_minutes, scheduled_time}
 use Rattle.cif_laws.proofs.lists.BoolsAndOptions.{both}
 
 -- a scheduled time that is present isn't blank

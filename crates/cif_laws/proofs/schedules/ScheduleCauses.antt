@@ -1,15 +1,9 @@
 -- The cause of the fault at a record that can't continue a schedule, given the reader's stage
 -- before the record. The cause is the same when the schedule is read as part of a file.
-use Rattle.std.proofs.Common.{◌≡◌, ℕ, List, refl, ap, ◌<◌, ◌⊎◌, inl, inr, sym, ◌∙◌, ◌≤◌, None, rules}
-use Rattle.std.proofs.Common.{arith, [], ◌∷◌, Bool, true, false, cond, Some, ◌++◌, subst, length}
-use Rattle.std.specs.Prelude.{Option, is_none, is_some, option_map, ◌&&◌}
-use Rattle.std.proofs.lemmas.Bool.{cases_order, lt-leb}
-use Rattle.docker_model.specs.records.Record.{Lines, kind_of, Kind, basic_schedule, IsRecord}
-use Rattle.docker_model.specs.records.Field.{leftmost_bad_field, is_deletion}
-use Rattle.docker_model.specs.file.Journey.{midnights}
-use Rattle.docker_model.specs.file.File.{BeginsSchedule, first_record, follows_basic}
-use Rattle.docker_model.specs.file.FileFault.{FileCause, bad_kind}
-use Rattle.docker_model.specs.file.FileFault.{bad_place, bad_field, third_midnight, cause_rank}
+use Rattle.cif_laws.proofs.Common.{◌≡◌, ℕ, List, refl, ap, ◌<◌, ◌⊎◌, inl, inr, sym, ◌∙◌, ◌≤◌, None, rules, [], arith, ◌∷◌, Bool, true, false, cond, Some, ◌++◌}
+use Rattle.cif_laws.proofs.Common.{subst, length, Option, is_none, is_some, option_map, ◌&&◌, cases_order, lt-leb, Lines, kind_of, Kind, basic_schedule}
+use Rattle.cif_laws.proofs.Common.{IsRecord, leftmost_bad_field, is_deletion, midnights, BeginsSchedule, first_record, follows_basic, FileCause, bad_kind}
+use Rattle.cif_laws.proofs.Common.{bad_place, bad_field, third_midnight, cause_rank}
 use Rattle.cif_laws.specs.ScheduleFault.{HoldsInSchedule, IsScheduleFault, IsOutOfSchedule}
 use Rattle.cif_laws.specs.RecordTest.{is_record, has_good_fields}
 use Rattle.cif_laws.specs.ScheduleStage.{after_basic, is_first_line, is_basic_kind, Stage, next_stage, stage_of, stage_after, may_end, is_sound_next}
@@ -23,6 +17,8 @@ use Rattle.cif_laws.proofs.schedules.ScheduleStages.{front_begins, first_line_if
 use Rattle.cif_laws.proofs.schedules.ScheduleStages.{IsSound, IsFront, details_of, midnights_of_journey, test_by_next_line, front_of_stage}
 use Rattle.cif_laws.proofs.schedules.ScheduleStages.{schedule_out_of_place, schedule_in_place, IsNoNextLine, no_next_line}
 use Rattle.cif_laws.proofs.files.FileStages.{stage_stops, tracked_place}
+use Rattle.cif_laws.proofs.lists.BoolsAndOptions.{when_some}
+use Rattle.cif_laws.proofs.schedules.ScheduleFronts.{begins_decided}
 
 -- ---- the fault at a record that can't continue a schedule has at most one cause
 
@@ -42,26 +38,15 @@ none_below = search rules
 
 -- a record that begins a schedule passes the test `is_first_line`
 begins_first : (line : List ℕ) → BeginsSchedule (line ∷ []) → is_first_line line ≡ true
-begins_first line begins = by (is_first_line line) ((begins_iff_stage line []).0 begins).1
-  where
-    by : (b : Bool) → cond b (Some after_basic) None ≡ Some ((begins_iff_stage line []).0 begins).0 → b ≡ true
-    by true h = refl
-    by false h = cc
+begins_first line begins = (when_some (is_first_line line) (Some after_basic) _ ((begins_iff_stage line []).0 begins).1).0
 
 basic_is : (kind : Option Kind) → is_basic_kind kind ≡ true → kind ≡ Some basic_schedule
 basic_is = search rules
 
 -- a good basic schedule begins some schedule
 witness_begins : BeginsSchedule (witness basic_schedule ∷ [])
-witness_begins = front_begins after_basic (witness basic_schedule ∷ []) (search (
-  rules,
-  front_of_basic,
-  witness,
-  record_iff_test,
-  witness_record,
-  witness_kind,
-  witness_fields,
-))
+witness_begins = front_begins after_basic (witness basic_schedule ∷ [])
+    (search (rules, front_of_basic, witness, record_iff_test, witness_record, witness_kind, witness_fields))
 
 kind_is_known : (line : List ℕ) (kind : Kind) → kind_of line ≡ Some kind → ¬ (kind_of line ≡ None)
 kind_is_known line kind is none = let bad : None ≡ Some kind = sym none ∙ is in cc
@@ -82,12 +67,7 @@ first_line_fault line is test = by (kind_of line) refl
     field : (bad : Option ℕ) → leftmost_bad_field line ≡ bad → kind_of line ≡ Some basic_schedule
         → IsScheduleFault [] line (with_column bad_field bad third_midnight)
     field None h kind = search (rules, first_line_iff_test)
-    field (Some at) h kind = record {
-      earlier_begin = no_lines_begin;
-      here = here;
-      holds = h;
-      first = none_below [] line 6 (omega arith) (λ _. kind_is_known line basic_schedule kind) (λ _. inside kind) (λ below. absurd (omega arith));
-    }
+    field (Some at) h kind = search (rules, no_lines_begin, none_below, kind_is_known, here, inside)
 
     placed : (kind : Kind) → kind_of line ≡ Some kind → (b : Bool) → is_basic_kind (Some kind) ≡ b
         → IsScheduleFault [] line (cond b (field_cause line) bad_place)
@@ -111,11 +91,10 @@ begins_next_stage (basic ∷ rest) stage line next at found = (begins_more_iff _
 -- begin no schedule, this record leads to no next stage
 pub no_next_stage : (lines : Lines) (stage : Stage) (line : List ℕ) → stage_of lines ≡ Some stage → ¬ BeginsSchedule (lines ++ line ∷ [])
     → next_stage stage lines line ≡ None
-no_next_stage lines stage line at here = by (next_stage stage lines line) refl
-  where
-    by : (next : Option Stage) → next_stage stage lines line ≡ next → next_stage stage lines line ≡ None
-    by None h = h
-    by (Some next) h = absurd (here (begins_next_stage lines stage line next at h))
+no_next_stage lines stage line at here = (elim (next_stage stage lines line) as (λ next. next_stage stage lines line ≡ next → next ≡ None) [
+  | None ↦ λ h. refl
+  | Some next ↦ λ h. absurd (here (begins_next_stage lines stage line next at h))
+]) refl
 
 -- if a record leads to no next stage, the cause of its fault is `schedule_cause`
 pub schedule_fault : (earlier : Lines) (stage : Stage) (line : List ℕ) → stage_of earlier ≡ Some stage → IsRecord line → next_stage stage earlier line ≡ None
@@ -162,42 +141,28 @@ schedule_fault (basic ∷ rest) stage line at is nowhere = by (kind_of line) ref
 
     placed : (kind : Kind) → kind_of line ≡ Some kind → (after : Option Stage) → stage_after stage (Some kind) ≡ after → IsScheduleFault (basic ∷ rest) line
         (cond (is_none after) bad_place (field_cause line))
-    placed kind h None after = record {
-      earlier_begin = begin;
-      here = here;
-      holds = schedule_out_of_place basic rest stage line at (ap (stage_after stage) h ∙ after);
-      first = none_below (basic ∷ rest) line 5 (omega arith) (λ _. kind_is_known line kind h) (λ below. absurd (omega arith)) (λ below. absurd (omega arith));
-    }
+    placed kind h None after = search (rules, schedule_out_of_place, none_below, kind_is_known, begin, here)
     placed kind h (Some next) after = told kind next h after (no_next_line stage (basic ∷ rest) line is nowhere)
 
     by : (kind : Option Kind) → kind_of line ≡ kind → IsScheduleFault (basic ∷ rest) line
         (cond (is_none kind) bad_kind (cond (is_none (stage_after stage kind)) bad_place (field_cause line)))
-    by None h = record {
-      earlier_begin = begin;
-      here = here;
-      holds = h;
-      first = none_below (basic ∷ rest) line 4 (omega arith) (λ below. absurd (omega arith)) (λ below. absurd (omega arith)) (λ below. absurd (omega arith));
-    }
+    by None h = search (rules, none_below, begin, here)
     by (Some kind) h = placed kind h (stage_after stage (Some kind)) refl
 
 -- after records that begin a schedule, one more record continues the schedule or is at fault
 pub goes_on_or_fault : (earlier : Lines) (line : List ℕ) → BeginsSchedule earlier → IsRecord line → BeginsSchedule (earlier ++ line ∷ [])
     ⊎ ((cause : FileCause) × IsScheduleFault earlier line cause)
-goes_on_or_fault [] line begins is = by (is_first_line line) refl
-  where
-    by : (b : Bool) → is_first_line line ≡ b → BeginsSchedule (line ∷ []) ⊎ ((cause : FileCause) × IsScheduleFault [] line cause)
-    by true h = inl ((begins_iff_stage line []).1 (after_basic, λ i. cond (h i) (Some after_basic) None))
-    by false h = inr (first_line_cause line, first_line_fault line is h)
-goes_on_or_fault (basic ∷ rest) line begins is = by ((begins_iff_stage basic rest).0 begins)
-  where
-    by : (stage : Stage) × (stage_of (basic ∷ rest) ≡ Some stage) → BeginsSchedule (basic ∷ rest ++ line ∷ [])
-        ⊎ ((cause : FileCause) × IsScheduleFault (basic ∷ rest) line cause)
-    by at = staged (next_stage at.0 (basic ∷ rest) line) refl
-      where
-        staged : (next : Option Stage) → next_stage at.0 (basic ∷ rest) line ≡ next → BeginsSchedule (basic ∷ rest ++ line ∷ [])
-            ⊎ ((cause : FileCause) × IsScheduleFault (basic ∷ rest) line cause)
-        staged None h = inr (schedule_cause at.0 line, schedule_fault (basic ∷ rest) at.0 line at.1 is h)
-        staged (Some next) h = inl (begins_next_stage (basic ∷ rest) at.0 line next at.1 h)
+goes_on_or_fault [] line begins is =
+    (elim (is_first_line line) as (λ b. is_first_line line ≡ b → BeginsSchedule (line ∷ []) ⊎ ((cause : FileCause) × IsScheduleFault [] line cause)) [
+      | true ↦ λ h. inl ((begins_iff_stage line []).1 (after_basic, λ i. cond (h i) (Some after_basic) None))
+      | false ↦ λ h. inr (first_line_cause line, first_line_fault line is h)
+    ]) refl
+goes_on_or_fault (basic ∷ rest) line begins is = elim (begins_decided (basic ∷ rest ++ line ∷ [])) [
+  | inl on ↦ inl on
+  | inr here ↦
+      let at = (begins_iff_stage basic rest).0 begins in
+      inr (schedule_cause at.0 line, schedule_fault (basic ∷ rest) at.0 line at.1 is (no_next_stage (basic ∷ rest) at.0 line at.1 here))
+]
 
 -- ---- a fault at a record of a schedule has the same cause whether the record is judged as part of
 -- the schedule or as part of a file

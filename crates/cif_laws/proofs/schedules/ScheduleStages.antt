@@ -1,25 +1,21 @@
 -- The stage of a reader in a schedule determines which records may follow. It also determines
 -- whether the records up to the stage are a schedule.
-use Rattle.std.proofs.Common.{◌≡◌, ℕ, List, ◌∷◌, [], ◌⊎◌, true, ◌+◌, ◌++◌, inl, refl, Some, ap, inr, arith, ◌∙◌, ◌≤◌, rules}
-use Rattle.std.proofs.lemmas.Grind.{common_steps}
-use Rattle.std.proofs.Common.{Bool, false, subst, append_assoc, cond, None, sym, eqb-true, append-nil, All, ◌<◌}
-use Rattle.std.specs.Prelude.{Option, ◌&&◌, ◌↔◌, nat_le, ◌||◌, codes, option_and_then, is_none}
-use Rattle.std.specs.List.{AllByRecursion}
-use Rattle.std.proofs.lemmas.Bool.{leb-true, le-leb, leb-false}
-use Rattle.std.proofs.lemmas.List.Elements.{All-from_recursion, recursion_from_All}
-use Rattle.docker_model.specs.records.Record.{origin_location, HasKind, Lines, basic_schedule, IsRecord, Kind, kind_of}
-use Rattle.docker_model.specs.records.Record.{extra_details, intermediate_location, terminating_location, change_en_route}
-use Rattle.docker_model.specs.records.Record.{column, header, tiploc_insert, tiploc_amend, tiploc_delete, association, trailer}
-use Rattle.docker_model.specs.records.Field.{is_deletion, HasGoodFields, leftmost_bad_field}
-use Rattle.docker_model.specs.file.Journey.{times_along, fall_count, midnights}
-use Rattle.docker_model.specs.file.File.{IsWithinJourney, IsJourney, AreExtraDetails, IsSoundJourney, first_record, MayLackJourney, IsSchedule, BeginsSchedule}
+use Rattle.cif_laws.proofs.Common.{◌≡◌, ℕ, List, ◌∷◌, ◌⊎◌, true, ◌+◌, ◌++◌, inl, refl, Some, ap, inr, arith, ◌∙◌, ◌≤◌, rules, [], common_steps, Bool, false}
+use Rattle.cif_laws.proofs.Common.{subst, append_assoc, cond, None, sym, eqb-true, append-nil, All, ◌<◌, Option, ◌&&◌, ◌↔◌, nat_le, ◌||◌, codes}
+use Rattle.cif_laws.proofs.Common.{option_and_then, is_none, AllByRecursion, leb-true, le-leb, leb-false, All-from_recursion, recursion_from_All}
+use Rattle.cif_laws.proofs.Common.{origin_location, HasKind, Lines, basic_schedule, IsRecord, Kind, kind_of, intermediate_location, terminating_location}
+use Rattle.cif_laws.proofs.Common.{change_en_route, header, tiploc_insert, tiploc_amend, association, trailer, is_deletion, HasGoodFields, leftmost_bad_field}
+use Rattle.cif_laws.proofs.Common.{times_along, fall_count, midnights, IsWithinJourney, IsJourney, AreExtraDetails, first_record, IsSchedule, BeginsSchedule}
+use Rattle.docker_model.specs.records.Record.{extra_details}
+use Rattle.docker_model.specs.records.Record.{tiploc_delete}
+use Rattle.docker_model.specs.file.File.{IsSoundJourney, MayLackJourney}
 use Rattle.cif_laws.specs.RecordTest.{is_record, has_good_fields}
 use Rattle.cif_laws.specs.TimesSoFar.{falls_after, last_of}
 use Rattle.cif_laws.specs.ScheduleStage.{in_journey, after_basic, Stage, after_details, after_journey, is_first_line}
 use Rattle.cif_laws.specs.ScheduleStage.{is_sound_next, stage_after, next_stage, may_lack, may_end, stage_from, stage_of}
 use Rattle.cif_laws.proofs.records.Builders.{no_text, hd, ti, ta, aa, bs, lo, li, lt, cr, zz, wide}
 use Rattle.cif_laws.proofs.lists.AllOf.{all_append}
-use Rattle.cif_laws.proofs.lists.BoolsAndOptions.{both, none_by_test, test_by_none, and_true, either, then_some, some_then}
+use Rattle.cif_laws.proofs.lists.BoolsAndOptions.{both, none_by_test, test_by_none, and_true, either, then_some, some_then, when_some, when_unsound}
 use Rattle.cif_laws.proofs.records.RecordTests.{record_iff_test, no_times, no_times_before, midnights_step, last_time}
 use Rattle.cif_laws.proofs.records.RecordTests.{no_fall_last, times_append, along_within, fewer_midnights}
 
@@ -113,23 +109,23 @@ sound_next_by_count lines line = λ i. is_deletion (first_record lines) || (has_
 -- a sound journey is still sound after a record that passes the test `is_sound_next` is appended
 sound_more : (stage : Stage) (lines : Lines) (line : List ℕ) (front : IsFront stage lines) → is_sound_next lines line ≡ true
     → IsSound front.basic (front.journey ++ line ∷ [])
-sound_more stage lines line front test = by (sound_next_by_test lines _ test) front.sound
-  where
-    same_whole : lines ++ line ∷ [] ≡ front.basic ∷ front.extra ++ (front.journey ++ line ∷ [])
-    same_whole = (λ i. front.whole i ++ line ∷ []) ∙ ap (λ rest. front.basic ∷ rest) (append_assoc front.extra front.journey (line ∷ []))
-
-    by : (is_deletion (first_record lines) ≡ true) ⊎ IsSoundNext lines line → IsSound front.basic front.journey
-        → IsSound front.basic (front.journey ++ line ∷ [])
-    by told (inl deletion) = inl deletion
-    by (inl deletion) (inr good) = inl (subst (λ l. is_deletion (first_record l) ≡ true) front.whole deletion)
-    by (inr next) (inr good) =
-        let same = ap midnights same_whole ∙ midnights_of_journey front.basic _ (front.journey ++ line ∷ []) front.kind
+sound_more stage lines line front test = elim (sound_next_by_test lines _ test) [
+  | inl deletion ↦ inl (subst (λ l. is_deletion (first_record l) ≡ true) front.whole deletion)
+  | inr next ↦ elim front.sound [
+    | inl deletion ↦ inl deletion
+    | inr good ↦
+        let whole = (λ i. front.whole i ++ line ∷ [])
+        ∙ ap (λ rest. front.basic ∷ rest) (append_assoc front.extra front.journey (line ∷ [])) in
+        let same = ap midnights whole ∙ midnights_of_journey front.basic _ (front.journey ++ line ∷ []) front.kind
         (details_of _ front.extra _ front.shape) in
-        let falls = next.falls in
+        let falls : midnights (lines ++ line ∷ []) ≤ 2 = next.falls in
         inr (record {
-          fields = All-from_recursion HasGoodFields (front.journey ++ line ∷ []) (search (rules, all_append, recursion_from_All));
+          fields = All-from_recursion HasGoodFields (front.journey ++ line ∷ [])
+              (all_append _ _ _ (recursion_from_All HasGoodFields front.journey good.fields) (next.fields, tt));
           falls = omega arith;
         })
+  ]
+]
 
 -- what the test of the next line requires: the line is a record, the record is sound, and its kind
 -- leads to the stage `next`
@@ -142,12 +138,10 @@ pub record IsNextLine (stage : Stage) (lines : Lines) (line : List ℕ) (next : 
 -- stage
 pub next_line_by_test : (stage : Stage) (lines : Lines) (line : List ℕ) (next : Stage) → next_stage stage lines line ≡ Some next
     → IsNextLine stage lines line next
-next_line_by_test stage lines line next is = by (is_record line && is_sound_next lines line) refl is
-  where
-    by : (b : Bool) → (is_record line && is_sound_next lines line) ≡ b → cond b (stage_after stage (kind_of line)) None ≡ Some next
-        → IsNextLine stage lines line next
-    by true h found = let parts = both (is_record line) _ h in record { is = (record_iff_test line).1 parts.0; sound = parts.1; stage_is = found }
-    by false h found = cc
+next_line_by_test stage lines line next is =
+    let told = when_some (is_record line && is_sound_next lines line) (stage_after stage (kind_of line)) next is in
+    let parts = both (is_record line) (is_sound_next lines line) told.0 in
+    record { is = (record_iff_test line).1 parts.0; sound = parts.1; stage_is = told.1 }
 
 -- if a record is sound, and its kind leads the reader to a next stage, the record itself leads to
 -- that stage
@@ -206,6 +200,12 @@ lack_by_test = search (rules, either, eqb-true)
 pub test_by_lack : (basic : List ℕ) → MayLackJourney basic → may_lack basic ≡ true
 test_by_lack = search rules
 
+-- at a stage at which the schedule may end, the journey is complete, or it is missing and may be
+-- missing
+journey_by : (stage : Stage) (basic : List ℕ) (extra journey : Lines) → HasShape stage extra journey → may_end stage (basic ∷ extra ++ journey) ≡ true
+    → IsJourney journey ⊎ ((journey ≡ []) × MayLackJourney basic)
+journey_by = search (rules, lack_by_test)
+
 -- if records have the structure of a stage at which the schedule may end, they are a schedule
 pub schedule_of_front : (stage : Stage) (lines : Lines) → IsFront stage lines → may_end stage lines ≡ true → IsSchedule lines
 schedule_of_front stage lines front test = record {
@@ -217,16 +217,9 @@ schedule_of_front stage lines front test = record {
   kind = front.kind;
   fields = front.fields;
   details = details_of stage front.extra front.journey front.shape;
-  journey_or_none = by stage front.shape (subst (λ l. may_end stage l ≡ true) front.whole test);
+  journey_or_none = journey_by stage _ _ _ front.shape (subst (λ l. may_end stage l ≡ true) front.whole test);
   sound = front.sound;
 }
-  where
-    by : (s : Stage) → HasShape s front.extra front.journey → may_end s (front.basic ∷ front.extra ++ front.journey) ≡ true → IsJourney front.journey
-        ⊎ ((front.journey ≡ []) × MayLackJourney front.basic)
-    by after_basic shape h = inr (shape.1, lack_by_test front.basic h)
-    by after_details shape h = inr (shape.1, lack_by_test front.basic h)
-    by in_journey shape h = cc
-    by after_journey shape h = inl shape.1
 
 -- ---- for each kind of record, one good record
 
@@ -268,27 +261,28 @@ witness_times = search rules
 
 -- after records with the structure of any stage, the record `witness kind` is sound
 pub witness_sound : (stage : Stage) (lines : Lines) (kind : Kind) → IsFront stage lines → is_sound_next lines (witness kind) ≡ true
-witness_sound stage lines kind front = test_by_sound_next lines _ (by front.sound)
+witness_sound stage lines kind front = test_by_sound_next lines (witness kind) (elim front.sound [
+  | inl deletion ↦ inl (subst (λ l. is_deletion (first_record l) ≡ true) (sym front.whole) deletion)
+  | inr good ↦ inr (record {
+    fields = witness_fields kind;
+    falls = elim (witness_times _) [
+      | inl none ↦
+          let whole = joined [] none ∙ ap fall_count (append-nil (times_along front.journey)) in
+          let falls : midnights front.journey ≤ 2 = good.falls in omega arith
+      | inr one ↦
+          let whole = joined (last_time ∷ []) one ∙ no_fall_last (times_along front.journey)
+          (along_within _ (recursion_from_All HasGoodFields front.journey good.fields)) in
+          let falls : midnights front.journey ≤ 2 = good.falls in omega arith
+    ];
+  })
+])
   where
-    by : IsSound front.basic front.journey → (is_deletion (first_record lines) ≡ true) ⊎ IsSoundNext lines (witness kind)
-    by (inl deletion) = inl (subst (λ l. is_deletion (first_record l) ≡ true) (sym front.whole) deletion)
-    by (inr good) = inr (record {
-      fields = witness_fields kind;
-      falls = elim (witness_times _) [
-        | inl none ↦ let whole = joined [] none ∙ ap fall_count (append-nil (times_along front.journey)) in let falls = good.falls in omega arith
-        | inr one ↦
-            let whole = joined (last_time ∷ []) one ∙ no_fall_last (times_along front.journey)
-            (along_within _ (recursion_from_All HasGoodFields front.journey good.fields)) in
-            let falls = good.falls in omega arith
-      ];
-    })
-      where
-        same : times_along lines ≡ times_along front.journey
-        same = ap times_along front.whole ∙ times_of_journey front.basic _ front.journey front.kind (details_of _ front.extra _ front.shape)
+    same : times_along lines ≡ times_along front.journey
+    same = ap times_along front.whole ∙ times_of_journey front.basic _ front.journey front.kind (details_of _ front.extra _ front.shape)
 
-        joined : (times : List ℕ) → times_along (witness kind ∷ []) ≡ times → midnights (lines ++ witness kind ∷ []) ≡ fall_count
-            (times_along front.journey ++ times)
-        joined times is = ap fall_count (times_append lines _ ∙ (λ i. same i ++ is i))
+    joined : (times : List ℕ) → times_along (witness kind ∷ []) ≡ times → midnights (lines ++ witness kind ∷ []) ≡ fall_count
+        (times_along front.journey ++ times)
+    joined times is = ap fall_count (times_append lines _ ∙ (λ i. same i ++ is i))
 
 -- suppose that records have the structure of a stage, and that a kind leads to a next stage. With
 -- the record `witness kind` appended, the records have the structure of that next stage
@@ -300,21 +294,17 @@ witness_front = search (rules, next_front, witness, test_by_next_line, record_if
 pub begins_shorter : (front rest : Lines) → BeginsSchedule (front ++ rest) → BeginsSchedule front
 begins_shorter front rest begins = (rest ++ begins.0, subst IsSchedule (append_assoc front rest begins.0) begins.1)
 
+begins_ended : (lines : Lines) → IsFront after_journey lines → BeginsSchedule lines
+begins_ended lines front = ([], subst IsSchedule (sym (append-nil lines)) (schedule_of_front _ _ front refl))
+
+begins_inside : (lines : Lines) → IsFront in_journey lines → BeginsSchedule lines
+begins_inside lines front = begins_shorter _ _ (begins_ended (lines ++ witness terminating_location ∷ []) (witness_front _ _ _ _ front refl))
+
 -- records with the structure of a stage begin some schedule
 pub front_begins : (stage : Stage) (lines : Lines) → IsFront stage lines → BeginsSchedule lines
-front_begins stage lines front = by stage lines front
-  where
-    ended : (l : Lines) → IsFront after_journey l → BeginsSchedule l
-    ended l f = ([], subst IsSchedule (sym (append-nil l)) (schedule_of_front _ _ f refl))
-
-    inside : (l : Lines) → IsFront in_journey l → BeginsSchedule l
-    inside l f = begins_shorter _ _ (ended (l ++ witness terminating_location ∷ []) (witness_front _ _ _ _ f refl))
-
-    by : (s : Stage) (l : Lines) → IsFront s l → BeginsSchedule l
-    by after_basic l f = begins_shorter _ _ (inside (l ++ witness origin_location ∷ []) (witness_front _ _ _ _ f refl))
-    by after_details l f = begins_shorter _ _ (inside (l ++ witness origin_location ∷ []) (witness_front _ _ _ _ f refl))
-    by in_journey l f = inside l f
-    by after_journey l f = ended l f
+front_begins in_journey lines front = begins_inside lines front
+front_begins after_journey lines front = begins_ended lines front
+front_begins stage lines front = begins_shorter _ _ (begins_inside (lines ++ witness origin_location ∷ []) (witness_front _ _ _ _ front refl))
 
 -- ---- the stage to which records lead determines their structure
 
@@ -329,11 +319,9 @@ front_from (line ∷ rest) stage done final front found =
 -- if records lead the reader to the stage `stage`, they have the structure of `stage`
 pub front_of_stage : (lines : Lines) (stage : Stage) → stage_of lines ≡ Some stage → IsFront stage lines
 front_of_stage [] stage found = cc
-front_of_stage (basic ∷ rest) stage found = by (is_first_line basic) refl found
-  where
-    by : (b : Bool) → is_first_line basic ≡ b → cond b (stage_from after_basic (basic ∷ []) rest) None ≡ Some stage → IsFront stage (basic ∷ rest)
-    by true h told = front_from rest after_basic (basic ∷ []) stage (front_of_basic basic ((first_line_iff_test basic).1 h)) told
-    by false h told = cc
+front_of_stage (basic ∷ rest) stage found =
+    let told = when_some (is_first_line basic) (stage_from after_basic (basic ∷ []) rest) stage found in
+    front_from rest after_basic (basic ∷ []) stage (front_of_basic basic ((first_line_iff_test basic).1 told.0)) told.1
 
 stage_from_append : (front : Lines) (stage : Stage) (done : Lines) (middle : Stage) (more : Lines) → stage_from stage done front ≡ Some middle
     → stage_from stage done (front ++ more) ≡ stage_from middle (done ++ front) more
@@ -348,21 +336,13 @@ stage_from_append (line ∷ front) stage done middle more found =
 -- list
 pub stage_of_append : (front : Lines) (stage : Stage) (more : Lines) → stage_of front ≡ Some stage → stage_of (front ++ more) ≡ stage_from stage front more
 stage_of_append [] stage more found = cc
-stage_of_append (basic ∷ rest) stage more found = by (is_first_line basic) refl found
-  where
-    by : (b : Bool) → is_first_line basic ≡ b → cond b (stage_from after_basic (basic ∷ []) rest) None ≡ Some stage
-        → stage_of ((basic ∷ rest) ++ more) ≡ stage_from stage (basic ∷ rest) more
-    by true h told = (λ i. cond (h i) (stage_from after_basic (basic ∷ []) (rest ++ more)) None) ∙ stage_from_append rest _ (basic ∷ []) _ more told
-    by false h told = cc
+stage_of_append (basic ∷ rest) stage more found =
+    let told = when_some (is_first_line basic) (stage_from after_basic (basic ∷ []) rest) stage found in
+    (λ i. cond (told.0 i) (stage_from after_basic (basic ∷ []) (rest ++ more)) None) ∙ stage_from_append rest _ (basic ∷ []) _ more told.1
 
 -- `next_stage` computes the stage after one more record
 pub stage_of_more : (lines : Lines) (stage : Stage) (line : List ℕ) → stage_of lines ≡ Some stage → stage_of (lines ++ line ∷ []) ≡ next_stage stage lines line
 stage_of_more lines stage line found = stage_of_append lines stage (line ∷ []) found ∙ some_then (next_stage stage lines line)
-
--- the stage after a single record is `after_basic` if the record can be the first record of a
--- schedule, and otherwise `None`
-pub stage_of_first : (line : List ℕ) → stage_of (line ∷ []) ≡ cond (is_first_line line) (Some after_basic) None
-stage_of_first line = refl
 
 stage_from_front : (front rest : Lines) (stage : Stage) (done : Lines) (final : Stage) → stage_from stage done (front ++ rest) ≡ Some final
     → (middle : Stage) × (stage_from stage done front ≡ Some middle)
@@ -375,14 +355,10 @@ stage_from_front (line ∷ front) rest stage done final found =
 -- if records lead the reader to a stage, so does each prefix that isn't empty
 pub stage_of_front : (basic : List ℕ) (front rest : Lines) (final : Stage) → stage_of (basic ∷ front ++ rest) ≡ Some final
     → (stage : Stage) × (stage_of (basic ∷ front) ≡ Some stage)
-stage_of_front basic front rest final found = by (is_first_line basic) refl found
-  where
-    by : (b : Bool) → is_first_line basic ≡ b → cond b (stage_from after_basic (basic ∷ []) (front ++ rest)) None ≡ Some final
-        → (stage : Stage) × (stage_of (basic ∷ front) ≡ Some stage)
-    by true h told =
-        let more = stage_from_front front rest after_basic (basic ∷ []) final told in
-        (more.0, (λ i. cond (h i) (stage_from after_basic (basic ∷ []) front) None) ∙ more.1)
-    by false h told = cc
+stage_of_front basic front rest final found =
+    let told = when_some (is_first_line basic) (stage_from after_basic (basic ∷ []) (front ++ rest)) final found in
+    let more = stage_from_front front rest after_basic (basic ∷ []) final told.1 in
+    (more.0, (λ i. cond (told.0 i) (stage_from after_basic (basic ∷ []) front) None) ∙ more.1)
 
 -- ---- the records of a schedule lead the reader to a stage
 
@@ -455,15 +431,14 @@ stage_of_schedule lines is = subst (λ l. (stage : Stage) × IsWholeBy l stage) 
     lead : LeadsToEnd is.basic (is.extra ++ is.journey)
     lead = kinds_lead _ is.extra _ is.details is.journey_or_none
 
-    sound : (is_deletion is.basic ≡ true) ⊎ IsSoundJourney is.journey → IsSoundRest is.basic [] (is.extra ++ is.journey)
-    sound (inl deletion) = inl deletion
-    sound (inr good) = search (rules, all_append, recursion_from_All, midnights_of_journey)
+    sound : IsSoundRest is.basic [] (is.extra ++ is.journey)
+    sound = elim is.sound [ inl deletion ↦ inl deletion | inr good ↦ search (rules, all_append, recursion_from_All, midnights_of_journey) ]
 
     found : stage_of (is.basic ∷ is.extra ++ is.journey) ≡ Some lead.final
     found =
         (λ i. cond ((first_line_iff_test _).0 (record { is = records.0; kind = is.kind; fields = is.fields }) i)
         (stage_from after_basic (is.basic ∷ []) (is.extra ++ is.journey)) None)
-        ∙ stage_from_along (is.extra ++ is.journey) _ is.basic _ lead.final records.1 (sound is.sound) lead.along
+        ∙ stage_from_along (is.extra ++ is.journey) _ is.basic _ lead.final records.1 sound lead.along
 
 -- ---- the laws of stages
 
@@ -501,27 +476,6 @@ begins_more_iff basic rest stage line at = (
       ),
 )
 
--- it is decidable whether records begin a schedule
-pub begins_schedule_or_not : (lines : Lines) → BeginsSchedule lines ⊎ ¬ BeginsSchedule lines
-begins_schedule_or_not [] = inl no_lines_begin
-begins_schedule_or_not (basic ∷ rest) = by (stage_of (basic ∷ rest)) refl
-  where
-    by : (found : Option Stage) → stage_of (basic ∷ rest) ≡ found → BeginsSchedule (basic ∷ rest) ⊎ ¬ BeginsSchedule (basic ∷ rest)
-    by None h = inr (λ begins. let at = (begins_iff_stage basic rest).0 begins in let bad : None ≡ Some at.0 = sym h ∙ at.1 in cc)
-    by (Some stage) h = inl ((begins_iff_stage basic rest).1 (stage, h))
-
--- it is decidable whether records are a schedule
-pub schedule_or_not : (lines : Lines) → IsSchedule lines ⊎ ¬ IsSchedule lines
-schedule_or_not lines = by (stage_of lines) refl
-  where
-    by : (found : Option Stage) → stage_of lines ≡ found → IsSchedule lines ⊎ ¬ IsSchedule lines
-    by None h = inr (λ is. let whole = stage_of_schedule lines is in let bad : None ≡ Some whole.0 = sym h ∙ whole.1.found in cc)
-    by (Some stage) h = ended (may_end stage lines) refl
-      where
-        ended : (b : Bool) → may_end stage lines ≡ b → IsSchedule lines ⊎ ¬ IsSchedule lines
-        ended true may = inl (schedule_of_front stage lines (front_of_stage lines stage h) may)
-        ended false may = search (rules, stage_of_schedule)
-
 -- ---- which kinds of record are allowed at a stage
 
 -- if the kind of a record leads to no next stage, the record is out of place. No schedule has a
@@ -550,33 +504,21 @@ IsNoNextLine stage lines line =
     ⊎ (((at : ℕ) × (leftmost_bad_field line ≡ Some at) × (is_deletion (first_record lines) ≡ false))
     ⊎ (HasGoodFields line × (2 < midnights (lines ++ line ∷ [])) × (is_deletion (first_record lines) ≡ false)))
 
+-- of a deletion, the leftmost bad field, and whether the schedule passes midnight at most twice,
+-- one makes a record unsound
+pub unsound_by : (deletion : Bool) (bad : Option ℕ) (few : Bool) → (deletion || (is_none bad && few)) ≡ false
+    → ((at : ℕ) × (bad ≡ Some at) × (deletion ≡ false)) ⊎ ((bad ≡ None) × (few ≡ false) × (deletion ≡ false))
+unsound_by = search rules
+
 -- if a record leads to no next stage, its kind is out of place, a field is bad, or the schedule
 -- passes midnight for the third time
 pub no_next_line : (stage : Stage) (lines : Lines) (line : List ℕ) → IsRecord line → next_stage stage lines line ≡ None → IsNoNextLine stage lines line
-no_next_line stage lines line is nowhere = by (stage_after stage (kind_of line)) refl
-  where
-    unsound : (next : Stage) → stage_after stage (kind_of line) ≡ Some next → is_sound_next lines line ≡ false
-    unsound next found = pick (is_sound_next lines line) refl
-      where
-        pick : (b : Bool) → is_sound_next lines line ≡ b → is_sound_next lines line ≡ false
-        pick true h = let bad : None ≡ Some next = sym nowhere ∙ test_by_next_line stage lines line next (record { is = is; sound = h; stage_is = found }) in cc
-        pick false h = h
-
-    told : (deletion good : Bool) (few : Bool) → (deletion || (good && few)) ≡ false → (deletion ≡ false) × ((good ≡ false) ⊎ ((good ≡ true) × (few ≡ false)))
-    told true good few h = (cc, inl cc)
-    told false true few h = (refl, inr (refl, h))
-    told false false few h = (refl, inl refl)
-
-    field : is_deletion (first_record lines) ≡ false → (bad : Option ℕ) → leftmost_bad_field line ≡ bad → is_none bad ≡ false → IsNoNextLine stage lines line
-    field kept None h none = cc
-    field kept (Some column) h none = inr (inl (column, h, kept))
-
-    split : (is_deletion (first_record lines) ≡ false)
-        × ((has_good_fields line ≡ false) ⊎ ((has_good_fields line ≡ true) × (nat_le (midnights (lines ++ line ∷ [])) 2 ≡ false)))
-        → IsNoNextLine stage lines line
-    split (kept, inl bad) = field kept (leftmost_bad_field line) refl bad
-    split (kept, inr good) = inr (inr (none_by_test (leftmost_bad_field line) good.0, leb-false (midnights (lines ++ line ∷ [])) 2 good.1, kept))
-
-    by : (after : Option Stage) → stage_after stage (kind_of line) ≡ after → IsNoNextLine stage lines line
-    by None h = inl h
-    by (Some next) h = split (told (is_deletion (first_record lines)) (has_good_fields line) (nat_le (midnights (lines ++ line ∷ [])) 2) (unsound next h))
+no_next_line stage lines line is nowhere =
+    (elim (stage_after stage (kind_of line)) as (λ after. stage_after stage (kind_of line) ≡ after → IsNoNextLine stage lines line) [
+      | None ↦ λ h. inl h
+      | Some next ↦ λ h. elim (unsound_by (is_deletion (first_record lines)) (leftmost_bad_field line) (nat_le (midnights (lines ++ line ∷ [])) 2)
+          (when_unsound (is_record line) (is_sound_next lines line) _ next nowhere ((record_iff_test line).0 is) h)) [
+            | inl field ↦ inr (inl field)
+            | inr third ↦ inr (inr (third.0, leb-false (midnights (lines ++ line ∷ [])) 2 third.1, third.2))
+          ]
+    ]) refl

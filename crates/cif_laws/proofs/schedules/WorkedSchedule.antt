@@ -1,11 +1,6 @@
 -- The schedule of the example file is a schedule.
-use Rattle.std.proofs.Common.{◌≡◌, ℕ, List, [], ◌∷◌, length, refl, inl, inr, true, lit≤, rules}
-use Rattle.std.specs.List.{list_all}
-use Rattle.std.proofs.lemmas.List.Elements.{All-from_recursion}
-use Rattle.std.proofs.lemmas.List.Sums.{AllPass-from_list_all}
-use Rattle.docker_model.specs.records.Record.{IsRecord, is_printable}
-use Rattle.docker_model.specs.records.Field.{HasGoodFields}
-use Rattle.docker_model.specs.file.File.{IsSchedule, IsJourney, IsWithinJourney}
+use Rattle.cif_laws.proofs.Common.{◌≡◌, ℕ, List, [], ◌∷◌, length, refl, inl, inr, true, lit≤, rules, list_all, All-from_recursion, AllPass-from_list_all}
+use Rattle.cif_laws.proofs.Common.{IsRecord, is_printable, HasGoodFields, IsSchedule, IsJourney, IsWithinJourney}
 use Rattle.cif_laws.proofs.records.Builders.{f2_basic, f2_origin, f2_terminus, f2_schedule}
 
 -- 80 bytes are a record if all of them are printable

@@ -1,28 +1,19 @@
 -- Lemmas on the docker line of an association for one start day of the base train. The association
 -- lines of a docker are exactly these lines, for all associations and start days.
-use Rattle.std.proofs.Common.{◌≡◌, ℕ, List, [], ◌∷◌, refl, sym, ◌∙◌, subst, Some, None, Bool, true, false, cond, Contains, eqb-true, arith}
-use Rattle.std.proofs.Common.{rules}
-use Rattle.std.specs.Prelude.{Option, not, ◌&&◌, ◌==◌}
-use Rattle.std.specs.Ordering.{is_eq}
-use Rattle.std.specs.Cmp.{tied_itself}
-use Rattle.docker_model.specs.records.Record.{columns, column}
-use Rattle.docker_model.specs.file.Journey.{Occasion}
-use Rattle.docker_model.specs.file.Change.{association_key, AssociationKey, association_body}
-use Rattle.docker_model.specs.state.Op.{association_key_cmp}
-use Rattle.docker_model.specs.state.Table.{Table}
-use Rattle.docker_model.specs.state.State.{HasGoodBodies}
-use Rattle.docker_model.specs.docker.Event.{Event, event_day, first_event_at}
-use Rattle.docker_model.specs.docker.Choice.{TrainRuns, Group, group_of, IsChosenAssociation, Train}
-use Rattle.docker_model.specs.docker.DockerLine.{DockerLine, docker_line_cmp, line_of_association}
-use Rattle.docker_model.specs.docker.Association.{category_occasion, is_date_indicator, partner_start, IsPartnerIdentity, IsAssociationLine}
+use Rattle.cif_laws.proofs.Common.{◌≡◌, ℕ, List, [], ◌∷◌, refl, sym, ◌∙◌, subst, Some, None, Bool, true, false, cond, Contains, eqb-true, rules, Option, not}
+use Rattle.cif_laws.proofs.Common.{◌&&◌, ◌==◌, is_eq, tied_itself, columns, column, Occasion, association_key, AssociationKey, association_body}
+use Rattle.cif_laws.proofs.Common.{association_key_cmp, Table, HasGoodBodies, Event, event_day, first_event_at, TrainRuns, Group, group_of, IsChosenAssociation}
+use Rattle.cif_laws.proofs.Common.{Train, DockerLine, docker_line_cmp, line_of_association, category_occasion, partner_start, IsPartnerIdentity}
+use Rattle.cif_laws.proofs.Common.{IsAssociationLine}
+use Rattle.docker_model.specs.docker.Association.{is_date_indicator}
 use Rattle.docker_laws.specs.LiveRows.{Link, IsTrainOn, TellsTrains, IsLinkOn, TellsLinks}
 use Rattle.docker_laws.specs.Gathering.{start_days, counts_as, partner_identity, line_at, line_with, is_in_force}
 use Rattle.cif_laws.proofs.lists.Membership.{nil-Contains, Contains-single, single-Contains}
 use Rattle.cif_laws.proofs.lists.BoolsAndOptions.{both}
 use Rattle.cif_laws.proofs.orders.Orders.{association_key_total, exact_association_key}
 use Rattle.cif_laws.proofs.lists.Sorted.{AreApart}
-use Rattle.docker_laws.proofs.dockers.StartDays.{event_within, start_days_iff}
-use Rattle.docker_laws.proofs.dockers.FewMidnights.{bodies_few}
+use Rattle.docker_laws.proofs.dockers.StartDays.{start_days_iff}
+use Rattle.docker_laws.proofs.dockers.NearStarts.{association_near}
 use Rattle.docker_laws.proofs.dockers.OneChoice.{one_association, one_train, one_link}
 use Rattle.docker_laws.proofs.dockers.OneDockerLine.{one_identity}
 use Rattle.cif_laws.proofs.orders.AtMost.{eq_is}
@@ -189,36 +180,25 @@ module _ (live : Table) (trains : List ℕ → ℕ → Option Train) (links : Gr
           let line_is : docker_line ≡ the_line base made.event = search rules in
           subst (λ b. Contains (cond b (the_line base made.event ∷ []) []) docker_line) (sym today) (single-Contains _ _ (sym line_is))
 
+  line_at_apart : (key : AssociationKey) (line : List ℕ) (start : ℕ) (occasion : Occasion) (base : Train) (at : Option Event)
+      → AreApart docker_line_cmp (line_at trains day start key line occasion base at)
+  line_at_apart = search rules
+
+  line_with_apart : (key : AssociationKey) (line : List ℕ) (start : ℕ) (category : Option Occasion) (base : Option Train)
+      → AreApart docker_line_cmp (line_with trains day start key line category base)
+  line_with_apart = search (rules, line_at_apart)
+
   -- of the docker lines that an association has for one start day, no two tie in the order of
   -- docker lines
   pub link_piece_apart : (key : AssociationKey) (line : List ℕ) (start : ℕ) → AreApart docker_line_cmp (link_piece trains links day key line start)
-  link_piece_apart key line start = by (is_in_force links start key line) (category_occasion (columns 35 36 line)) (trains key.base start)
-    where
-      at_day : (occasion : Occasion) (base : Train) (at : Option Event) → AreApart docker_line_cmp (line_at trains day start key line occasion base at)
-      at_day occasion base None = tt
-      at_day occasion base (Some event) = inner (event_day start base.lines event == day)
-        where
-          inner : (b : Bool) → AreApart docker_line_cmp (cond b
-              (line_of_association occasion key.indicator base.key start base.lines event key.associated
-              (partner_identity trains key.associated (partner_start (column 37 line) start)) ∷ []) [])
-          inner true = (tt, tt)
-          inner false = tt
-
-      by : (b : Bool) (category : Option Occasion) (base : Option Train)
-          → AreApart docker_line_cmp (cond b (line_with trains day start key line category base) [])
-      by false category base = tt
-      by true None base = tt
-      by true (Some occasion) None = tt
-      by true (Some occasion) (Some base) = at_day occasion base (first_event_at base.lines key.location key.suffix)
+  link_piece_apart key line start = elim (is_in_force links start key line) as (λ b. AreApart docker_line_cmp
+      (cond b (line_with trains day start key line (category_occasion (columns 35 36 line)) (trains key.base start)) [])) [
+        | true ↦ line_with_apart key line start (category_occasion (columns 35 36 line)) (trains key.base start)
+        | false ↦ tt
+      ]
 
   -- the base train of an association line starts on the docker's day or on one of the two days
   -- before it
   pub association_starts : HasGoodBodies live → (docker_line : DockerLine) (made : IsAssociationLine live place day docker_line)
       → Contains (start_days day) made.start
-  association_starts good docker_line made =
-      let few = bodies_few live good made.base_key made.base made.base_runs.chosen.running.is_live in
-      let within = event_within made.start made.base made.event few in
-      let low = within.0 in
-      let high = within.1 in
-      let today = made.today in
-      (start_days_iff day made.start).1 (omega arith, omega arith)
+  association_starts good docker_line made = (start_days_iff day made.start).1 (association_near live place day docker_line good made)

@@ -1,15 +1,7 @@
 -- The best element of a list can be computed element by element. Of the elements that pass a test,
 -- the best element is the one that comes first in an order.
-use Rattle.std.proofs.Common.{◌≡◌, List, [], ◌∷◌, ◌++◌, refl, sym, ◌∙◌, subst, inl, inr, Some, None, Bool, true, false, cond}
-use Rattle.std.proofs.lemmas.Grind.{common_steps}
-use Rattle.std.proofs.Common.{arith}
-use Rattle.std.specs.Prelude.{Option}
-use Rattle.std.specs.declared.cmp.Ordering.{Ordering}
-use Rattle.std.specs.declared.cmp.Ordering.TheVariants.{Less, Equal, Greater}
-use Rattle.std.specs.Ordering.{is_lt}
-use Rattle.std.specs.Cmp.{IsTotalOrder}
-use Rattle.std.proofs.lemmas.List.Elements.{Contains-append_right, Contains-append_cases}
-use Rattle.docker_model.specs.state.Order.{IsAtMost}
+use Rattle.cif_laws.proofs.Common.{◌≡◌, List, [], ◌∷◌, ◌++◌, refl, sym, ◌∙◌, subst, inl, inr, Some, None, Bool, true, false, cond, common_steps, arith, Option}
+use Rattle.cif_laws.proofs.Common.{Ordering, Less, Equal, Greater, is_lt, IsTotalOrder, Contains-append_right, Contains-append_cases, IsAtMost}
 use Rattle.docker_laws.specs.Best.{IsBest, better, with_one_more}
 use Rattle.cif_laws.proofs.lists.Membership.{nil-Contains, Contains-single, single-Contains}
 use Rattle.cif_laws.proofs.orders.AtMost.{at_most_trans, at_most_itself, at_most_below}

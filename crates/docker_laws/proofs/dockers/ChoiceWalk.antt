@@ -1,12 +1,7 @@
 -- The chosen schedule and the chosen association can be computed by a walk over rows.
-use Rattle.std.proofs.Common.{◌≡◌, ℕ, List, [], ◌∷◌, ◌++◌, refl, None, append-nil, rules}
-use Rattle.std.specs.Prelude.{Option}
-use Rattle.std.specs.Ordering.{on}
-use Rattle.std.specs.Cmp.{IsTotalOrder, on_total}
-use Rattle.std.proofs.lemmas.List.Elements.{filter_map-append}
-use Rattle.docker_model.specs.file.Change.{Key, tiploc_key, association_key, schedule_key, Body, tiploc_body, association_body, schedule_body}
-use Rattle.docker_model.specs.state.Row.{Row}
-use Rattle.docker_model.specs.docker.Choice.{schedule_choice_cmp, association_choice_cmp, Group, Train}
+use Rattle.cif_laws.proofs.Common.{◌≡◌, ℕ, List, [], ◌∷◌, ◌++◌, refl, None, append-nil, rules, Option, on, IsTotalOrder, on_total, filter_map-append, Key}
+use Rattle.cif_laws.proofs.Common.{association_key, schedule_key, Body, association_body, schedule_body, Row, schedule_choice_cmp, association_choice_cmp}
+use Rattle.cif_laws.proofs.Common.{Group, Train}
 use Rattle.docker_laws.specs.LiveRows.{Link, schedule_of, association_of, schedules_in, associations_in, is_running, is_linked}
 use Rattle.docker_laws.specs.ChoiceWalk.{IsChosenSoFar, next_chosen, IsLinkSoFar, next_link}
 use Rattle.docker_laws.proofs.dockers.BestSoFar.{best_of_none, best_more}
@@ -34,10 +29,7 @@ module _ (uid : List ℕ) (day : ℕ) where
   pub chosen_more : (rows : List Row) (key : Key) (body : Body) (found : Option Train) → IsChosenSoFar uid day rows found
       → IsChosenSoFar uid day (rows ++ (key, body) ∷ []) (next_chosen uid day found key body)
   chosen_more rows (schedule_key key) (schedule_body lines) found best = search (rules, trains_more, best_more, train_total)
-  chosen_more rows (schedule_key key) (tiploc_body bytes) found best = other_row rows (schedule_key key, tiploc_body bytes) found refl best
-  chosen_more rows (schedule_key key) (association_body line) found best = other_row rows (schedule_key key, association_body line) found refl best
-  chosen_more rows (tiploc_key code) body found best = other_row rows (tiploc_key code, body) found refl best
-  chosen_more rows (association_key key) body found best = other_row rows (association_key key, body) found refl best
+  chosen_more rows key body found best = other_row rows (key, body) found refl best
 
 module _ (group : Group) (day : ℕ) where
   -- if there are no rows, no association is chosen
@@ -55,7 +47,4 @@ module _ (group : Group) (day : ℕ) where
   pub link_more : (rows : List Row) (key : Key) (body : Body) (found : Option Link) → IsLinkSoFar group day rows found
       → IsLinkSoFar group day (rows ++ (key, body) ∷ []) (next_link group day found key body)
   link_more rows (association_key key) (association_body line) found best = search (rules, links_more, best_more, link_total)
-  link_more rows (association_key key) (tiploc_body bytes) found best = other_link_row rows (association_key key, tiploc_body bytes) found refl best
-  link_more rows (association_key key) (schedule_body lines) found best = other_link_row rows (association_key key, schedule_body lines) found refl best
-  link_more rows (tiploc_key code) body found best = other_link_row rows (tiploc_key code, body) found refl best
-  link_more rows (schedule_key key) body found best = other_link_row rows (schedule_key key, body) found refl best
+  link_more rows key body found best = other_link_row rows (key, body) found refl best

@@ -1,28 +1,17 @@
 -- The first 56 columns of the lines of a detailed docker are the lines of the docker.
-use Rattle.std.proofs.Common.{◌≡◌, ℕ, suc, ◌+◌, ◌*◌, ◌%◌, ◌<◌, ◌≤◌, List, [], ◌∷◌, ◌++◌, length, length-append, length-drop, length-take-le}
-use Rattle.std.proofs.lemmas.Grind.{common_steps}
-use Rattle.std.proofs.Common.{rules}
-use Rattle.std.proofs.Common.{append-nil, append_assoc, Contains, refl, ap, sym, ◌∙◌, subst, inl, inr, true, Some, None, arith}
-use Rattle.std.specs.Prelude.{Option, codes, decimal, drop, map, ◌^◌}
-use Rattle.std.specs.List.{AllByRecursion, AllZip, flat_map, zip}
-use Rattle.std.proofs.lemmas.Bool.{eqb-true, ltb-true, ltb-false}
+use Rattle.cif_laws.proofs.Common.{◌≡◌, ℕ, suc, ◌+◌, ◌*◌, ◌%◌, ◌<◌, ◌≤◌, List, [], ◌∷◌, ◌++◌, length, length-append, length-drop, length-take-le, common_steps}
+use Rattle.cif_laws.proofs.Common.{rules, append-nil, append_assoc, Contains, refl, ap, sym, ◌∙◌, subst, inl, inr, true, Some, None, arith, Option, codes, drop}
+use Rattle.cif_laws.proofs.Common.{map, ◌^◌, AllByRecursion, AllZip, flat_map, zip, eqb-true, ltb-true, ltb-false, length-map, All-append, All-contains}
+use Rattle.cif_laws.proofs.Common.{All-from_recursion, columns, is_printable, IsRecord, IsTextOfLength, IsTiploc, spaces, first_record, Body, tiploc_key}
+use Rattle.cif_laws.proofs.Common.{association_key, schedule_key, ScheduleKey, tiploc_body, association_body, schedule_body, Occasion, timed, times_of}
+use Rattle.cif_laws.proofs.Common.{HasGoodBodies, IsScheduleOf, IsAssociationOf, Table, Event, events_of, event_line, has_identity, DockerLine, description_in}
+use Rattle.cif_laws.proofs.Common.{ended, heading, IsDockerText, last_line, line_text, detailed_line, IsDetailedText, IsOrigin, padded}
+use Rattle.std.specs.Prelude.{decimal}
 use Rattle.std.proofs.lemmas.Fmt.{decimal_by_steps_wide, length-decimal-le_wide}
-use Rattle.std.proofs.lemmas.List.{length-map}
 use Rattle.std.proofs.lemmas.List.Concat.{flat_map-append}
-use Rattle.std.proofs.lemmas.List.Elements.{All-append, All-contains, All-drop, All-from_recursion, All-take}
-use Rattle.docker_model.specs.records.Record.{columns, is_printable, IsRecord, IsTextOfLength}
-use Rattle.docker_model.specs.records.Field.{IsTiploc}
+use Rattle.std.proofs.lemmas.List.Elements.{All-drop, All-take}
 use Rattle.docker_model.specs.records.PrintedNumber.{number_text}
-use Rattle.docker_model.specs.records.PrintedTime.{spaces}
-use Rattle.docker_model.specs.file.File.{first_record}
-use Rattle.docker_model.specs.file.Change.{Body, tiploc_key, association_key, schedule_key, ScheduleKey, tiploc_body, association_body, schedule_body}
-use Rattle.docker_model.specs.file.Journey.{Occasion, timed, times_of}
-use Rattle.docker_model.specs.state.State.{HasGoodBodies, IsScheduleOf, IsAssociationOf}
-use Rattle.docker_model.specs.state.Table.{Table}
-use Rattle.docker_model.specs.docker.Event.{Event, events_of, event_line, has_identity}
-use Rattle.docker_model.specs.docker.DockerLine.{DockerLine}
-use Rattle.docker_model.specs.docker.DockerText.{description_in, ended, heading, IsDockerText, last_line, line_text}
-use Rattle.docker_model.specs.docker.DetailedText.{change_at, detailed_line, extra_record, IsDetailedText, IsOrigin, origin_text, padded, record_text}
+use Rattle.docker_model.specs.docker.DetailedText.{change_at, extra_record, origin_text, record_text}
 use Rattle.cif_laws.proofs.lists.BoolsAndOptions.{none_some}
 use Rattle.cif_laws.proofs.lists.FilteredMembers.{find_some}
 use Rattle.cif_laws.proofs.lists.Membership.{all_members, cons-Contains, cons-Contains-first}
@@ -145,41 +134,42 @@ module _ (key : ScheduleKey) (lines : List (List ℕ)) (of : IsScheduleOf key li
       let changed = wide_append (wide_append extra space) (wide_found (change_at lines event) (change_good key lines of event)) in
       wide_append (wide_append (wide_append (wide_append changed space) at) space) (wide_found link good)
 
--- no origin has a line feed
-pub plain_origin : (live : Table) (place : List ℕ) (day : ℕ) (line : DockerLine) (origin : List ℕ) → HasGoodBodies live
-    → IsOrigin live place day line origin → IsPlain origin
-plain_origin live place day line origin good (inl from) =
+-- the number of a line with an origin is small, and the origin has the width of its columns, if the
+-- line's number has this width
+origin_wide : (live : Table) (place : List ℕ) (day : ℕ) (line : DockerLine) (origin : List ℕ) → HasGoodBodies live → IsOrigin live place day line origin
+    → (line.number < 10 ^ 64) × ((width : ℕ) → IsWide width (number_text line.number)
+    → IsWide (((((((((((1 + 10) + 1) + width) + 1) + 80) + 1) + 80) + 1) + 80) + 1) + 80 + 1 + 80) origin)
+origin_wide live place day line origin good (inl from) =
     let is = from.line_is in
     let of : IsScheduleOf is.key is.schedule = good (schedule_key is.key) (schedule_body is.schedule) is.train_runs.chosen.running.is_live in
-    subst IsPlain (sym from.origin_is) (wide_origin is.key is.schedule of is.event is.among is.start (length (number_text is.event.number)) None
-    (λ l same. none_some l same) (plain_number is.event.number (number_small is.key is.schedule of is.event is.among))).plain
-plain_origin live place day line origin good (inr from) =
+    let number : is.event.number ≡ line.number = sym (ap (λ (l : DockerLine). l.number) is.is) in (
+      subst (λ n. n < 10 ^ 64) number (number_small is.key is.schedule of is.event is.among),
+      λ width wide. subst (IsWide _) (sym from.origin_is) (wide_origin is.key is.schedule of is.event is.among is.start width None
+          (λ l same. none_some l same) (subst (λ n. IsWide width (number_text n)) (sym number) wide)),
+    )
+origin_wide live place day line origin good (inr from) =
     let is = from.line_is in
     let of : IsScheduleOf is.base_key is.base = good (schedule_key is.base_key) (schedule_body is.base) is.base_runs.chosen.running.is_live in
     let link : IsAssociationOf is.key is.association = good (association_key is.key) (association_body is.association) is.chosen.associated.is_live in
     let among = (first_event_is is.base is.key.location is.key.suffix is.event is.first_there).0 in
-    subst IsPlain (sym from.origin_is) (wide_origin is.base_key is.base of is.event among is.start (length (number_text is.event.number))
-    (Some is.association) (λ l same. let e : is.association ≡ l = cc in subst IsRecord e link.is_record)
-    (plain_number is.event.number (number_small is.base_key is.base of is.event among))).plain
+    let number : is.event.number ≡ line.number = sym (ap (λ (l : DockerLine). l.number) is.is) in (
+      subst (λ n. n < 10 ^ 64) number (number_small is.base_key is.base of is.event among),
+      λ width wide. subst (IsWide _) (sym from.origin_is) (wide_origin is.base_key is.base of is.event among is.start width
+          (Some is.association) (λ l same. let e : is.association ≡ l = cc in subst IsRecord e link.is_record)
+          (subst (λ n. IsWide width (number_text n)) (sym number) wide)),
+    )
+
+-- no origin has a line feed
+pub plain_origin : (live : Table) (place : List ℕ) (day : ℕ) (line : DockerLine) (origin : List ℕ) → HasGoodBodies live
+    → IsOrigin live place day line origin → IsPlain origin
+plain_origin live place day line origin good from =
+    let wide = origin_wide live place day line origin good from in
+    (wide.1 (length (number_text line.number)) (plain_number line.number wide.0)).plain
 
 -- an origin has 427 columns if the number of the line's event has at most ten digits
 pub wide_origin_of : (live : Table) (place : List ℕ) (day : ℕ) (line : DockerLine) (origin : List ℕ) → HasGoodBodies live
     → IsOrigin live place day line origin → line.number < 10 ^ 10 → IsWide 427 origin
-wide_origin_of live place day line origin good (inl from) fits =
-    let is = from.line_is in
-    let of : IsScheduleOf is.key is.schedule = good (schedule_key is.key) (schedule_body is.schedule) is.train_runs.chosen.running.is_live in
-    let number : line.number ≡ is.event.number = ap (λ (l : DockerLine). l.number) is.is in
-    subst (IsWide 427) (sym from.origin_is) (wide_origin is.key is.schedule of is.event is.among is.start 10 None
-    (λ l same. none_some l same) (wide_number is.event.number (subst (λ n. n < 10 ^ 10) number fits)))
-wide_origin_of live place day line origin good (inr from) fits =
-    let is = from.line_is in
-    let of : IsScheduleOf is.base_key is.base = good (schedule_key is.base_key) (schedule_body is.base) is.base_runs.chosen.running.is_live in
-    let link : IsAssociationOf is.key is.association = good (association_key is.key) (association_body is.association) is.chosen.associated.is_live in
-    let among = (first_event_is is.base is.key.location is.key.suffix is.event is.first_there).0 in
-    let number : line.number ≡ is.event.number = ap (λ (l : DockerLine). l.number) is.is in
-    subst (IsWide 427) (sym from.origin_is) (wide_origin is.base_key is.base of is.event among is.start 10
-    (Some is.association) (λ l same. let e : is.association ≡ l = cc in subst IsRecord e link.is_record)
-    (wide_number is.event.number (subst (λ n. n < 10 ^ 10) number fits)))
+wide_origin_of live place day line origin good from fits = (origin_wide live place day line origin good from).1 10 (wide_number line.number fits)
 
 -- a line that comes from somewhere is a line of the docker
 pub from_docker : (live : Table) (place : List ℕ) (day : ℕ) (line : DockerLine) (origin : List ℕ) → IsOrigin live place day line origin
@@ -198,10 +188,8 @@ wide_described live place good = by (live (tiploc_key place)) refl
     )
 
     by : (found : Option Body) → live (tiploc_key place) ≡ found → IsWide 26 (description_in found)
-    by None h = wide_spaces 26
     by (Some (tiploc_body bytes)) h = part bytes (good (tiploc_key place) (tiploc_body bytes) h)
-    by (Some (association_body line)) h = wide_spaces 26
-    by (Some (schedule_body lines)) h = wide_spaces 26
+    by found h = wide_spaces 26
 
 wide_word : IsWide 7 (codes "DOCKER ")
 wide_word = search (rules, wide_text)
@@ -223,8 +211,6 @@ module _ (live : Table) (place : List ℕ) (day : ℕ) (good : HasGoodBodies liv
       → first_columns 56 (flat_map (λ (line : DockerLine × List ℕ). ended (detailed_line line)) (zip lines origins) ++ rest)
       ≡ flat_map (λ line. ended (line_text line)) lines ++ first_columns 56 rest
   lines_cut [] [] come rest = refl
-  lines_cut [] (origin ∷ origins) come rest = absurd come
-  lines_cut (line ∷ lines) [] come rest = absurd come
   lines_cut (line ∷ lines) (origin ∷ origins) come rest =
       let more : List ℕ = flat_map (λ (it : DockerLine × List ℕ). ended (detailed_line it)) (zip lines origins) in
       ap (first_columns 56) (append_assoc (ended (line_text line ++ origin)) more rest)
@@ -232,6 +218,7 @@ module _ (live : Table) (place : List ℕ) (day : ℕ) (good : HasGoodBodies liv
       (plain_origin _ place _ line _ good come.0)
       ∙ ap (λ bytes. ended (line_text line) ++ bytes) (lines_cut lines _ come.1 rest)
       ∙ sym (append_assoc (ended (line_text line)) (flat_map (λ it. ended (line_text it)) lines) (first_columns 56 rest))
+  lines_cut lines origins come rest = absurd come
 
   -- the first 56 columns of a detailed docker are the docker
   pub docker_in_details : (text : List ℕ) → IsTiploc place → IsDetailedText live place day text → IsDockerText live place day (first_columns 56 text)
@@ -257,13 +244,12 @@ module _ (live : Table) (place : List ℕ) (day : ℕ) (good : HasGoodBodies liv
     wide_detailed : (lines : List DockerLine) (origins : List (List ℕ)) → AllZip (IsOrigin live place day) lines origins
         → AllByRecursion (IsWide 483) (map (λ (line : DockerLine × List ℕ). detailed_line line) (zip lines origins))
     wide_detailed [] [] come = tt
-    wide_detailed [] (origin ∷ origins) come = absurd come
-    wide_detailed (line ∷ lines) [] come = absurd come
     wide_detailed (line ∷ lines) (origin ∷ origins) come =
         let is = from_docker live place day line origin come.0 in (
           wide_append (wide_line line (wide_docker_line live place day line good is)) (wide_origin_of live place day line origin good come.0 (fits line is)),
           wide_detailed lines origins come.1,
         )
+    wide_detailed lines origins come = absurd come
 
     -- each line of a detailed docker has 483 columns
     pub width_of_details : (text : List ℕ) → IsTiploc place → IsDetailedText live place day text → HasWidth 483 text
@@ -295,8 +281,4 @@ module _ (live : Table) (place : List ℕ) (day : ℕ) (good : HasGoodBodies liv
         whole : (front : List ℕ) (pairs : List (DockerLine × List ℕ))
             → (ended front ++ flat_map (λ (line : DockerLine × List ℕ). ended (detailed_line line)) pairs) ++ ended (padded last_line)
             ≡ flat_map ended ((front ∷ map (λ (line : DockerLine × List ℕ). detailed_line line) pairs) ++ padded last_line ∷ [])
-        whole front pairs =
-            (λ i. (ended front ++ inner pairs i) ++ ended (padded last_line))
-            ∙ ap (λ bytes. (ended front ++ flat_map ended (map (λ (line : DockerLine × List ℕ). detailed_line line) pairs)) ++ bytes)
-            (sym (append-nil (ended (padded last_line))))
-            ∙ sym (flat_map-append ended (front ∷ map (λ (line : DockerLine × List ℕ). detailed_line line) pairs) (padded last_line ∷ []))
+        whole = search (rules, inner, append-nil, flat_map-append)

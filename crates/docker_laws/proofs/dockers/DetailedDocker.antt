@@ -1,15 +1,7 @@
 -- The detailed dockers of a summary are fixed by the summary's files, and are the detailed dockers of
 -- the files' plain table. The same is true of detailed dockers without the short-term plan.
-use Rattle.std.proofs.Common.{◌≡◌, ℕ, List, sym, subst, rules}
-use Rattle.std.specs.Prelude.{◌↔◌}
-use Rattle.docker_model.specs.records.Date.{IsDay}
-use Rattle.docker_model.specs.state.Lapse.{IsDayRefused}
-use Rattle.docker_model.specs.state.State.{State, live_table}
-use Rattle.docker_model.specs.state.Summary.{IsSummary}
-use Rattle.docker_model.specs.state.Table.{Table, IsPlainTable}
-use Rattle.docker_model.specs.docker.DetailedText.{IsDetailedText}
-use Rattle.docker_model.specs.docker.Permanent.{permanent_table}
-use Rattle.docker_model.specs.run.Knowledge.{AreFiles, HaveSameFiles}
+use Rattle.cif_laws.proofs.Common.{◌≡◌, ℕ, List, sym, subst, rules, ◌↔◌, IsDay, IsDayRefused, State, live_table, IsSummary, Table, IsPlainTable, IsDetailedText}
+use Rattle.cif_laws.proofs.Common.{permanent_table, AreFiles, HaveSameFiles}
 use Rattle.state_laws.proofs.states.CountedRows.{counted_bodies}
 use Rattle.docker_laws.proofs.dockers.FewMidnights.{bodies_few}
 use Rattle.docker_laws.proofs.dockers.LapsedOrigins.{detailed_text_iff}

@@ -1,17 +1,15 @@
 -- The events of a schedule can be computed by a walk over its records. The walk keeps the number of
 -- falls and the last change en route. A fall is a time that is earlier than the time before it.
-use Rattle.std.proofs.Common.{◌≡◌, ℕ, zero, suc, ◌+◌, ◌<◌, ◌≤◌, cond, List, [], ◌∷◌, ◌++◌, map, length, get_or, rules}
-use Rattle.std.proofs.Common.{refl, ap, sym, ◌∙◌, subst, arith, Contains, Some, append_assoc, append-nil, length-append}
-use Rattle.std.specs.Prelude.{Option, ◌↔◌, nat_lt, codes}
-use Rattle.std.specs.List.{enumerate_from, last_or, flat_map}
-use Rattle.std.proofs.lemmas.List.{map-append, length-map, get_or-map}
+use Rattle.cif_laws.proofs.Common.{◌≡◌, ℕ, zero, suc, ◌+◌, ◌<◌, ◌≤◌, cond, List, [], ◌∷◌, ◌++◌, map, length, get_or, rules, refl, ap, sym, ◌∙◌, subst, arith}
+use Rattle.cif_laws.proofs.Common.{Contains, Some, append_assoc, append-nil, length-append, Option, ◌↔◌, nat_lt, codes, flat_map, map-append, length-map}
+use Rattle.cif_laws.proofs.Common.{filter-append, flat_map-append, take-append_seam, take-append-add, get_or-append_seam, Occasion, arrival, times_of}
+use Rattle.cif_laws.proofs.Common.{times_along, fall_count, first_record, Event, events_of, falls_to, event_line, event_identity, changed_identity}
+use Rattle.cif_laws.proofs.Common.{has_identity}
+use Rattle.std.specs.List.{enumerate_from, last_or}
+use Rattle.std.proofs.lemmas.List.{get_or-map}
 use Rattle.std.proofs.lemmas.List.FromFn.{length-enumerate_from, get_or-enumerate_from}
-use Rattle.std.proofs.lemmas.List.Elements.{filter-append, Contains-get_or}
-use Rattle.std.proofs.lemmas.Grind.{flat_map-append}
-use Rattle.std.proofs.Math.Seq.{take-append_seam, take-append-add, get_or-append_seam}
-use Rattle.docker_model.specs.file.Journey.{Occasion, arrival, times_of, times_along, fall_count}
-use Rattle.docker_model.specs.file.File.{first_record}
-use Rattle.docker_model.specs.docker.Event.{Event, placed_times, events_of, falls_to, event_line, event_identity, changed_identity, has_identity}
+use Rattle.std.proofs.lemmas.List.Elements.{Contains-get_or}
+use Rattle.docker_model.specs.docker.Event.{placed_times}
 use Rattle.docker_laws.specs.EventWalk.{events_here, events_from, fall_at, last_time, last_change}
 
 abbrev Placed : Type 0

@@ -1,15 +1,11 @@
 -- The events of a schedule have different numbers, and the record of each event is a location
 -- record.
-use Rattle.std.proofs.Common.{◌≡◌, ℕ, suc, ◌+◌, ◌<◌, ◌≤◌, List, [], ◌∷◌, ◌++◌, length, get_or, refl, rules}
-use Rattle.std.proofs.Common.{ap, sym, subst, inl, inr, ◌⊎◌, Some, None, Contains, map, arith}
-use Rattle.std.specs.Prelude.{Option}
+use Rattle.cif_laws.proofs.Common.{◌≡◌, ℕ, suc, ◌+◌, ◌<◌, ◌≤◌, List, [], ◌∷◌, ◌++◌, length, get_or, refl, rules, ap, sym, subst, inl, inr, ◌⊎◌, Some, Contains}
+use Rattle.cif_laws.proofs.Common.{map, arith, Option, Contains-append_cases, Kind, origin_location, intermediate_location, terminating_location, kind_of}
+use Rattle.cif_laws.proofs.Common.{columns, scheduled_time, Occasion, arrival, pass, departure, timed, times_by_kind, times_of, CallsAt, Event, events_of}
+use Rattle.cif_laws.proofs.Common.{event_line}
 use Rattle.std.specs.List.{enumerate_from}
-use Rattle.std.proofs.lemmas.List.Elements.{Contains-append_cases}
-use Rattle.docker_model.specs.records.Record.{Kind, header, tiploc_insert, tiploc_amend, tiploc_delete, association, basic_schedule, extra_details}
-use Rattle.docker_model.specs.records.Record.{origin_location, intermediate_location, terminating_location, change_en_route, trailer, kind_of, columns}
-use Rattle.docker_model.specs.records.Clock.{scheduled_time}
-use Rattle.docker_model.specs.file.Journey.{Occasion, arrival, pass, departure, timed, times_by_kind, times_of, CallsAt}
-use Rattle.docker_model.specs.docker.Event.{Event, placed_times, events_of, event_line}
+use Rattle.docker_model.specs.docker.Event.{placed_times}
 use Rattle.cif_laws.proofs.lists.Membership.{Contains-cons, nil-Contains, Contains-map, Contains-flat_map, each_member}
 use Rattle.cif_laws.proofs.lists.Later.{AllLater, later_map, one_before}
 use Rattle.cif_laws.proofs.records.Locations.{IsLocation}
@@ -70,35 +66,26 @@ time_of_line = search rules
 -- each time in `placed_times` comes with the index of a record, and is a time of that record
 time_of_placed : (lines : List (List ℕ)) (placed : Placed) → Contains (placed_times lines) placed
     → (line : List ℕ) × (placed.0 < length lines) × (get_or lines placed.0 [] ≡ line) × Contains (times_of line) placed.1
-time_of_placed lines placed among = by (Contains-flat_map _ _ _ among)
+time_of_placed lines placed among =
+    let piece : (piece : ℕ × List ℕ) × Contains (enumerate_from 0 lines) piece
+    × Contains (map (λ (time : Occasion × ℕ). (piece.0, time)) (times_of piece.1)) placed = Contains-flat_map _ _ _ among in
+    let stands = stands_at 0 lines piece.0 [] piece.1 in
+    let time = Contains-map (λ (time : Occasion × ℕ). (piece.0.0, time)) (times_of piece.0.1) placed piece.2 in
+    at piece.0.0 piece.0.1 stands.0 stands.1 stands.2 stands.3 time.0 time.1 time.2
   where
-    IsOfRecord : Type 0
-    IsOfRecord = (line : List ℕ) × (placed.0 < length lines) × (get_or lines placed.0 [] ≡ line) × Contains (times_of line) placed.1
-
     at : (n : ℕ) (line : List ℕ) (k : ℕ) → n ≡ 0 + k → k < length lines → get_or lines k [] ≡ line → (time : Occasion × ℕ) → Contains (times_of line) time
-        → (n, time) ≡ placed → IsOfRecord
+        → (n, time) ≡ placed → (line : List ℕ) × (placed.0 < length lines) × (get_or lines placed.0 [] ≡ line) × Contains (times_of line) placed.1
     at n line k place low is time inside same = search rules
-
-    by : (piece : ℕ × List ℕ) × Contains (enumerate_from 0 lines) piece × Contains (map (λ (time : Occasion × ℕ). (piece.0, time)) (times_of piece.1)) placed
-        → IsOfRecord
-    by (piece, there, inside) =
-        let stands = stands_at _ _ _ _ there in
-        let time = Contains-map _ _ _ inside in
-        at piece.0 piece.1 stands.0 stands.1 stands.2 stands.3 time.0 time.1 time.2
 
 -- the record of each event contains the event's occasion and time
 pub at_a_line : (lines : List (List ℕ)) (event : Event) → Contains (events_of lines) event → IsTimeOf lines event
-at_a_line lines event among = by (Contains-map as_event (enumerate_from 1 (placed_times lines)) event among)
-  where
-    at : (placed : Placed) → (event.place ≡ placed.0) × ((event.occasion, event.time) ≡ placed.1)
-        → (line : List ℕ) × (placed.0 < length lines) × (get_or lines placed.0 [] ≡ line) × Contains (times_of line) placed.1 → IsTimeOf lines event
-    at placed same (line, low, is, inside) = time_of_line lines event placed.0 line low is same.0 (subst (Contains (times_of line)) (sym same.1) inside)
-
-    by : (counted : ℕ × Placed) × Contains (enumerate_from 1 (placed_times lines)) counted × (as_event counted ≡ event) → IsTimeOf lines event
-    by (counted, there, same) =
-        let stands = stands_at 1 (placed_times lines) counted counted.1 there in
-        let inside : Contains (placed_times lines) counted.1 = (stands.0, stands.2, stands.3) in
-        at counted.1 (sym (ap (λ (e : Event). e.place) same), sym (ap (λ (e : Event). (e.occasion, e.time)) same)) (time_of_placed lines counted.1 inside)
+at_a_line lines event among =
+    let counted = Contains-map as_event (enumerate_from 1 (placed_times lines)) event among in
+    let stands = stands_at 1 (placed_times lines) counted.0 counted.0.1 counted.1 in
+    let inside : Contains (placed_times lines) counted.0.1 = (stands.0, stands.2, stands.3) in
+    let from = time_of_placed lines counted.0.1 inside in
+    time_of_line lines event counted.0.1.0 from.0 from.1 from.2 (sym (ap (λ (e : Event). e.place) counted.2))
+    (subst (Contains (times_of from.0)) (ap (λ (e : Event). (e.occasion, e.time)) counted.2) from.3)
 
 -- ---- each event is an arrival, a pass or a departure, and its record is a location record
 
@@ -115,16 +102,6 @@ pub timed_there : (line : List ℕ) (pair : Occasion × ℕ) → Contains (times
 timed_there line pair among = by (kind_of line) refl among
   where
     by : (kind : Option Kind) → kind_of line ≡ kind → Contains (times_by_kind kind line) pair → IsLocation line × IsOfTrain pair.0
-    by None h inside = absurd (nil-Contains pair inside)
-    by (Some header) h inside = absurd (nil-Contains pair inside)
-    by (Some tiploc_insert) h inside = absurd (nil-Contains pair inside)
-    by (Some tiploc_amend) h inside = absurd (nil-Contains pair inside)
-    by (Some tiploc_delete) h inside = absurd (nil-Contains pair inside)
-    by (Some association) h inside = absurd (nil-Contains pair inside)
-    by (Some basic_schedule) h inside = absurd (nil-Contains pair inside)
-    by (Some extra_details) h inside = absurd (nil-Contains pair inside)
-    by (Some change_en_route) h inside = absurd (nil-Contains pair inside)
-    by (Some trailer) h inside = absurd (nil-Contains pair inside)
     by (Some origin_location) h inside = (inl h, inr (inr (timed_is departure (scheduled_time (columns 11 15 line)) pair inside)))
     by (Some terminating_location) h inside = (inr (inr h), inl (timed_is arrival (scheduled_time (columns 11 15 line)) pair inside))
     by (Some intermediate_location) h inside =
@@ -140,6 +117,7 @@ timed_there line pair among = by (kind_of line) refl among
             | inr here ↦ inr (inr (timed_is departure (scheduled_time (columns 16 20 line)) pair here))
           ],
         )
+    by kind h inside = absurd (nil-Contains pair inside)
 
 -- an event is an arrival, a pass or a departure
 pub event_occasion : (lines : List (List ℕ)) (event : Event) → Contains (events_of lines) event → IsOfTrain event.occasion

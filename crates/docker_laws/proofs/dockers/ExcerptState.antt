@@ -1,22 +1,11 @@
 -- An excerpt of a valid state for a place is valid. It has the same dockers for the place as the
 -- state, and the program refuses them for the same days. One excerpt of a state has exactly the
 -- entries whose keys the docker of the place needs.
-use Rattle.std.proofs.Common.{◌++◌, ◌≡◌, ℕ, List, [], ◌∷◌, subst, inl, inr, refl, ap, sym, ◌∙◌, Bool, true, false, Some, None, arith}
-use Rattle.std.proofs.Common.{rules}
-use Rattle.std.specs.Prelude.{Option, ◌&&◌, ◌||◌, filter, find, option_and_then}
-use Rattle.std.specs.List.{list_any}
-use Rattle.std.specs.Str.{bytes_eq}
-use Rattle.std.specs.Ordering.{is_eq}
-use Rattle.std.proofs.lemmas.Slice.Eq.{bytes_eq-Decides}
-use Rattle.std.proofs.lemmas.List.Elements.{All-from_recursion, recursion_from_All, Contains-append_right}
-use Rattle.docker_model.specs.records.Date.{IsDay}
-use Rattle.docker_model.specs.file.Change.{Key, tiploc_key, association_key, schedule_key, association_body, schedule_body}
-use Rattle.docker_model.specs.state.Order.{IsBelow}
-use Rattle.docker_model.specs.state.Stamp.{LedgerItem, Stamp}
-use Rattle.docker_model.specs.state.Op.{Entry, body_of, key_cmp}
-use Rattle.docker_model.specs.state.Lapse.{HasNotToLapse}
-use Rattle.docker_model.specs.state.StatePart.{IsStampHere}
-use Rattle.docker_model.specs.state.State.{IsStampIn, IsOpOf, State, IsValid, IsLedger, IsGoodEntry, AreEntries, HaveLapsed, live_table}
+use Rattle.cif_laws.proofs.Common.{◌++◌, ◌≡◌, ℕ, List, [], ◌∷◌, subst, inl, inr, refl, ap, sym, ◌∙◌, Bool, true, false, Some, None, arith, rules, Option, ◌&&◌}
+use Rattle.cif_laws.proofs.Common.{◌||◌, filter, find, option_and_then, list_any, bytes_eq, is_eq, bytes_eq-Decides, All-from_recursion, recursion_from_All}
+use Rattle.cif_laws.proofs.Common.{Contains-append_right, IsDay, Key, tiploc_key, association_key, schedule_key, association_body, schedule_body, IsBelow}
+use Rattle.cif_laws.proofs.Common.{LedgerItem, Stamp, Entry, body_of, key_cmp, HasNotToLapse, IsStampHere, IsStampIn, IsOpOf, State, IsValid, IsLedger}
+use Rattle.cif_laws.proofs.Common.{IsGoodEntry, AreEntries, HaveLapsed, live_table}
 use Rattle.docker_laws.specs.Excerpt.{IsSublist, IsNeeded, IsExcerptState}
 use Rattle.docker_laws.specs.ExcerptWalk.{is_here, has_uid, name_in, is_call}
 use Rattle.cif_laws.proofs.orders.Orders.{same_key}
@@ -127,14 +116,13 @@ module _ (test : Key → Bool) where
   -- a search for a key that fails the test finds no entry in the filtered list
   find_dropped : (key : Key) → test key ≡ false → (xs : List Keyed)
       → find (λ entry. is_eq (key_cmp entry.0 key)) (filter (λ entry. test entry.0) xs) ≡ None
-  find_dropped key fails xs = by (find (λ entry. is_eq (key_cmp entry.0 key)) (filter (λ entry. test entry.0) xs)) refl
-    where
-      by : (found : Option Keyed) → find (λ (entry : Keyed). is_eq (key_cmp entry.0 key)) (filter (λ (entry : Keyed). test entry.0) xs) ≡ found → found ≡ None
-      by None h = refl
-      by (Some pair) h =
-          let told = find_some _ (filter (λ (entry : Keyed). test entry.0) xs) _ h in
-          let passed = filter_back (λ (entry : Keyed). test entry.0) _ pair told.0 in
-          absurd (let bad : false ≡ true = sym fails ∙ sym (ap test (same_key _ key told.1)) ∙ passed.1 in cc)
+  find_dropped key fails xs = (elim (find (λ entry. is_eq (key_cmp entry.0 key)) (filter (λ entry. test entry.0) xs)) as (λ found.
+      find (λ (entry : Keyed). is_eq (key_cmp entry.0 key)) (filter (λ (entry : Keyed). test entry.0) xs) ≡ found → found ≡ None) [
+        | None ↦ λ h. refl
+        | Some pair ↦ λ h. let told = find_some _ (filter (λ (entry : Keyed). test entry.0) xs) _ h in
+            let passed = filter_back (λ (entry : Keyed). test entry.0) _ pair told.0 in
+            absurd (let bad : false ≡ true = sym fails ∙ sym (ap test (same_key _ key told.1)) ∙ passed.1 in cc)
+      ]) refl
 
   -- the state with only the entries whose keys pass the test
   abbrev pub with_passing : State → State

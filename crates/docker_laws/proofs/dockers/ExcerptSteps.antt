@@ -1,27 +1,17 @@
 -- Lemmas on the walk that computes an excerpt. They say which entries are in the field `kept` after
 -- each step and at the end. In key order the schedules of one UID are next to each other. The walk
 -- collects them in the field `run`, and then keeps or drops them together.
-use Rattle.std.proofs.Common.{All, ◌≡◌, ℕ, List, [], ◌∷◌, ◌++◌, subst, inl, inr, ◌⊎◌, refl, ap, sym, arith, rules}
-use Rattle.std.proofs.lemmas.Grind.{common_steps}
-use Rattle.std.proofs.Common.{◌∙◌, Bool, true, false, cond, Some, Contains, append-nil, append_assoc}
-use Rattle.std.specs.Prelude.{Option, ◌||◌, ◌↔◌, filter, fold, option_and_then}
-use Rattle.std.specs.List.{list_any}
-use Rattle.std.specs.Ordering.{on}
-use Rattle.std.proofs.lemmas.Slice.Eq.{bytes_eq-Decides}
-use Rattle.std.proofs.lemmas.List.Elements.{filter-append, filter_map-append, Contains-append_cases, Contains-append_right}
+use Rattle.cif_laws.proofs.Common.{All, ◌≡◌, ℕ, List, [], ◌∷◌, ◌++◌, subst, inl, inr, ◌⊎◌, refl, ap, sym, arith, rules, common_steps, ◌∙◌, Bool, true, false}
+use Rattle.cif_laws.proofs.Common.{cond, Some, Contains, append-nil, append_assoc, Option, ◌||◌, ◌↔◌, filter, fold, option_and_then, list_any, on}
+use Rattle.cif_laws.proofs.Common.{bytes_eq-Decides, filter-append, filter_map-append, Contains-append_cases, Contains-append_right, Key, association_key}
+use Rattle.cif_laws.proofs.Common.{schedule_key, AssociationKey, ScheduleKey, association_body, schedule_body, CallsAt, Op, put_with, Entry, body_of, key_cmp}
+use Rattle.cif_laws.proofs.Common.{IsBelow, LedgerItem, State, AreAscending, AreEntries, live_table}
 use Rattle.std.proofs.lemmas.List.Folds.{list_any-append}
-use Rattle.docker_model.specs.file.Change.{Key, tiploc_key, association_key, schedule_key, AssociationKey}
-use Rattle.docker_model.specs.file.Change.{ScheduleKey, association_body, schedule_body}
-use Rattle.docker_model.specs.file.Journey.{CallsAt}
-use Rattle.docker_model.specs.state.Op.{Op, put_with, Entry, body_of, key_cmp}
-use Rattle.docker_model.specs.state.Order.{IsBelow}
-use Rattle.docker_model.specs.state.Stamp.{LedgerItem}
-use Rattle.docker_model.specs.state.State.{State, AreAscending, AreEntries, live_table}
 use Rattle.docker_laws.specs.Excerpt.{IsNeeded, IsConcerned, IsSublist}
 use Rattle.docker_laws.specs.ExcerptWalk.{ExcerptSoFar, nothing_kept, is_here, has_uid, name_in, names_in, is_call, is_run_named, is_run_calling}
 use Rattle.docker_laws.specs.ExcerptWalk.{is_run_needed, kept_after_run, goes_on, with_entry_of, next_kept, kept_so_far, excerpt_for}
 use Rattle.cif_laws.proofs.orders.Ascending.{later_of}
-use Rattle.cif_laws.proofs.lists.Membership.{member_of, cons-Contains-first, nil-Contains, Contains-single}
+use Rattle.cif_laws.proofs.lists.Membership.{member_of, nil-Contains, Contains-single}
 use Rattle.docker_laws.proofs.dockers.Sublists.{sublist_itself, sublist_append, sublist_onward, sublist_member, sublist_front}
 use Rattle.cif_laws.proofs.lists.BoolsAndOptions.{both, either, none_some}
 use Rattle.cif_laws.proofs.lists.FilteredMembers.{filter_back, filter_forth}
@@ -29,7 +19,7 @@ use Rattle.state_laws.proofs.states.PlainTable.{Keyed}
 use Rattle.state_laws.proofs.joins.StagedEntry.{entry_at_iff}
 use Rattle.state_laws.proofs.indexes.CallsTest.{any_back, any_forth, calls_test, no_member}
 use Rattle.docker_laws.proofs.dockers.ExcerptState.{calls_as, names_as, is_name, is_needed, needed_passes, some_entries, or_left, or_right}
-use Rattle.docker_laws.proofs.dockers.ExcerptWalk.{false_true, uid_once, above_uid, name_of, walk_keeps}
+use Rattle.docker_laws.proofs.dockers.ExcerptWalk.{false_true, uid_once, above_uid, name_of, goes_member, walk_keeps}
 
 -- ---- a property that each step of a walk preserves holds after each step
 
@@ -93,9 +83,6 @@ module _ (place : List ℕ) where
   abbrev OfOneUid : List Keyed → ExcerptSoFar → Type 0
   OfOneUid done so_far = (uid : List ℕ) × ((r : Keyed) → Contains so_far.run r → has_uid uid r.0 ≡ true)
 
-  goes_first : (run : List Keyed) (uid : List ℕ) → goes_on run uid ≡ true → (first : Keyed) × Contains run first × (has_uid uid first.0 ≡ true)
-  goes_first = search (rules, false_true, cons-Contains-first)
-
   one_uid_schedule : (done : List Keyed) (so_far : ExcerptSoFar) (key : ScheduleKey) (entry : Entry) → OfOneUid done so_far
       → OfOneUid (done ++ (schedule_key key, entry) ∷ []) (with_entry_of place so_far (schedule_key key) entry)
   one_uid_schedule done so_far key entry here = by (goes_on so_far.run key.uid) refl
@@ -115,7 +102,7 @@ module _ (place : List ℕ) where
       )
         where
           same : here.0 ≡ key.uid
-          same = let first = goes_first so_far.run key.uid goes in uid_once here.0 key.uid first.0.0 (here.1 first.0 first.1) first.2
+          same = let first = goes_member so_far.run key.uid goes in uid_once here.0 key.uid first.0.0 (here.1 first.0 first.1) first.2
       by false stops =
           (key.uid, λ r among. subst (λ (e : Keyed). has_uid key.uid e.0 ≡ true) (Contains-single {A = Keyed} (schedule_key key, entry) r among) own)
 
@@ -126,8 +113,7 @@ module _ (place : List ℕ) where
   one_uid_more : (done : List Keyed) (so_far : ExcerptSoFar) (key : Key) (entry : Entry) → OfOneUid done so_far
       → OfOneUid (done ++ (key, entry) ∷ []) (with_entry_of place so_far key entry)
   one_uid_more done so_far (schedule_key key) entry here = one_uid_schedule done so_far key entry here
-  one_uid_more done so_far (tiploc_key code) entry here = one_uid_other done so_far (tiploc_key code, entry) (is_here place (tiploc_key code))
-  one_uid_more done so_far (association_key key) entry here = one_uid_other done so_far (association_key key, entry) (is_here place (association_key key))
+  one_uid_more done so_far key entry here = one_uid_other done so_far (key, entry) (is_here place key)
 
   run_of_one_uid : (entries : List Keyed) → OfOneUid entries (kept_so_far place entries)
   run_of_one_uid = all_along place OfOneUid (λ done so_far x here. one_uid_more done so_far x.0 x.1 here) ([], λ r among. absurd (nil-Contains r among))
@@ -137,7 +123,7 @@ module _ (place : List ℕ) where
       → Contains (kept_so_far place entries).run r → has_uid uid r.0 ≡ true
   run_uid entries uid r goes among =
       let of = run_of_one_uid entries in
-      let first = goes_first (kept_so_far place entries).run uid goes in
+      let first = goes_member (kept_so_far place entries).run uid goes in
       subst (λ other. has_uid other r.0 ≡ true) (uid_once of.0 uid first.0.0 (of.1 first.0 first.1) first.2) (of.1 r among)
 
   -- in key order, when the walk reaches a TIPLOC or an association, the field `run` is empty,
@@ -177,8 +163,7 @@ module _ (place : List ℕ) where
   named_more : (done : List Keyed) (so_far : ExcerptSoFar) (key : Key) (entry : Entry) → AreNamed done so_far
       → AreNamed (done ++ (key, entry) ∷ []) (with_entry_of place so_far key entry)
   named_more done so_far (schedule_key key) entry here = named_schedule done so_far key entry here
-  named_more done so_far (tiploc_key code) entry here = named_other done so_far (tiploc_key code, entry) (is_here place (tiploc_key code)) refl here
-  named_more done so_far (association_key key) entry here = named_other done so_far (association_key key, entry) (is_here place (association_key key)) refl here
+  named_more done so_far key entry here = named_other done so_far (key, entry) (is_here place key) refl here
 
   -- the entries at the place that the walk has passed name the same associated trains as the
   -- entries in `kept`
@@ -209,8 +194,7 @@ module _ (place : List ℕ) (so_far : ExcerptSoFar) where
   pub drops_elsewhere : (key : Key) (entry : Entry) → ((uid : List ℕ) → has_uid uid key ≡ false) → is_here place key ≡ false → so_far.run ≡ []
       → next_kept place so_far (key, entry) ≡ so_far
   drops_elsewhere (schedule_key key) entry never elsewhere none = false_true (sym (never key.uid) ∙ (bytes_eq-Decides key.uid key.uid).1 refl)
-  drops_elsewhere (tiploc_key code) entry never elsewhere none = elsewhere_then (tiploc_key code, entry) (is_here place (tiploc_key code)) elsewhere none
-  drops_elsewhere (association_key key) entry never elsewhere none = search (rules, elsewhere_then)
+  drops_elsewhere key entry never elsewhere none = elsewhere_then (key, entry) (is_here place key) elsewhere none
 
 -- `is_run_named` holds for a list of schedules if and only if the UID of the first schedule is in
 -- `names`

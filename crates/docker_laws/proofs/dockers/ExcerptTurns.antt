@@ -1,13 +1,7 @@
 -- A loop can compute an excerpt from three values. They are the kept entries, the entries for the
 -- schedules of the current UID, and a flag that says whether the docker needs these schedules.
-use Rattle.std.proofs.Common.{◌≡◌, ℕ, List, [], ◌∷◌, ◌++◌, subst, ap, sym, ◌∙◌, Bool, true, false, cond, Contains, arith, rules}
-use Rattle.std.proofs.lemmas.Grind.{common_steps}
-use Rattle.std.specs.Prelude.{◌||◌, ◌↔◌}
-use Rattle.docker_model.specs.file.Change.{Key, schedule_key, ScheduleKey}
-use Rattle.docker_model.specs.state.Op.{Entry}
-use Rattle.docker_model.specs.state.Stamp.{LedgerItem}
-use Rattle.docker_model.specs.state.State.{State, AreEntries}
-use Rattle.docker_model.specs.state.StatePart.{IsAboveEntries}
+use Rattle.cif_laws.proofs.Common.{◌≡◌, ℕ, List, [], ◌∷◌, ◌++◌, subst, ap, sym, ◌∙◌, Bool, true, false, cond, Contains, arith, rules, common_steps, ◌||◌, ◌↔◌}
+use Rattle.cif_laws.proofs.Common.{Key, schedule_key, ScheduleKey, Entry, LedgerItem, State, AreEntries, IsAboveEntries}
 use Rattle.docker_laws.specs.Excerpt.{IsSublist}
 use Rattle.docker_laws.specs.ExcerptWalk.{ExcerptSoFar, is_here, has_uid, names_in, is_call, is_run_named}
 use Rattle.docker_laws.specs.ExcerptWalk.{kept_after_run, goes_on, next_kept, kept_so_far, HasKept}

@@ -1,23 +1,10 @@
 -- A walk over entries in key order keeps an entry if and only if the docker of the place needs the
 -- entry's key. The test `is_needed` decides this from the entries.
-use Rattle.std.proofs.Common.{◌≡◌, ℕ, List, [], ◌∷◌, ◌++◌, subst, inl, inr, ◌⊎◌, refl, ap, sym, ◌∙◌, rules}
-use Rattle.std.proofs.Common.{Bool, true, false, cond, Some, None, Contains, append-nil, append_assoc}
-use Rattle.std.specs.Prelude.{◌↔◌, Option, filter}
-use Rattle.std.specs.List.{list_any}
-use Rattle.std.specs.declared.cmp.Ordering.{Ordering}
-use Rattle.std.specs.declared.cmp.Ordering.TheVariants.{Less, Equal, Greater}
-use Rattle.std.specs.Ordering.{ordering_then, nat_cmp, on}
-use Rattle.std.specs.Cmp.Lexicographic.{nat_list_cmp_total}
-use Rattle.std.proofs.lemmas.Map.Lookups.{exact_bytes}
-use Rattle.std.proofs.lemmas.Slice.Eq.{bytes_eq-Decides}
-use Rattle.std.proofs.lemmas.List.Elements.{filter-append, Contains-append_cases, Contains-append_left, Contains-append_right}
-use Rattle.docker_model.specs.file.Change.{Key, tiploc_key, association_key, schedule_key, AssociationKey, ScheduleKey}
-use Rattle.docker_model.specs.state.Order.{bytes_cmp, IsBelow, IsAtMost}
-use Rattle.docker_model.specs.state.Op.{Op, Entry, key_cmp, schedule_key_cmp}
-use Rattle.docker_model.specs.state.State.{State, AreAscending, IsValid, live_table}
-use Rattle.docker_model.specs.docker.DockerLine.{DockerLine}
-use Rattle.docker_model.specs.docker.DockerList.{IsDockerList}
-use Rattle.docker_model.specs.docker.DockerText.{IsDockerText}
+use Rattle.cif_laws.proofs.Common.{◌≡◌, ℕ, List, [], ◌∷◌, ◌++◌, subst, inl, inr, ◌⊎◌, refl, ap, sym, ◌∙◌, rules, arith, Bool, true, false, cond, Some, None}
+use Rattle.cif_laws.proofs.Common.{Contains, append-nil, append_assoc, Option, filter, list_any, Ordering, Less, Equal, Greater, ordering_then, nat_cmp, on}
+use Rattle.cif_laws.proofs.Common.{nat_list_cmp_total, exact_bytes, bytes_eq-Decides, filter-append, Contains-append_cases, Contains-append_left}
+use Rattle.cif_laws.proofs.Common.{Contains-append_right, Key, schedule_key, ScheduleKey, bytes_cmp, IsBelow, IsAtMost, Op, Entry, key_cmp, schedule_key_cmp}
+use Rattle.cif_laws.proofs.Common.{State, AreAscending, IsValid, live_table}
 use Rattle.docker_laws.specs.Excerpt.{IsExcerptState}
 use Rattle.docker_laws.specs.ExcerptWalk.{ExcerptSoFar, nothing_kept, is_here, has_uid, name_in, names_in, is_call, is_run_calling}
 use Rattle.docker_laws.specs.ExcerptWalk.{kept_after_run, goes_on, with_entry_of, next_kept, kept_from, kept_so_far, excerpt_for}
@@ -28,7 +15,8 @@ use Rattle.cif_laws.proofs.lists.Membership.{Contains-cons, cons-Contains, cons-
 use Rattle.cif_laws.proofs.lists.BoolsAndOptions.{both, and_true}
 use Rattle.cif_laws.proofs.lists.FilteredMembers.{filter_back, filter_forth, part_back, part_forth}
 use Rattle.state_laws.proofs.states.PlainTable.{Keyed}
-use Rattle.docker_laws.proofs.dockers.ExcerptDocker.{excerpt_list_iff, excerpt_text_iff}
+use Rattle.docker_laws.proofs.dockers.ExcerptDocker.{excerpt_docker}
+use Rattle.docker_laws.proofs.dockers.SameDocker.{HaveOneDocker}
 use Rattle.docker_laws.proofs.dockers.ExcerptState.{calls_as, names_as, is_name, is_concerned, is_needed, passing_is_excerpt, excerpt_valid}
 use Rattle.state_laws.proofs.indexes.CallsTest.{any_back, any_forth}
 
@@ -41,22 +29,18 @@ false_true h = absurd (let bad : false ≡ true = h in cc)
 -- a key has at most one UID
 pub uid_once : (one other : List ℕ) (key : Key) → has_uid one key ≡ true → has_uid other key ≡ true → one ≡ other
 uid_once one other (schedule_key key) h g = sym ((bytes_eq-Decides key.uid one).0 h) ∙ (bytes_eq-Decides key.uid other).0 g
-uid_once one other (tiploc_key code) h g = false_true h
-uid_once one other (association_key key) h g = false_true h
+uid_once one other key h g = false_true h
 
 -- a key above the key of a schedule is also the key of a schedule
 pub above_uid : (a b : Key) (uid : List ℕ) → key_cmp a b ≡ Less → has_uid uid a ≡ true → (other : List ℕ) × (has_uid other b ≡ true)
 above_uid (schedule_key a) (schedule_key b) uid below h = (b.uid, (bytes_eq-Decides b.uid b.uid).1 refl)
-above_uid (schedule_key a) (tiploc_key b) uid below h = absurd (let bad : Greater ≡ Less = below in cc)
-above_uid (schedule_key a) (association_key b) uid below h = absurd (let bad : Greater ≡ Less = below in cc)
-above_uid (tiploc_key a) b uid below h = false_true h
-above_uid (association_key a) b uid below h = false_true h
+above_uid (schedule_key a) b uid below h = absurd (let bad : Greater ≡ Less = below in cc)
+above_uid a b uid below h = false_true h
 
 -- the key of a TIPLOC or an association isn't the key of a schedule
 here_no_uid : (place uid : List ℕ) (key : Key) → is_here place key ≡ true → has_uid uid key ≡ true → ⊥
 here_no_uid place uid (schedule_key key) h g = false_true h
-here_no_uid place uid (tiploc_key code) h g = false_true g
-here_no_uid place uid (association_key key) h g = false_true g
+here_no_uid place uid key h g = false_true g
 
 first_decides : (a b : Ordering) → ordering_then a b ≡ Less → ¬ (a ≡ Greater)
 first_decides Less b less greater = cc
@@ -71,13 +55,7 @@ uid_between a b c up further same =
     sym (exact_bytes a.uid b.uid (level nat_list_cmp_total a.uid b.uid low (subst (λ uid. IsAtMost bytes_cmp b.uid uid) (sym same) high)))
 
 between_uid : (a b c : Key) (uid : List ℕ) → key_cmp a b ≡ Less → key_cmp b c ≡ Less → has_uid uid a ≡ true → has_uid uid c ≡ true → has_uid uid b ≡ true
-between_uid (schedule_key a) (schedule_key b) (schedule_key c) uid up further h g = search (rules, bytes_eq-Decides, uid_between)
-between_uid (schedule_key a) (schedule_key b) (tiploc_key c) uid up further h g = false_true g
-between_uid (schedule_key a) (schedule_key b) (association_key c) uid up further h g = false_true g
-between_uid (schedule_key a) (tiploc_key b) c uid up further h g = absurd (let bad : Greater ≡ Less = up in cc)
-between_uid (schedule_key a) (association_key b) c uid up further h g = absurd (let bad : Greater ≡ Less = up in cc)
-between_uid (tiploc_key a) b c uid up further h g = false_true h
-between_uid (association_key a) b c uid up further h g = false_true h
+between_uid = search (rules, bytes_eq-Decides, uid_between, false_true)
 
 -- ---- lists in key order
 
@@ -100,14 +78,11 @@ later_right [] ys later = later
 later_right (x ∷ xs) ys later = later_right xs ys later.1
 
 filter_alike : (test : Keyed → Bool) (b : Bool) (xs : List Keyed) → ((x : Keyed) → Contains xs x → test x ≡ b) → filter test xs ≡ cond b xs []
-filter_alike test true [] each = refl
-filter_alike test false [] each = refl
-filter_alike test true (x ∷ xs) each =
-    let rest = filter_alike test true xs (λ y among. each y (cons-Contains x xs y among)) in
-    λ i. cond (each x (cons-Contains-first x xs) i) (x ∷ rest i) (rest i)
-filter_alike test false (x ∷ xs) each =
-    let rest = filter_alike test false xs (λ y among. each y (cons-Contains x xs y among)) in
-    λ i. cond (each x (cons-Contains-first x xs) i) (x ∷ rest i) (rest i)
+filter_alike test b [] each = search rules
+filter_alike test b (x ∷ xs) each =
+    let rest = filter_alike test b xs (λ y among. each y (cons-Contains x xs y among)) in
+    let first = each x (cons-Contains-first x xs) in
+    grind (arith, rest, first)
 
 -- two Booleans are equal if each implies the other
 pub same_tests : (a b : Bool) → (a ≡ true → b ≡ true) → (b ≡ true → a ≡ true) → a ≡ b
@@ -116,6 +91,10 @@ same_tests false true to back = back refl
 same_tests false false to back = refl
 
 -- ---- the invariant of a walk
+
+-- no entry of the second list has the UID of an entry of the first list
+abbrev IsEnded : List Keyed → List Keyed → Type 0
+IsEnded run rest = (r y : Keyed) (other : List ℕ) → Contains run r → Contains rest y → has_uid other r.0 ≡ true → has_uid other y.0 ≡ true → ⊥
 
 -- The invariant of the walk. The list of all entries is `done`, followed by the field `run` of
 -- `so_far` and by `rest`. The field `kept` has the entries of `done` that the docker needs. All
@@ -126,16 +105,23 @@ record IsAt (place : List ℕ) (all done : List Keyed) (so_far : ExcerptSoFar) (
   kept : so_far.kept ≡ filter (λ (entry : Keyed). is_needed place all entry.0) done
   uid : List ℕ
   of_uid : (r : Keyed) → Contains so_far.run r → has_uid uid r.0 ≡ true
-  apart : (z y : Keyed) (other : List ℕ) → Contains done z → Contains (so_far.run ++ rest) y → has_uid other z.0 ≡ true → has_uid other y.0 ≡ true → ⊥
+  apart : IsEnded done (so_far.run ++ rest)
 
--- no entry in `rest` has the UID of an entry in `run`
-abbrev IsEnded : List Keyed → List Keyed → Type 0
-IsEnded run rest = (r y : Keyed) (other : List ℕ) → Contains run r → Contains rest y → has_uid other r.0 ≡ true → has_uid other y.0 ≡ true → ⊥
+-- no entry of a list has the UID of an entry of two lists, if none has the UID of an entry of either
+both_ended : (xs ys rest : List Keyed) → IsEnded xs rest → IsEnded ys rest → IsEnded (xs ++ ys) rest
+both_ended xs ys rest one two r y other among = elim (Contains-append_cases xs ys r among) [
+  | inl here ↦ one r y other here
+  | inr here ↦ two r y other here
+]
 
 -- if an optional UID passes the test `is_name` for a UID, it is present and equals that UID
 pub name_of : (uid : List ℕ) (found : Option (List ℕ)) → is_name uid found ≡ true → (name : List ℕ) × (found ≡ Some name) × (name ≡ uid)
 name_of uid None h = false_true h
 name_of uid (Some name) h = (name, refl, (bytes_eq-Decides name uid).0 h)
+
+-- if `goes_on` is true of a list and a UID, an entry of the list has this UID
+pub goes_member : (run : List Keyed) (uid : List ℕ) → goes_on run uid ≡ true → (first : Keyed) × Contains run first × (has_uid uid first.0 ≡ true)
+goes_member = search (rules, false_true, cons-Contains-first)
 
 module _ (place : List ℕ) (all : List Keyed) (order : AllLater Below all) where
   passes : Keyed → Bool
@@ -143,18 +129,15 @@ module _ (place : List ℕ) (all : List Keyed) (order : AllLater Below all) wher
 
   needed_here : (key : Key) → is_here place key ≡ true → is_needed place all key ≡ true
   needed_here (schedule_key key) h = false_true h
-  needed_here (tiploc_key code) h = h
-  needed_here (association_key key) h = h
+  needed_here key h = h
 
   here_of_name : (key : Key) (op : Op) (name : List ℕ) → name_in key op ≡ Some name → is_needed place all key ≡ true → is_here place key ≡ true
-  here_of_name (association_key key) op name is needed = needed
-  here_of_name (tiploc_key code) op name is needed = needed
   here_of_name (schedule_key key) op name is needed = absurd (let bad : None ≡ Some name = is in cc)
+  here_of_name key op name is needed = needed
 
   needed_of_uid : (uid : List ℕ) (key : Key) → has_uid uid key ≡ true → is_needed place all key ≡ is_concerned place all uid
   needed_of_uid uid (schedule_key key) h = ap (is_concerned place all) ((bytes_eq-Decides key.uid uid).0 h)
-  needed_of_uid uid (tiploc_key code) h = false_true h
-  needed_of_uid uid (association_key key) h = false_true h
+  needed_of_uid uid key h = false_true h
 
   -- ---- after the entries in `run` are kept or dropped, the invariant still holds
   module _ (done kept : List Keyed) (first : Keyed) (others rest : List Keyed)
@@ -265,10 +248,6 @@ module _ (place : List ℕ) (all : List Keyed) (order : AllLater Below all) wher
       let later : AllLater Below (x ∷ rest) = later_right (done ++ so_far.run) (x ∷ rest) (subst (AllLater Below) at.whole order) in
       below_by_recursion (Below x) rest y later.0 among
 
-  goes_member : (run : List Keyed) (uid : List ℕ) → goes_on run uid ≡ true → (first : Keyed) × Contains run first × (has_uid uid first.0 ≡ true)
-  goes_member [] uid h = false_true h
-  goes_member (first ∷ run) uid h = (first, cons-Contains-first first run, h)
-
   goes_on_by : (run : List Keyed) (uid : List ℕ) (r : Keyed) → Contains run r → ((z : Keyed) → Contains run z → has_uid uid z.0 ≡ true) → goes_on run uid ≡ true
   goes_on_by [] uid r among each = absurd (nil-Contains r among)
   goes_on_by (first ∷ run) uid r among each = each first (cons-Contains-first first run)
@@ -332,10 +311,7 @@ module _ (place : List ℕ) (all : List Keyed) (order : AllLater Below all) wher
         kept = run_end done so_far.kept so_far.run ((schedule_key key, entry) ∷ rest) at ended;
         uid = key.uid;
         of_uid = search (rules, bytes_eq-Decides);
-        apart = λ z y other in_done behind of_z of_y. elim (Contains-append_cases done so_far.run z in_done) [
-          | inl here ↦ at.apart z y other here (Contains-append_right so_far.run ((schedule_key key, entry) ∷ rest) y behind) of_z of_y
-          | inr here ↦ ended z y other here behind of_z of_y
-        ];
+        apart = both_ended done so_far.run ((schedule_key key, entry) ∷ rest) (search (rules, at.apart, Contains-append_right)) ended;
       }
 
   -- the invariant holds for some list `done` of entries that the walk has passed
@@ -388,16 +364,10 @@ module _ (place : List ℕ) (all : List Keyed) (order : AllLater Below all) wher
         kept = is;
         uid = [];
         of_uid = λ r among. absurd (nil-Contains r among);
-        apart = λ z y other in_now behind of_z of_y.
-            elim (Contains-append_cases (done ++ so_far.run) ((key, entry) ∷ []) z in_now) [
-              | inr last ↦ never other (subst (λ (e : Keyed). has_uid other e.0 ≡ true) (sym (Contains-single {A = Keyed} (key, entry) z last)) of_z)
-              | inl before_it ↦ elim (Contains-append_cases done so_far.run z before_it) [
-                | inl here ↦
-                    at.apart z y other here
-                    (Contains-append_right so_far.run ((key, entry) ∷ rest) y (cons-Contains {A = Keyed} (key, entry) rest y behind)) of_z of_y
-                | inr here ↦ none z here
-              ]
-            ];
+        apart = both_ended (done ++ so_far.run) ((key, entry) ∷ []) rest
+            (both_ended done so_far.run rest (search (rules, at.apart, Contains-append_right, cons-Contains)) (search (rules, none)))
+            (λ z y other last behind of_z of_y.
+            never other (subst (λ (e : Keyed). has_uid other e.0 ≡ true) (sym (Contains-single {A = Keyed} (key, entry) z last)) of_z));
       }
 
       by : (b : Bool) → is_here place key ≡ b
@@ -406,17 +376,10 @@ module _ (place : List ℕ) (all : List Keyed) (order : AllLater Below all) wher
       by true h = (now, there (kept_after_run place so_far ++ (key, entry) ∷ []) (sym (with_last true h)))
       by false h = (now, there (kept_after_run place so_far) (sym (with_last false h ∙ append-nil (kept_after_run place so_far))))
 
-  tiploc_never : (code uid : List ℕ) → ¬ (has_uid uid (tiploc_key code) ≡ true)
-  tiploc_never code uid h = false_true h
-
-  association_never : (key : AssociationKey) (uid : List ℕ) → ¬ (has_uid uid (association_key key) ≡ true)
-  association_never key uid h = false_true h
-
   one_more : (done : List Keyed) (so_far : ExcerptSoFar) (key : Key) (entry : Entry) (rest : List Keyed)
       → IsAt place all done so_far ((key, entry) ∷ rest) → Goes (with_entry_of place so_far key entry) rest
   one_more done so_far (schedule_key key) entry rest at = schedule_more done so_far key entry rest at
-  one_more done so_far (tiploc_key code) entry rest at = other_more done so_far (tiploc_key code) entry rest (tiploc_never code) refl at
-  one_more done so_far (association_key key) entry rest at = other_more done so_far (association_key key) entry rest (association_never key) refl at
+  one_more done so_far key entry rest at = other_more done so_far key entry rest (λ uid h. false_true h) refl at
 
   -- ---- at the end of a walk, the kept entries are exactly the entries whose keys the docker needs
 
@@ -444,14 +407,7 @@ walk_is_excerpt place state up = search (rules, walk_keeps, later_of, passing_is
 pub walk_valid : (place : List ℕ) (state : State) → IsValid state → IsValid (excerpt_for place state)
 walk_valid place state valid = excerpt_valid place state (excerpt_for place state) valid (walk_is_excerpt place state valid.entries.1)
 
--- a valid state and its excerpt for a place have the same docker list for the place
-pub walk_list_iff : (place : List ℕ) (state : State) (day : ℕ) (lines : List DockerLine) → IsValid state
-    → IsDockerList (live_table state) place day lines ↔ IsDockerList (live_table (excerpt_for place state)) place day lines
-walk_list_iff place state day lines valid =
-    excerpt_list_iff place (live_table state) (live_table (excerpt_for place state)) (walk_is_excerpt place state valid.entries.1).live day lines
-
--- a valid state and its excerpt for a place have the same docker text for the place
-pub walk_text_iff : (place : List ℕ) (state : State) (day : ℕ) (text : List ℕ) → IsValid state
-    → IsDockerText (live_table state) place day text ↔ IsDockerText (live_table (excerpt_for place state)) place day text
-walk_text_iff place state day text valid =
-    excerpt_text_iff place (live_table state) (live_table (excerpt_for place state)) (walk_is_excerpt place state valid.entries.1).live day text
+-- a valid state and its excerpt for a place have the same docker for the place
+pub walk_docker : (place : List ℕ) (state : State) (day : ℕ) → IsValid state
+    → HaveOneDocker (live_table state) (live_table (excerpt_for place state)) place day
+walk_docker place state day valid = excerpt_docker place _ _ (walk_is_excerpt place state valid.entries.1).live day

@@ -1,13 +1,7 @@
 -- If the bodies of a table are well formed, its schedules pass midnight at most twice. So each
 -- event is at most two days after the start day of its train.
-use Rattle.std.proofs.Common.{◌≡◌, ℕ, ◌+◌, ◌≤◌, List, subst, Some, rules}
-use Rattle.std.proofs.lemmas.Bool.{eqb-true}
-use Rattle.std.proofs.lemmas.List.{take-append-drop}
-use Rattle.docker_model.specs.file.Journey.{times_along, fall_count, midnights}
-use Rattle.docker_model.specs.file.Change.{schedule_key, ScheduleKey, schedule_body}
-use Rattle.docker_model.specs.state.Table.{Table}
-use Rattle.docker_model.specs.state.State.{HasGoodBodies, IsScheduleOf}
-use Rattle.docker_model.specs.docker.Event.{Event, falls_to, event_day}
+use Rattle.cif_laws.proofs.Common.{◌≡◌, ℕ, ◌≤◌, List, subst, Some, rules, eqb-true, take-append-drop, times_along, fall_count, midnights, schedule_key}
+use Rattle.cif_laws.proofs.Common.{ScheduleKey, schedule_body, Table, HasGoodBodies, IsScheduleOf, falls_to}
 use Rattle.cif_laws.proofs.records.RecordTests.{fewer_falls}
 use Rattle.cif_laws.proofs.schedules.ScheduleStages.{midnights_of_journey}
 
@@ -25,12 +19,6 @@ few_midnights = search (rules, eqb-true, midnights_of_journey)
 pub bodies_few : (live : Table) → HasGoodBodies live → HasFewMidnights live
 bodies_few live good key lines is = few_midnights key lines (good (schedule_key key) (schedule_body lines) is)
 
--- ---- a train with an event on a day starts at most two days before the event
-
 -- up to an event, a schedule passes midnight at most as often as in its whole journey
 pub falls_below : (lines : List (List ℕ)) (number : ℕ) → falls_to lines number ≤ midnights lines
 falls_below lines number = subst (λ times. falls_to lines number ≤ fall_count times) (take-append-drop number (times_along lines)) (fewer_falls _ _)
-
--- a train with an event on a day started at most two days before that day
-pub starts_near : (start : ℕ) (lines : List (List ℕ)) (event : Event) (day : ℕ) → midnights lines ≤ 2 → event_day start lines event ≡ day → day ≤ start + 2
-starts_near = search (rules, falls_below)

@@ -1,29 +1,14 @@
 -- The state that is computed from the changes of one file, entry by entry, is the summary of the
 -- file. The join of an empty state with a valid state is the valid state.
-use Rattle.std.proofs.Common.{◌≡◌, ℕ, List, [], ◌∷◌, length, append-nil, refl, ap, sym, ◌∙◌, subst, inl, rules}
-use Rattle.std.proofs.lemmas.Grind.{common_steps}
-use Rattle.std.proofs.Common.{inr, ◌⊎◌, Some, Bool, true, false, Contains, All, ◌≤◌, arith}
-use Rattle.std.specs.Prelude.{Option, ◌↔◌, ◌==◌}
-use Rattle.std.specs.declared.cmp.Ordering.{Ordering}
-use Rattle.std.specs.declared.cmp.Ordering.TheVariants.{Less, Equal, Greater}
-use Rattle.std.specs.Ordering.{ordering_reverse}
-use Rattle.std.specs.Cmp.{tied_itself}
-use Rattle.std.specs.List.{AllByRecursion}
-use Rattle.std.proofs.Math.Nat.{max-eq_right}
-use Rattle.std.proofs.lemmas.Bool.{eqb-true, eq-eqb}
-use Rattle.docker_model.specs.file.File.{IsFile, most_records}
-use Rattle.docker_model.specs.file.Change.{Key, changes}
-use Rattle.docker_model.specs.state.Order.{IsAtMost}
-use Rattle.docker_model.specs.state.Stamp.{FileStamp, LedgerItem, ledger_item_of, file_stamp_of, IsFloor, IsKept}
-use Rattle.docker_model.specs.state.Op.{Entry, key_cmp, entry_cmp}
-use Rattle.docker_model.specs.state.Lapse.{lapse_entry}
-use Rattle.docker_model.specs.state.State.{State, AreAscending, IsGreatestAmong, IsGoodEntry, IsValid, IsJoin}
-use Rattle.docker_model.specs.state.Summary.{IsSummary}
+use Rattle.cif_laws.proofs.Common.{◌≡◌, ℕ, List, [], ◌∷◌, length, append-nil, refl, ap, sym, ◌∙◌, subst, inl, rules, common_steps, inr, ◌⊎◌, Contains, ◌≤◌}
+use Rattle.cif_laws.proofs.Common.{arith, Option, ◌↔◌, ◌==◌, Less, Equal, Greater, ordering_reverse, tied_itself, AllByRecursion, max-eq_right, IsFile}
+use Rattle.cif_laws.proofs.Common.{most_records, Key, changes, IsAtMost, FileStamp, LedgerItem, ledger_item_of, file_stamp_of, IsFloor, IsKept, Entry, key_cmp}
+use Rattle.cif_laws.proofs.Common.{entry_cmp, lapse_entry, State, AreAscending, IsGreatestAmong, IsGoodEntry, IsValid, IsJoin, IsSummary}
 use Rattle.docker_laws.specs.FileSummary.{placed, with_earlier, latest_entries, summary_of}
-use Rattle.cif_laws.proofs.orders.Orders.{key_total, exact_key, entry_total, file_stamp_total}
+use Rattle.cif_laws.proofs.orders.Orders.{key_total, exact_key, entry_total}
 use Rattle.cif_laws.proofs.orders.AtMost.{at_most_itself, at_most_below}
 use Rattle.cif_laws.proofs.lists.Membership.{Contains-cons, cons-Contains, cons-Contains-first, nil-Contains, Contains-single}
-use Rattle.cif_laws.proofs.lists.Membership.{single-Contains, Contains-map, below_by_recursion, each_member, all_members, member_of}
+use Rattle.cif_laws.proofs.lists.Membership.{Contains-map, below_by_recursion, each_member, member_of}
 use Rattle.cif_laws.proofs.lists.Later.{AllLater, later_map_weaker}
 use Rattle.cif_laws.proofs.files.ChangeOrder.{Apart, changes_apart}
 use Rattle.state_laws.proofs.states.PlainTable.{Keyed, Ascends, one_per_key, entry_of_change, entries_of, within_file}
@@ -32,7 +17,7 @@ use Rattle.state_laws.proofs.states.ReducedEntries.{IsReduced}
 use Rattle.state_laws.proofs.states.SummaryReduced.{reduced_summary}
 use Rattle.state_laws.proofs.states.SummaryValid.{summary_is_valid}
 use Rattle.state_laws.proofs.states.Lapse.{entry_stays}
-use Rattle.docker_laws.proofs.dockers.ThinState.{no_lapse}
+use Rattle.docker_laws.proofs.dockers.ThinState.{no_lapse, floor_of, all_of_one}
 
 -- ---- two keys can't each be below the other
 
@@ -50,51 +35,49 @@ not_itself a less = let tied = tied_itself key_total a in cc
 member_forth : (entry : Keyed) (entries : List Keyed) → AreAscending entries → (z : Keyed) → Contains (with_earlier entry entries) z
     → Contains entries z ⊎ ((entry ≡ z) × NoEntry entries entry.0)
 member_forth entry [] up z among = inr (Contains-single entry _ among, λ other inside. nil-Contains (entry.0, other) inside)
-member_forth entry (first ∷ entries) up z among = by (key_cmp entry.0 first.0) refl (member_forth _ entries up.1 _) among
-  where
-    by : (o : Ordering) → key_cmp entry.0 first.0 ≡ o
-        → (Contains (with_earlier entry entries) z → Contains entries z ⊎ ((entry ≡ z) × NoEntry entries entry.0))
-        → Contains (placed o entry first entries (with_earlier entry entries)) z
-        → Contains (first ∷ entries) z ⊎ ((entry ≡ z) × NoEntry (first ∷ entries) entry.0)
-    by Less h rest inside = elim (Contains-cons _ (first ∷ entries) _ inside) [
-      | inl same ↦ inr (
-        same,
-        λ other inside. elim (Contains-cons first _ (entry.0, other) inside) [
-          | inl same ↦ not_itself entry.0 (subst (λ (k : Key). key_cmp entry.0 k ≡ Less) (ap (λ (pair : Keyed). pair.0) same) h)
-          | inr inside ↦ not_both _ first.0 h (below_by_recursion _ entries _ up.0 inside)
-        ],
-      )
-      | inr later ↦ inl later
-    ]
-    by Equal h rest inside = inl inside
-    by Greater h rest inside = elim (Contains-cons first _ z inside) [
-      | inl same ↦ inl (subst (Contains (first ∷ entries)) same (cons-Contains-first _ entries))
-      | inr later ↦ elim (rest later) [
-        | inl inside ↦ inl (cons-Contains _ entries _ inside)
-        | inr new ↦ inr (
-          new.0,
+member_forth entry (first ∷ entries) up z among = (elim (key_cmp entry.0 first.0) as (λ o. key_cmp entry.0 first.0 ≡ o
+    → Contains (placed o entry first entries (with_earlier entry entries)) z
+    → Contains (first ∷ entries) z ⊎ ((entry ≡ z) × NoEntry (first ∷ entries) entry.0)) [
+      | Less ↦ λ h inside. elim (Contains-cons _ (first ∷ entries) _ inside) [
+        | inl same ↦ inr (
+          same,
           λ other inside. elim (Contains-cons first _ (entry.0, other) inside) [
-            | inl same ↦
-                let self : key_cmp entry.0 entry.0 ≡ Greater = subst (λ (k : Key). key_cmp entry.0 k ≡ Greater) (ap (λ (pair : Keyed). pair.0) same) h in
-                let tied = tied_itself key_total entry.0 in
-                cc
-            | inr inside ↦ new.1 other inside
+            | inl same ↦ not_itself entry.0 (subst (λ (k : Key). key_cmp entry.0 k ≡ Less) (ap (λ (pair : Keyed). pair.0) same) h)
+            | inr inside ↦ not_both _ first.0 h (below_by_recursion _ entries _ up.0 inside)
           ],
         )
+        | inr later ↦ inl later
       ]
-    ]
+      | Equal ↦ λ h inside. inl inside
+      | Greater ↦ λ h inside. elim (Contains-cons first _ z inside) [
+        | inl same ↦ inl (subst (Contains (first ∷ entries)) same (cons-Contains-first _ entries))
+        | inr later ↦ elim (member_forth entry entries up.1 z later) [
+          | inl inside ↦ inl (cons-Contains _ entries _ inside)
+          | inr new ↦ inr (
+            new.0,
+            λ other inside. elim (Contains-cons first _ (entry.0, other) inside) [
+              | inl same ↦
+                  let self : key_cmp entry.0 entry.0 ≡ Greater = subst (λ (k : Key). key_cmp entry.0 k ≡ Greater) (ap (λ (pair : Keyed). pair.0) same) h in
+                  let tied = tied_itself key_total entry.0 in
+                  cc
+              | inr inside ↦ new.1 other inside
+            ],
+          )
+        ]
+      ]
+    ]) refl among
 
 -- `with_earlier` preserves each entry of the list
 member_still : (entry : Keyed) (entries : List Keyed) (z : Keyed) → Contains entries z → Contains (with_earlier entry entries) z
 member_still entry [] z among = absurd (nil-Contains z among)
-member_still entry (first ∷ entries) z among = by (key_cmp entry.0 first.0) (λ inside. member_still _ entries _ inside) (Contains-cons first _ z among)
-  where
-    by : (o : Ordering) → (Contains entries z → Contains (with_earlier entry entries) z) → (first ≡ z) ⊎ Contains entries z
-        → Contains (placed o entry first entries (with_earlier entry entries)) z
-    by Less rest either = cons-Contains _ (first ∷ entries) _ among
-    by Equal rest either = among
-    by Greater rest (inl same) = subst (Contains (first ∷ with_earlier entry entries)) same (cons-Contains-first first _)
-    by Greater rest (inr inside) = cons-Contains first _ z (rest inside)
+member_still entry (first ∷ entries) z among = elim (key_cmp entry.0 first.0) as (λ o. Contains (placed o entry first entries (with_earlier entry entries)) z) [
+  | Less ↦ cons-Contains entry (first ∷ entries) z among
+  | Equal ↦ among
+  | Greater ↦ elim (Contains-cons first entries z among) [
+    | inl same ↦ subst (Contains (first ∷ with_earlier entry entries)) same (cons-Contains-first first (with_earlier entry entries))
+    | inr inside ↦ cons-Contains first (with_earlier entry entries) z (member_still entry entries z inside)
+  ]
+]
 
 -- `with_earlier` inserts the entry if no entry in the list has the same key
 member_new : (entry : Keyed) (entries : List Keyed) → NoEntry entries entry.0 → Contains (with_earlier entry entries) entry
@@ -111,26 +94,25 @@ member_new entry (first ∷ entries) none =
 -- `with_earlier` preserves the key order of the list
 still_ascends : (entry : Keyed) (entries : List Keyed) → AreAscending entries → AreAscending (with_earlier entry entries)
 still_ascends entry [] up = (tt, tt)
-still_ascends entry (first ∷ entries) up = by (key_cmp entry.0 first.0) refl (still_ascends _ entries up.1)
-  where
-    by : (o : Ordering) → key_cmp entry.0 first.0 ≡ o → AreAscending (with_earlier entry entries)
-        → AreAscending (placed o entry first entries (with_earlier entry entries))
-    by Less h rest = (
-      each_member _ (first ∷ entries) (λ z inside. elim (Contains-cons _ entries _ inside) [
-        | inl same ↦ subst (λ (later : Keyed). key_cmp entry.0 later.0 ≡ Less) same h
-        | inr inside ↦ key_total.trans entry.0 first.0 z.0 h (below_by_recursion _ entries _ up.0 inside)
-      ]),
-      up,
-    )
-    by Equal h rest = up
-    by Greater h rest = (
-      each_member (λ (later : Keyed). key_cmp first.0 later.0 ≡ Less) _
-          (λ z inside. elim (member_forth entry _ up.1 z inside) [
-            | inl inside ↦ below_by_recursion (λ (later : Keyed). key_cmp first.0 later.0 ≡ Less) _ z up.0 inside
-            | inr new ↦ subst (λ (later : Keyed). key_cmp first.0 later.0 ≡ Less) new.0 (key_total.antisymm first.0 entry.0 ∙ ap ordering_reverse h)
-          ]),
-      rest,
-    )
+still_ascends entry (first ∷ entries) up = (elim (key_cmp entry.0 first.0) as (λ o. key_cmp entry.0 first.0 ≡ o
+    → AreAscending (placed o entry first entries (with_earlier entry entries))) [
+      | Less ↦ λ h. (
+        each_member _ (first ∷ entries) (λ z inside. elim (Contains-cons _ entries _ inside) [
+          | inl same ↦ subst (λ (later : Keyed). key_cmp entry.0 later.0 ≡ Less) same h
+          | inr inside ↦ key_total.trans entry.0 first.0 z.0 h (below_by_recursion _ entries _ up.0 inside)
+        ]),
+        up,
+      )
+      | Equal ↦ λ h. up
+      | Greater ↦ λ h. (
+        each_member (λ (later : Keyed). key_cmp first.0 later.0 ≡ Less) _
+            (λ z inside. elim (member_forth entry _ up.1 z inside) [
+              | inl inside ↦ below_by_recursion (λ (later : Keyed). key_cmp first.0 later.0 ≡ Less) _ z up.0 inside
+              | inr new ↦ subst (λ (later : Keyed). key_cmp first.0 later.0 ≡ Less) new.0 (key_total.antisymm first.0 entry.0 ∙ ap ordering_reverse h)
+            ]),
+        still_ascends entry entries up.1,
+      )
+    ]) refl
 
 -- ---- the last entry of each key is the greatest
 
@@ -206,24 +188,8 @@ latest_is (first ∷ entries) up key entry = (forth (latest_is entries up.1 key)
 -- ---- `summary_of` computes the summary of the file
 
 module _ (file : List (List ℕ)) where
-  -- the stamp of a file isn't below the floor of a ledger that has only this file
-  floor_of : (b : Bool) → ((ledger_item_of file).indicator == 70) ≡ b
-      → (floor : Option FileStamp) × IsFloor (ledger_item_of file ∷ []) floor × IsKept floor (file_stamp_of file)
-  floor_of true h = (
-    Some (file_stamp_of file),
-    record {
-      full = ledger_item_of file;
-      among = single-Contains (ledger_item_of file) (ledger_item_of file) refl;
-      is_full = eqb-true (ledger_item_of file).indicator 70 h;
-      stamped = refl;
-      greatest = search (rules, at_most_itself, file_stamp_total);
-    },
-    at_most_itself file_stamp_total (file_stamp_of file),
-  )
-  floor_of false h = search (rules, eq-eqb)
-
   abbrev at : (floor : Option FileStamp) × IsFloor (ledger_item_of file ∷ []) floor × IsKept floor (file_stamp_of file)
-  at = floor_of ((ledger_item_of file).indicator == 70) refl
+  at = floor_of (ledger_item_of file) ((ledger_item_of file).indicator == 70) refl
 
   ascends : AllLater Ascends (entries_of file)
   ascends = later_map_weaker (entry_of_change file) Apart Ascends (within_file file) (changes file) (changes_apart 1 file)
@@ -259,10 +225,8 @@ module _ (file : List (List ℕ)) where
   -- the summary of a file is valid
   pub summary_valid : IsFile file → length file ≤ most_records → IsValid (summary_of file)
   summary_valid is_file few =
-      summary_is_valid (file ∷ []) 0 (summary_of file) (omega arith) (all_of_one IsFile is_file) (all_of_one (λ f. length f ≤ most_records) few) summary_is
-    where
-      all_of_one : (P : List (List ℕ) → Type 0) → P file → All P (file ∷ [])
-      all_of_one P here = all_members P (file ∷ []) (λ other among. subst P (Contains-single file other among) here)
+      summary_is_valid (file ∷ []) 0 (summary_of file) (omega arith) (all_of_one IsFile file is_file) (all_of_one (λ f. length f ≤ most_records) file few)
+      summary_is
 
 -- the join of an empty state with a valid state is the valid state
 pub join_of_nothing : (state : State) → IsValid state → IsJoin (record { horizon = 0; ledger = []; entries = [] }) state state

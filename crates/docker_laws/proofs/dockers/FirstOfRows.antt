@@ -1,11 +1,7 @@
 -- Of all values with a property, a search in a list finds the one that comes first in an order,
 -- under two conditions. The list must have each value with the property, and a value must pass the
 -- test of the search if and only if it has the property.
-use Rattle.std.proofs.Common.{◌≡◌, List, refl, Some, None, Bool, true, Contains, rules}
-use Rattle.std.specs.Prelude.{Option, find}
-use Rattle.std.specs.declared.cmp.Ordering.{Ordering}
-use Rattle.std.specs.Cmp.{IsTotalOrder}
-use Rattle.docker_model.specs.state.Order.{IsAtMost}
+use Rattle.cif_laws.proofs.Common.{◌≡◌, List, refl, Some, None, Bool, true, Contains, rules, Option, find, Ordering, IsTotalOrder, IsAtMost}
 use Rattle.docker_laws.specs.Best.{IsBest}
 use Rattle.cif_laws.proofs.lists.BoolsAndOptions.{true_is_not}
 use Rattle.cif_laws.proofs.orders.Least.{is_least, found_least, none_passes}

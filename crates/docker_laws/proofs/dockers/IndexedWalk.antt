@@ -1,18 +1,9 @@
 -- A walk over the rows that the indexes list for a place finds each docker line of the place.
-use Rattle.std.proofs.Common.{◌≡◌, ℕ, List, ◌++◌, refl, ap, sym, ◌∙◌, inl, inr, ◌⊎◌, Some, Contains, rules}
-use Rattle.std.specs.Ordering.{on}
-use Rattle.std.proofs.lemmas.List.Elements.{Contains-append_left, Contains-append_right, Contains-append_cases}
-use Rattle.std.specs.List.Sorted.{IsSorted, IsPermutation}
-use Rattle.docker_model.specs.file.Change.{Key, association_key, schedule_key, Body, association_body, schedule_body}
-use Rattle.docker_model.specs.state.Order.{IsBelow}
-use Rattle.docker_model.specs.state.Op.{key_cmp}
-use Rattle.docker_model.specs.state.Table.{Table}
-use Rattle.docker_model.specs.state.State.{HasGoodBodies}
-use Rattle.docker_model.specs.state.Row.{Row, AreRowsOf}
+use Rattle.cif_laws.proofs.Common.{◌≡◌, ℕ, List, ◌++◌, refl, ap, sym, ◌∙◌, inl, inr, ◌⊎◌, Some, Contains, rules, on, Contains-append_left}
+use Rattle.cif_laws.proofs.Common.{Contains-append_right, Contains-append_cases, IsSorted, IsPermutation, Key, association_key, schedule_key, Body}
+use Rattle.cif_laws.proofs.Common.{association_body, schedule_body, IsBelow, key_cmp, Table, HasGoodBodies, Row, AreRowsOf, Group, DockerLine, docker_line_cmp}
+use Rattle.cif_laws.proofs.Common.{IsDockerList}
 use Rattle.state_laws.specs.Index.{AreCalling, AreLinked, AreOfUid}
-use Rattle.docker_model.specs.docker.Choice.{Group}
-use Rattle.docker_model.specs.docker.DockerLine.{DockerLine, docker_line_cmp}
-use Rattle.docker_model.specs.docker.DockerList.{IsDockerList}
 use Rattle.docker_laws.specs.LiveRows.{HasSchedulesOf, HasAssociationsOf, train_in, link_in}
 use Rattle.docker_laws.specs.Gathering.{IsWalk, gathered}
 use Rattle.docker_laws.proofs.dockers.GatheredLines.{sorted_gathering}

@@ -1,13 +1,7 @@
 -- Lemmas on well-formed schedules, and on the fields of their first records.
-use Rattle.std.proofs.Common.{◌≡◌, ℕ, ◌<◌, List, true, false, Bool, cond, [], ◌∷◌, ◌++◌, length, subst, ap, sym, arith}
-use Rattle.std.specs.Prelude.{◌==◌}
-use Rattle.std.specs.List.{AllByRecursion}
-use Rattle.docker_model.specs.records.Record.{basic_schedule, HasKind, columns}
-use Rattle.docker_model.specs.records.Date.{is_date, is_end_date, is_days}
-use Rattle.docker_model.specs.records.Field.{CheckedField, checked, HasGoodFields, is_deletion, is_stp_indicator}
-use Rattle.docker_model.specs.file.Change.{ScheduleKey}
-use Rattle.docker_model.specs.file.File.{first_record}
-use Rattle.docker_model.specs.state.State.{IsScheduleOf}
+use Rattle.cif_laws.proofs.Common.{◌≡◌, ℕ, ◌<◌, List, true, false, Bool, cond, [], ◌∷◌, ◌++◌, length, subst, ap, sym, arith, ◌==◌, AllByRecursion}
+use Rattle.cif_laws.proofs.Common.{basic_schedule, HasKind, columns, is_date, is_end_date, is_days, CheckedField, checked, HasGoodFields, is_deletion}
+use Rattle.cif_laws.proofs.Common.{is_stp_indicator, ScheduleKey, first_record, IsScheduleOf}
 use Rattle.cif_laws.proofs.records.Columns.{good_fields, IsGoodIn}
 
 -- ---- the first record of a well-formed schedule is a good basic schedule
@@ -35,21 +29,18 @@ pub schedule_first : (line : List ℕ) → HasKind basic_schedule line → HasGo
 schedule_first line is good = (good_fields basic_schedule line is good).1.0
 
 -- the checked fields of a basic schedule that come after the runs-from date
-schedule_later : Bool → List CheckedField
+abbrev schedule_later : Bool → List CheckedField
 schedule_later deletion = cond deletion [] (checked 16 21 is_end_date ∷ checked 22 28 is_days ∷ []) ++ checked 80 80 is_stp_indicator ∷ []
 
 later_good : (line : List ℕ) → HasKind basic_schedule line → HasGoodFields line → is_deletion line ≡ false
     → AllByRecursion (IsGoodIn line) (schedule_later false)
-unfolding schedule_later
 later_good line is good stays = subst (λ b. AllByRecursion (IsGoodIn line) (schedule_later b)) stays (good_fields _ line is good).1.1
 
 -- the runs-to field of a good basic schedule is an end date, unless the record is a deletion
 pub schedule_last : (line : List ℕ) → HasKind basic_schedule line → HasGoodFields line → is_deletion line ≡ false → is_end_date (columns 16 21 line) ≡ true
-unfolding schedule_later
 schedule_last line is good stays = (later_good line is good stays).0
 
 -- the days-run field of a good basic schedule has seven digits, each 0 or 1, unless the record is a
 -- deletion
 pub schedule_days : (line : List ℕ) → HasKind basic_schedule line → HasGoodFields line → is_deletion line ≡ false → is_days (columns 22 28 line) ≡ true
-unfolding schedule_later
 schedule_days line is good stays = (later_good line is good stays).1.0

@@ -1,15 +1,9 @@
 -- A horizon may make rows of a table lapse. On each day that isn't before the horizon, the same
 -- schedules and associations are chosen from the table before and after its rows lapse. A schedule
 -- or an association that runs on such a day doesn't lapse.
-use Rattle.std.proofs.Common.{ℕ, ◌≤◌, List, rules}
-use Rattle.std.specs.Prelude.{◌↔◌, IsTrue}
-use Rattle.std.proofs.lemmas.Bool.{leb-true}
-use Rattle.docker_model.specs.records.Date.{end_number, no_end_number}
-use Rattle.docker_model.specs.file.Change.{AssociationKey, ScheduleKey}
-use Rattle.docker_model.specs.state.Op.{readable_end}
-use Rattle.docker_model.specs.state.Table.{Table}
-use Rattle.docker_model.specs.state.Lapse.{lapse_table}
-use Rattle.docker_model.specs.docker.Choice.{runs_within, IsRunning, IsChosen, TrainRuns, Group, IsAssociated, IsChosenAssociation}
+use Rattle.cif_laws.proofs.Common.{ℕ, ◌≤◌, List, rules, ◌↔◌, IsTrue, leb-true, end_number, no_end_number, AssociationKey, ScheduleKey, readable_end, Table}
+use Rattle.cif_laws.proofs.Common.{lapse_table, IsRunning, IsChosen, TrainRuns, Group, IsAssociated, IsChosenAssociation}
+use Rattle.docker_model.specs.docker.Choice.{runs_within}
 use Rattle.cif_laws.proofs.lists.BoolsAndOptions.{both}
 use Rattle.state_laws.proofs.states.TableLapsed.{live_stays, was_live}
 
@@ -25,11 +19,11 @@ end_reached = search rules
 module _ (horizon : ℕ) (bound : horizon ≤ no_end_number) (live : Table) where
   module _ (day : ℕ) (from : horizon ≤ day) where
     -- ---- lapsing leaves the chosen schedules unchanged
-    running_forth : (uid : List ℕ) (key : ScheduleKey) (lines : List (List ℕ)) → IsRunning live uid day key lines
+    pub running_forth : (uid : List ℕ) (key : ScheduleKey) (lines : List (List ℕ)) → IsRunning live uid day key lines
         → IsRunning (lapse_table horizon live) uid day key lines
     running_forth uid key lines is = search (rules, live_stays, end_reached, within_end)
 
-    running_back : (uid : List ℕ) (key : ScheduleKey) (lines : List (List ℕ)) → IsRunning (lapse_table horizon live) uid day key lines
+    pub running_back : (uid : List ℕ) (key : ScheduleKey) (lines : List (List ℕ)) → IsRunning (lapse_table horizon live) uid day key lines
         → IsRunning live uid day key lines
     running_back = search (rules, was_live)
 
@@ -58,11 +52,11 @@ module _ (horizon : ℕ) (bound : horizon ≤ no_end_number) (live : Table) wher
     )
 
     -- ---- lapsing leaves the chosen associations unchanged
-    associated_forth : (group : Group) (key : AssociationKey) (line : List ℕ) → IsAssociated live group day key line
+    pub associated_forth : (group : Group) (key : AssociationKey) (line : List ℕ) → IsAssociated live group day key line
         → IsAssociated (lapse_table horizon live) group day key line
     associated_forth group key line is = search (rules, live_stays, end_reached, within_end)
 
-    associated_back : (group : Group) (key : AssociationKey) (line : List ℕ) → IsAssociated (lapse_table horizon live) group day key line
+    pub associated_back : (group : Group) (key : AssociationKey) (line : List ℕ) → IsAssociated (lapse_table horizon live) group day key line
         → IsAssociated live group day key line
     associated_back = search (rules, was_live)
 

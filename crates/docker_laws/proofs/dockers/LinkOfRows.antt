@@ -1,13 +1,7 @@
 -- The rows of a live table determine its chosen associations.
-use Rattle.std.proofs.Common.{◌≡◌, ℕ, List, refl, ap, sym, ◌∙◌, Some, None, true, Contains, rules}
-use Rattle.std.specs.Prelude.{Option, ◌&&◌}
-use Rattle.std.specs.Ordering.{on}
-use Rattle.std.specs.Cmp.{IsTotalOrder, on_total}
-use Rattle.std.proofs.lemmas.Slice.Eq.{bytes_eq-Decides}
-use Rattle.docker_model.specs.file.Change.{Key, association_key, AssociationKey, Body, association_body}
-use Rattle.docker_model.specs.state.Table.{Table}
-use Rattle.docker_model.specs.state.Row.{Row, AreRowsOf}
-use Rattle.docker_model.specs.docker.Choice.{association_choice_cmp, Group, group_of, IsAssociated}
+use Rattle.cif_laws.proofs.Common.{◌≡◌, ℕ, List, refl, ap, sym, ◌∙◌, Some, None, true, Contains, rules, Option, ◌&&◌, on, IsTotalOrder, on_total}
+use Rattle.cif_laws.proofs.Common.{bytes_eq-Decides, Key, association_key, AssociationKey, Body, association_body, Table, Row, AreRowsOf}
+use Rattle.cif_laws.proofs.Common.{association_choice_cmp, Group, group_of, IsAssociated}
 use Rattle.docker_laws.specs.LiveRows.{HasAssociationsOf, Link, association_of, associations_in, is_of_group, is_linked, link_in, IsLinkOn, TellsLinks}
 use Rattle.docker_laws.specs.ChoiceWalk.{IsLinkSoFar}
 use Rattle.cif_laws.proofs.lists.BoolsAndOptions.{both, none_some}

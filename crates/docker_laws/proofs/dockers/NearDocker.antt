@@ -1,26 +1,17 @@
--- If a table loses only schedules that run on no start day near a day, the dockers of that day are
--- unchanged.
-use Rattle.std.proofs.Common.{◌≡◌, ℕ, zero, suc, ◌+◌, ◌-◌, ◌≤◌, List, [], ◌∷◌, subst, inl, inr, ◌⊎◌, refl, rules}
-use Rattle.std.proofs.Common.{ap, sym, ◌∙◌, true, false, Some, None, Contains, arith}
-use Rattle.std.specs.Prelude.{Option, ◌↔◌, IsTrue}
-use Rattle.std.proofs.lemmas.List.Elements.{Contains-append_right}
-use Rattle.docker_model.specs.file.Journey.{midnights}
-use Rattle.docker_model.specs.file.File.{first_record}
-use Rattle.docker_model.specs.file.Change.{Key, tiploc_key, schedule_key, ScheduleKey, AssociationKey, Body, schedule_body, association_body}
-use Rattle.docker_model.specs.state.Table.{Table}
-use Rattle.docker_model.specs.docker.Event.{Event, event_day}
-use Rattle.docker_model.specs.docker.Choice.{schedule_runs, IsRunning, TrainRuns, Group, group_of, IsAssociated, IsChosenAssociation}
-use Rattle.docker_model.specs.docker.DockerLine.{DockerLine}
-use Rattle.docker_model.specs.docker.Association.{partner_start, IsIdentityOn, IsPartnerIdentity, IsAssociationLine}
-use Rattle.docker_model.specs.docker.DockerList.{IsEventLine, IsDockerList}
-use Rattle.docker_model.specs.docker.DockerText.{description_in, docker_text, IsDockerText}
+-- Each train in a docker starts near the docker's day. If one table may replace another, both have
+-- the same docker. If a table loses only schedules that run on no start day near a day, the dockers
+-- of that day are unchanged.
+use Rattle.cif_laws.proofs.Common.{◌≡◌, ℕ, zero, suc, ◌+◌, ◌-◌, ◌≤◌, List, subst, inl, ◌⊎◌, refl, rules, ap, sym, ◌∙◌, true, false, Some, None, Contains, arith}
+use Rattle.cif_laws.proofs.Common.{IsTrue, column, first_record, Key, tiploc_key, schedule_key, association_key, ScheduleKey, AssociationKey, Body}
+use Rattle.cif_laws.proofs.Common.{schedule_body, association_body, Table, schedule_runs, IsRunning, partner_start, description_in}
 use Rattle.docker_laws.specs.NearDay.{near_starts, runs_near}
-use Rattle.cif_laws.proofs.lists.Membership.{cons-Contains-first}
+use Rattle.docker_laws.specs.StandIn.{HasEventOn, IsStandIn, StandsFor}
+use Rattle.cif_laws.proofs.lists.Membership.{cons-Contains, cons-Contains-first}
 use Rattle.cif_laws.proofs.lists.BoolsAndOptions.{none_some}
 use Rattle.state_laws.proofs.indexes.CallsTest.{any_forth}
 use Rattle.docker_laws.proofs.dockers.FewMidnights.{HasFewMidnights}
 use Rattle.docker_laws.proofs.dockers.StartDays.{event_within}
-use Rattle.docker_laws.proofs.dockers.LapsedDocker.{text_with, partner_after, CarriesOver, event_line_over, association_line_over}
+use Rattle.docker_laws.proofs.dockers.SameDocker.{Covers, HaveOneDocker, docker_over}
 
 -- ---- each train in a docker line starts near the docker's day
 
@@ -30,120 +21,95 @@ IsStartNear day start = (start ≤ day + 1) × (day ≤ start + 3)
 
 -- the list `near_starts` has each start day near the day
 pub near_start : (day start : ℕ) → IsStartNear day start → Contains (near_starts day) start
-near_start day start near = by ((day + 1) - start) refl near.0 near.1
+near_start day start near = (elim ((day + 1) - start) as (λ back. (day + 1) - start ≡ back → Contains (near_starts day) start) [
+  | zero ↦ λ h. at (day + 1) (omega arith) (search (rules, cons-Contains-first))
+  | suc zero ↦ λ h. at day (omega arith) (search (rules, cons-Contains, cons-Contains-first))
+  | suc (suc zero) ↦ λ h. at (day - 1) (omega arith) (search (rules, cons-Contains, cons-Contains-first))
+  | suc (suc (suc zero)) ↦ λ h. at (day - 2) (omega arith) (search (rules, cons-Contains, cons-Contains-first))
+  | suc (suc (suc (suc n))) ↦ λ h. at (day - 3) (omega arith) (search (rules, cons-Contains, cons-Contains-first))
+]) refl
   where
-    first : (x : ℕ) (xs : List ℕ) → x ≡ start → Contains (x ∷ xs) start
-    first x xs same = subst (Contains (x ∷ xs)) same (cons-Contains-first _ _)
-
-    by : (back : ℕ) → (day + 1) - start ≡ back → start ≤ day + 1 → day ≤ start + 3 → Contains (near_starts day) start
-    by zero h low high = first (day + 1) (day ∷ (day - 1) ∷ (day - 2) ∷ (day - 3) ∷ []) (omega arith)
-    by (suc zero) h low high = Contains-append_right ((day + 1) ∷ []) (day ∷ (day - 1) ∷ (day - 2) ∷ (day - 3) ∷ []) start
-        (first day ((day - 1) ∷ (day - 2) ∷ (day - 3) ∷ []) (omega arith))
-    by (suc (suc zero)) h low high = Contains-append_right ((day + 1) ∷ day ∷ []) ((day - 1) ∷ (day - 2) ∷ (day - 3) ∷ []) start
-        (first (day - 1) ((day - 2) ∷ (day - 3) ∷ []) (omega arith))
-    by (suc (suc (suc zero))) h low high =
-        Contains-append_right ((day + 1) ∷ day ∷ (day - 1) ∷ []) ((day - 2) ∷ (day - 3) ∷ []) start (first (day - 2) ((day - 3) ∷ []) (omega arith))
-    by (suc (suc (suc (suc n)))) h low high =
-        Contains-append_right ((day + 1) ∷ day ∷ (day - 1) ∷ (day - 2) ∷ []) ((day - 3) ∷ []) start (first (day - 3) [] (omega arith))
+    at : (x : ℕ) → x ≡ start → Contains (near_starts day) x → Contains (near_starts day) start
+    at x same among = subst (Contains (near_starts day)) same among
 
 -- a schedule that runs on a start day near the day passes the test `runs_near`
 pub runs_near_by : (day start : ℕ) (line : List ℕ) → IsStartNear day start → IsTrue (schedule_runs line start) → runs_near day line ≡ true
 runs_near_by day start line near runs = any_forth (λ (s : ℕ). schedule_runs line s) (near_starts day) start (near_start day start near) runs
 
--- a train with an event on the day starts on that day or on one of the two days before it
-pub started : (day start : ℕ) (lines : List (List ℕ)) (event : Event) → midnights lines ≤ 2 → event_day start lines event ≡ day
-    → (start ≤ day) × (day ≤ start + 2)
-started day start lines event few today =
-    subst (λ (d : ℕ). (start ≤ d) × (d ≤ start + 2)) today (event_within start lines event few)
-
--- if a train has an event on the day, its associated train starts near the day
-pub partner_near : (day start : ℕ) → (start ≤ day) × (day ≤ start + 2) → (indicator partner : ℕ) → partner_start indicator start ≡ Some partner
+near_partner : (day start : ℕ) → (start ≤ day) × (day ≤ start + 2) → (indicator partner : ℕ) → partner_start indicator start ≡ Some partner
     → IsStartNear day partner
-partner_near = search (rules, partner_after)
+near_partner = search rules
 
--- ---- two tables with the same associations, and with the same schedules near a day, have the same
--- dockers
+module _ (live : Table) (few : HasFewMidnights live) (place : List ℕ) (day : ℕ) where
+  -- a train with an event at the place on the day starts on that day or on one of the two days
+  -- before it
+  started : (uid : List ℕ) (start : ℕ) (key : ScheduleKey) (lines : List (List ℕ)) → IsRunning live uid start key lines → HasEventOn place day start lines
+      → (start ≤ day) × (day ≤ start + 2)
+  started uid start key lines is has = event_within start lines has.event day (few key lines is.is_live) has.today
 
--- each schedule of `one` that runs on a start day near the day is in `other`, and runs on the same
--- start day there
-abbrev RunsOver : Table → Table → ℕ → Type 0
-RunsOver one other day =
-    (start : ℕ) → IsStartNear day start → (uid : List ℕ) (key : ScheduleKey) (lines : List (List ℕ)) → IsRunning one uid start key lines
-    → IsRunning other uid start key lines
+  -- a train with an event at the place on the day starts near the day
+  pub calls_near : (uid : List ℕ) (start : ℕ) (key : ScheduleKey) (lines : List (List ℕ)) → IsRunning live uid start key lines
+      → HasEventOn place day start lines → IsStartNear day start
+  calls_near uid start key lines is has = let within = started uid start key lines is has in (omega arith, omega arith)
 
--- each association of `one` is in `other`
-abbrev LinksOver : Table → Table → Type 0
-LinksOver one other =
-    (group : Group) (start : ℕ) (key : AssociationKey) (line : List ℕ) → IsAssociated one group start key line → IsAssociated other group start key line
+  -- if a train has an event at the place on the day, its associated train starts near the day
+  pub partner_near : (key : AssociationKey) (line : List ℕ) → key.location ≡ place → live (association_key key) ≡ Some (association_body line)
+      → (start : ℕ) (base : ScheduleKey) (lines : List (List ℕ)) → IsRunning live key.base start base lines → HasEventOn place day start lines
+      → (partner : ℕ) → partner_start (column 37 line) start ≡ Some partner → IsStartNear day partner
+  partner_near key line here is_live start base lines is has partner starts = near_partner day start (started _ _ _ _ is has) (column 37 line) partner starts
 
--- the two tables have the same associations, and the same schedules among those that run on a start
--- day near the day
-record AreAlike (one other : Table) (day : ℕ) : Type 0 where
-  runs : RunsOver one other day
-  runs_back : RunsOver other one day
-  links : LinksOver one other
-  links_back : LinksOver other one
+-- ---- if one table may replace another, both have the same docker
 
-turned : (one other : Table) (day : ℕ) → AreAlike one other day → AreAlike other one day
-turned = search rules
-
-train_over : (one other : Table) (day : ℕ) → AreAlike one other day → (start : ℕ) → IsStartNear day start → (uid : List ℕ) (key : ScheduleKey)
-    (lines : List (List ℕ)) → TrainRuns one uid start key lines → TrainRuns other uid start key lines
-train_over one other day alike start near uid key lines is = record {
-  chosen = record {
-    running = alike.runs start near uid key lines is.chosen.running;
-    first = λ another others runs. is.chosen.first another others (alike.runs_back start near uid another others runs);
-  };
-  no_cancellation = is.no_cancellation;
+-- if records may replace a schedule in the docker, the schedule may also replace these records
+turned : (place : List ℕ) (day : ℕ) (one other : List (List ℕ)) → IsStandIn place day one other → IsStandIn place day other one
+turned place day one other is = record {
+  runs = λ start near. sym (is.runs start near);
+  identity = sym is.identity;
+  calls = λ start low high runs either.
+      sym (is.calls start low high (is.runs start (near_start _ _ (omega arith, omega arith)) ∙ runs) (search rules));
 }
 
-association_over : (one other : Table) (day : ℕ) → AreAlike one other day → (group : Group) (start : ℕ) (key : AssociationKey) (line : List ℕ)
-    → IsChosenAssociation one group start key line → IsChosenAssociation other group start key line
-association_over one other day alike group start key line is = record {
-  associated = alike.links group start key line is.associated;
-  first = λ another others runs. is.first another others (alike.links_back group start another others runs);
-}
+-- a schedule may replace itself
+pub own_stand_in : (place : List ℕ) (day : ℕ) (lines : List (List ℕ)) → IsStandIn place day lines lines
+own_stand_in place day lines = record { runs = λ start near. refl; identity = refl; calls = λ start low high runs either. refl }
 
-identity_over : (one other : Table) (day : ℕ) → AreAlike one other day → (start : ℕ) → IsStartNear day start → (uid identity : List ℕ)
-    → IsIdentityOn one uid identity start → IsIdentityOn other uid identity start
-identity_over one other day alike start near uid identity (inl runs) = inl (runs.0, runs.1, train_over _ _ _ alike _ near _ _ _ runs.2, runs.3)
-identity_over one other day alike start near uid identity (inr none) =
-    inr (λ key lines runs. none.0 key lines (train_over _ _ _ (turned _ _ _ alike) _ near _ _ _ runs), none.1)
+module _ (one other : Table) (place : List ℕ) (day : ℕ) (few : HasFewMidnights one) where
+  -- suppose that a table has each association of another table at the place. Suppose also that it has,
+  -- for each schedule of the other table that runs near the day, a schedule that may replace it. Then
+  -- it covers the other table
+  stands_over : ((key : ScheduleKey) (whole : List (List ℕ)) → one (schedule_key key) ≡ Some (schedule_body whole)
+      → runs_near day (first_record whole) ≡ true
+      → (lines : List (List ℕ)) × (other (schedule_key key) ≡ Some (schedule_body lines)) × IsStandIn place day whole lines)
+      → ((key : AssociationKey) (line : List ℕ) → key.location ≡ place → one (association_key key) ≡ Some (association_body line)
+      → other (association_key key) ≡ Some (association_body line))
+      → Covers (λ uid start. IsStartNear day start) one other place day
+  stands_over schedules associations = record {
+    runs = λ uid start near key lines is.
+        let found = schedules key lines is.is_live (runs_near_by day _ (first_record lines) near is.runs_then) in (
+          found.0,
+          record { uid_is = is.uid_is; is_live = found.1; runs_then = sym (found.2.runs start (near_start _ start near)) ∙ is.runs_then },
+          record {
+            identity = found.2.identity;
+            calls = λ has.
+                let within = started one few place day uid start key lines is has in
+                found.2.calls start within.0 within.1 is.runs_then (inl has);
+          },
+        );
+    links = search rules;
+    calls = calls_near one few place day;
+    names = partner_near one few place day;
+  }
 
-partner_over : (one other : Table) (day : ℕ) → AreAlike one other day → (partner : Option ℕ) → ((start : ℕ) → partner ≡ Some start → IsStartNear day start)
-    → (uid identity : List ℕ) → IsPartnerIdentity one uid partner identity → IsPartnerIdentity other uid partner identity
-partner_over one other day alike None near uid identity is = is
-partner_over one other day alike (Some start) near uid identity is = identity_over one other day alike start (near start refl) uid identity is
-
-carries_over : (one other : Table) (day : ℕ) → AreAlike one other day → HasFewMidnights one → CarriesOver one other day
-carries_over one other day alike few = record {
-  trains =
-      λ uid start key lines runs event today.
-      let within = started day start lines event (few key lines runs.chosen.running.is_live) today in
-      let low = within.0 in
-      let high = within.1 in
-      train_over one other day alike start (omega arith, omega arith) uid key lines runs;
-  links =
-      λ uid start base lines runs event today key line indicator identity. (
-        association_over one other day alike (group_of key) start key line,
-        partner_over one other day alike (partner_start indicator start)
-            (partner_near day start (started day start lines event (few base lines runs.chosen.running.is_live) today) indicator) key.associated identity,
-      );
-}
-
-line_over : (one other : Table) (place : List ℕ) (day : ℕ) → CarriesOver one other day → (line : DockerLine)
-    → IsEventLine one place day line ⊎ IsAssociationLine one place day line → IsEventLine other place day line ⊎ IsAssociationLine other place day line
-line_over = search (rules, event_line_over, association_line_over)
-
-list_over : (one other : Table) (place : List ℕ) (day : ℕ) → CarriesOver one other day → CarriesOver other one day → (lines : List DockerLine)
-    → IsDockerList one place day lines → IsDockerList other place day lines
-list_over one other place day forth back lines is = record {
-  ascending = is.ascending;
-  members = λ line. (
-    λ among. line_over _ _ _ _ forth _ ((is.members line).0 among),
-    λ told. (is.members line).1 (line_over _ _ _ _ back _ told),
-  );
-}
+-- if one table may replace another for the place and the day, both have the same docker for this
+-- place and day
+pub stand_in_docker : (place : List ℕ) (day : ℕ) (live part : Table) → StandsFor place day live part → HasFewMidnights live → HasFewMidnights part
+    → HaveOneDocker live part place day
+stand_in_docker place day live part stands few few_too = docker_over
+    (stands_over live part place day few stands.schedules (λ key line here is_live. stands.associations key here ∙ is_live))
+    (stands_over part live place day few_too
+    (λ key lines is_live runs. let found = stands.no_others key lines is_live runs in (found.0, found.1, turned place day _ lines found.2))
+    (λ key line here is_live. sym (stands.associations key here) ∙ is_live))
+    (ap description_in stands.tiploc)
 
 -- ---- removing schedules that don't run near a day leaves the dockers of that day unchanged
 
@@ -161,46 +127,14 @@ module _ (day : ℕ) (live part : Table) (is : IsNearPart day live part) where
   was_there : (key : Key) (body : Body) → part key ≡ Some body → live key ≡ Some body
   was_there = search (rules, none_some)
 
-  schedule_stays : (key : Key) (lines : List (List ℕ)) → live key ≡ Some (schedule_body lines) → runs_near day (first_record lines) ≡ true
-      → part key ≡ Some (schedule_body lines)
-  schedule_stays = search rules
-
-  association_stays : (key : Key) (line : List ℕ) → live key ≡ Some (association_body line) → part key ≡ Some (association_body line)
-  association_stays = search rules
-
-  alike : AreAlike live part day
-  alike = record {
-    runs = λ start near uid key lines runs. record {
-      uid_is = runs.uid_is;
-      is_live = schedule_stays (schedule_key key) lines runs.is_live (runs_near_by day start (first_record lines) near runs.runs_then);
-      runs_then = runs.runs_then;
-    };
-    runs_back = search (rules, was_there);
-    links = search (rules, association_stays);
-    links_back = search (rules, was_there);
-  }
-
-  module _ (few : HasFewMidnights live) where
-    forth : CarriesOver live part day
-    forth = carries_over live part day alike few
-
-    back : CarriesOver part live day
-    back = search (rules, carries_over, turned, alike, was_there)
-
-    -- the tables `live` and `part` have the same docker list on the day
-    pub near_list_iff : (place : List ℕ) (lines : List DockerLine) → IsDockerList live place day lines ↔ IsDockerList part place day lines
-    near_list_iff = search (rules, list_over, forth, back)
-
   -- the tables `live` and `part` have the same description of a place, since no TIPLOC is left out
   pub near_description : (place : List ℕ) → description_in (part (tiploc_key place)) ≡ description_in (live (tiploc_key place))
   near_description = search rules
 
-  text_same : (place : List ℕ) (lines : List DockerLine) → docker_text part place day lines ≡ docker_text live place day lines
-  text_same place lines = ap (text_with place day lines) (near_description place)
-
-  -- the tables `live` and `part` have the same docker text on the day
-  pub near_text_iff : HasFewMidnights live → (place text : List ℕ) → IsDockerText live place day text ↔ IsDockerText part place day text
-  near_text_iff few place text = (
-    λ told. (told.0, (near_list_iff few _ told.0).0 told.1, told.2 ∙ sym (text_same place _)),
-    λ told. (told.0, (near_list_iff few _ told.0).1 told.1, told.2 ∙ text_same place _),
-  )
+  -- the tables `live` and `part` have the same docker on the day
+  pub near_docker : HasFewMidnights live → (place : List ℕ) → HaveOneDocker live part place day
+  near_docker few place = docker_over
+      (stands_over live part place day few (λ key lines is_live runs. (lines, search rules, own_stand_in place day lines)) (search rules))
+      (stands_over part live place day (search (rules, was_there)) (λ key lines is_live runs. (lines, was_there _ _ is_live, own_stand_in place day lines))
+      (search (rules, was_there)))
+      (near_description place)

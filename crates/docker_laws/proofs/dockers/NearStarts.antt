@@ -1,42 +1,23 @@
 -- The train of a docker line starts on the docker's day or on one of the two days before it. A walk
 -- over a whole table finds each docker line of a place.
-use Rattle.std.proofs.Common.{ℕ, ◌+◌, ◌≤◌, List, Contains, arith}
-use Rattle.std.specs.Prelude.{◌↔◌}
-use Rattle.docker_model.specs.file.Change.{schedule_key, association_key, schedule_body, association_body}
-use Rattle.docker_model.specs.state.Table.{Table}
-use Rattle.docker_model.specs.state.State.{HasGoodBodies}
-use Rattle.docker_model.specs.state.Row.{Row, AreRowsOf}
-use Rattle.docker_model.specs.docker.DockerLine.{DockerLine}
-use Rattle.docker_model.specs.docker.Association.{IsAssociationLine}
-use Rattle.docker_model.specs.docker.DockerList.{IsEventLine}
-use Rattle.docker_laws.specs.Gathering.{start_days, IsWalk}
-use Rattle.docker_laws.proofs.dockers.StartDays.{event_within, start_days_iff}
+use Rattle.cif_laws.proofs.Common.{ℕ, ◌+◌, ◌≤◌, List, schedule_key, association_key, schedule_body, association_body, Table, HasGoodBodies, Row, AreRowsOf}
+use Rattle.cif_laws.proofs.Common.{DockerLine, IsAssociationLine, IsEventLine}
+use Rattle.docker_laws.specs.Gathering.{IsWalk}
+use Rattle.docker_laws.proofs.dockers.StartDays.{event_within}
 use Rattle.docker_laws.proofs.dockers.FewMidnights.{bodies_few}
 
 -- the train of an event line starts on the docker's day or on one of the two days before it
 pub event_near : (live : Table) (place : List ℕ) (day : ℕ) (line : DockerLine) → HasGoodBodies live → (made : IsEventLine live place day line)
     → (made.start ≤ day) × (day ≤ made.start + 2)
 event_near live place day line good made =
-    let within = event_within made.start made.schedule made.event (bodies_few live good made.key made.schedule made.train_runs.chosen.running.is_live) in
-    let low = within.0 in
-    let high = within.1 in
-    let today = made.today in
-    (omega arith, omega arith)
+    event_within made.start made.schedule made.event day (bodies_few live good made.key made.schedule made.train_runs.chosen.running.is_live) made.today
 
 -- the base train of an association line starts on the docker's day or on one of the two days before
 -- it
 pub association_near : (live : Table) (place : List ℕ) (day : ℕ) (line : DockerLine) → HasGoodBodies live → (made : IsAssociationLine live place day line)
     → (made.start ≤ day) × (day ≤ made.start + 2)
 association_near live place day line good made =
-    let within = event_within made.start made.base made.event (bodies_few live good made.base_key made.base made.base_runs.chosen.running.is_live) in
-    let low = within.0 in
-    let high = within.1 in
-    let today = made.today in
-    (omega arith, omega arith)
-
--- the start days are the day and the two days before it
-pub start_days_are : (day start : ℕ) → Contains (start_days day) start ↔ ((start ≤ day) × (day ≤ start + 2))
-start_days_are day start = ((start_days_iff day start).0, (start_days_iff day start).1)
+    event_within made.start made.base made.event day (bodies_few live good made.base_key made.base made.base_runs.chosen.running.is_live) made.today
 
 -- the rows of a whole table are enough to find all docker lines of any place: they satisfy `IsWalk`
 pub whole_walk : (live : Table) (place : List ℕ) (rows : List Row) → AreRowsOf live rows → IsWalk live place rows

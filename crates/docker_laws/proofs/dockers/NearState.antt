@@ -1,15 +1,7 @@
 -- If a valid state keeps only the entries that may count on a day, it is still valid, and its
 -- dockers of that day are unchanged.
-use Rattle.std.proofs.Common.{◌≡◌, ℕ, List, inl, inr, ◌⊎◌, refl, ap, sym, ◌∙◌, true, false, None}
-use Rattle.std.proofs.Common.{rules}
-use Rattle.std.specs.Prelude.{◌↔◌}
-use Rattle.docker_model.specs.file.File.{first_record}
-use Rattle.docker_model.specs.file.Change.{schedule_body}
-use Rattle.docker_model.specs.state.Op.{Op, put_with, Entry, body_of}
-use Rattle.docker_model.specs.state.State.{State, IsValid, AreAscending, live_table}
-use Rattle.docker_model.specs.docker.DockerLine.{DockerLine}
-use Rattle.docker_model.specs.docker.DockerList.{IsDockerList}
-use Rattle.docker_model.specs.docker.DockerText.{IsDockerText}
+use Rattle.cif_laws.proofs.Common.{◌≡◌, ℕ, List, inl, inr, ◌⊎◌, refl, ap, sym, ◌∙◌, true, false, None, rules, first_record, schedule_body, Op, put_with, Entry}
+use Rattle.cif_laws.proofs.Common.{body_of, State, IsValid, AreAscending, live_table}
 use Rattle.docker_laws.specs.NearDay.{runs_near, may_count, near_entries, near_state}
 use Rattle.docker_laws.proofs.dockers.Sublists.{sublist_filter}
 use Rattle.cif_laws.proofs.lists.FilteredMembers.{filter_back, filter_forth}
@@ -17,7 +9,8 @@ use Rattle.state_laws.proofs.states.PlainTable.{Keyed, Found, NotFound, find_in,
 use Rattle.docker_laws.proofs.dockers.FewMidnights.{bodies_few}
 use Rattle.state_laws.proofs.states.GoodBodies.{good_bodies}
 use Rattle.docker_laws.proofs.dockers.ExcerptState.{some_valid}
-use Rattle.docker_laws.proofs.dockers.NearDocker.{IsLeftOut, IsNearPart, near_list_iff, near_text_iff}
+use Rattle.docker_laws.proofs.dockers.NearDocker.{IsLeftOut, IsNearPart, near_docker}
+use Rattle.docker_laws.proofs.dockers.SameDocker.{HaveOneDocker}
 
 -- an op that can't count on the day is a put of a schedule that runs on no start day near the day
 may_not : (day : ℕ) (op : Op) → may_count day op ≡ false
@@ -58,16 +51,8 @@ near_part day state up key = by (find_in (near_entries day state.entries) key) (
 pub near_valid : (day : ℕ) (state : State) → IsValid state → IsValid (near_state day state)
 near_valid = search (rules, some_valid, sublist_filter)
 
--- if a valid state loses the entries that can't count on a day, its docker lists for that day are
+-- if a valid state loses the entries that can't count on a day, its dockers for that day are
 -- unchanged
-pub near_state_list : (place : List ℕ) (day : ℕ) (state : State) (lines : List DockerLine) → IsValid state
-    → IsDockerList (live_table state) place day lines ↔ IsDockerList (live_table (near_state day state)) place day lines
-near_state_list place day state lines valid = search (rules, near_list_iff, near_part, bodies_few, good_bodies)
-
--- if a valid state loses the entries that can't count on a day, its docker texts for that day are
--- unchanged
-pub near_state_text : (place : List ℕ) (day : ℕ) (state : State) (text : List ℕ) → IsValid state
-    → IsDockerText (live_table state) place day text ↔ IsDockerText (live_table (near_state day state)) place day text
-near_state_text place day state text valid = search (rules, near_text_iff, near_part, bodies_few, good_bodies)
-
--- ---- `near_entries` keeps or drops each entry regardless of the other entries
+pub near_state_docker : (place : List ℕ) (day : ℕ) (state : State) → IsValid state
+    → HaveOneDocker (live_table state) (live_table (near_state day state)) place day
+near_state_docker place day state valid = near_docker day _ _ (near_part day state valid.entries.1) (bodies_few _ (good_bodies state valid)) place

@@ -1,19 +1,8 @@
 -- Of the kept changes, those to schedules that the docker of the place doesn't need may be dropped.
 -- The state made from the other changes has the same docker for the place and the day.
-use Rattle.std.proofs.Common.{◌≡◌, ℕ, ◌≤◌, List, [], ◌∷◌, length, subst, inl, inr, ◌⊎◌, refl, ap, sym, ◌∙◌, arith, rules}
-use Rattle.std.proofs.lemmas.Grind.{common_steps}
-use Rattle.std.proofs.Common.{Bool, true, false, cond, Some, None, Contains}
-use Rattle.std.specs.Prelude.{◌↔◌, fold}
-use Rattle.std.proofs.lemmas.Slice.Eq.{bytes_eq-Decides}
-use Rattle.docker_model.specs.file.File.{IsFile, most_records}
-use Rattle.docker_model.specs.file.Change.{Key, schedule_key, ScheduleKey, Body}
-use Rattle.docker_model.specs.file.Change.{Act, put, Change, changes}
-use Rattle.docker_model.specs.state.Table.{Table, empty_table, after_change}
-use Rattle.docker_model.specs.state.State.{State, IsValid, live_table}
-use Rattle.docker_model.specs.state.Summary.{IsSummary}
-use Rattle.docker_model.specs.docker.DockerLine.{DockerLine}
-use Rattle.docker_model.specs.docker.DockerList.{IsDockerList}
-use Rattle.docker_model.specs.docker.DockerText.{IsDockerText}
+use Rattle.cif_laws.proofs.Common.{◌≡◌, ℕ, ◌≤◌, List, [], ◌∷◌, length, subst, inl, inr, ◌⊎◌, refl, ap, sym, ◌∙◌, arith, rules, common_steps, Bool, true, false}
+use Rattle.cif_laws.proofs.Common.{cond, Some, None, Contains, ◌↔◌, fold, bytes_eq-Decides, IsFile, most_records, Key, schedule_key, ScheduleKey, Body, Act}
+use Rattle.cif_laws.proofs.Common.{put, Change, changes, Table, empty_table, after_change, State, IsValid, live_table, IsSummary, DockerLine, IsDockerList}
 use Rattle.docker_laws.specs.Excerpt.{IsNeeded, IsConcerned, IsExcerpt}
 use Rattle.docker_laws.specs.Thinning.{thinned, table_of, IsThinning, IsStateOfChanges, is_wanted, wanted_changes, HasUidsOf}
 use Rattle.cif_laws.proofs.lists.Membership.{cons-Contains, cons-Contains-first}
@@ -21,8 +10,9 @@ use Rattle.cif_laws.proofs.lists.FilteredMembers.{filter_back}
 use Rattle.cif_laws.proofs.orders.Orders.{same_key}
 use Rattle.state_laws.proofs.indexes.CallsTest.{calls_test, any_forth}
 use Rattle.docker_laws.proofs.dockers.Sublists.{sublist_filter, sublist_later}
-use Rattle.docker_laws.proofs.dockers.ThinChanges.{is_of, left_by, after_there, untouched}
-use Rattle.docker_laws.proofs.dockers.ThinDocker.{thin_excerpt_list, thin_excerpt_text}
+use Rattle.docker_laws.proofs.dockers.ThinChanges.{is_of, left_by, after_there, filtered_there, untouched}
+use Rattle.docker_laws.proofs.dockers.ThinDocker.{thin_excerpt_docker}
+use Rattle.docker_laws.proofs.dockers.SameDocker.{HaveOneDocker}
 use Rattle.docker_laws.proofs.dockers.ThinState.{live_is_made, live_of_summary, kept_apart, some_valid, summary_good}
 
 -- ---- a body in the table was put by a change
@@ -37,21 +27,15 @@ put_or_before : (all : List Change) (table : Table) (key : Key) (body : Body) �
 put_or_before [] table key body there = inr there
 put_or_before (change ∷ all) table key body there = elim (put_or_before all (after_change table change) key body there) [
   | inl found ↦ inl (found.0, cons-Contains change all found.0 found.1, found.2, found.3)
-  | inr before ↦ first (is_of key change) refl before
+  | inr before ↦ (elim (is_of key change) as (λ b. is_of key change ≡ b → Put ⊎ (table key ≡ Some body)) [
+    | true ↦ λ h. let left : left_by change.act ≡ Some body = sym (λ i. cond (h i) (left_by change.act) (table key)) ∙ before in
+        inl (change, cons-Contains-first change all, same_key change.key key h, put_by change.act body left)
+    | false ↦ λ h. inr (sym (after_there table change key h) ∙ before)
+  ]) refl
 ]
   where
-    Put : List Change → Type 0
-    Put list = (one : Change) × Contains list one × (one.key ≡ key) × (one.act ≡ put body)
-
-    first : (b : Bool) → is_of key change ≡ b → after_change table change key ≡ Some body → Put (change ∷ all) ⊎ (table key ≡ Some body)
-    first true h left =
-        inl (
-          change,
-          cons-Contains-first change all,
-          same_key change.key key h,
-          put_by change.act body (sym (λ i. cond (h i) (left_by change.act) (table key)) ∙ left),
-        )
-    first false h left = inr (sym (after_there table change key h) ∙ left)
+    Put : Type 0
+    Put = (one : Change) × Contains (change ∷ all) one × (one.key ≡ key) × (one.act ≡ put body)
 
 -- if the table after some changes has a body at a key, one of these changes put it
 pub was_put : (all : List Change) (key : Key) (body : Body) → table_of all key ≡ Some body
@@ -64,21 +48,8 @@ module _ (uids : List (List ℕ)) where
   -- at a wanted key the table after the wanted changes equals the table after all changes
   wanted_there : (key : Key) → is_wanted uids key ≡ true → (all : List Change) (one two : Table) → one key ≡ two key
       → fold after_change one (wanted_changes uids all) key ≡ fold after_change two all key
-  wanted_there key here [] one two same = same
-  wanted_there key here (change ∷ all) one two same = by (is_wanted uids change.key) refl (wanted_there key here all)
-    where
-      apart : is_wanted uids change.key ≡ false → (b : Bool) → is_of key change ≡ b → b ≡ false
-      apart h true is = let bad : false ≡ true = sym h ∙ ap (is_wanted uids) (same_key change.key key is) ∙ here in sym bad
-      apart h false is = refl
-
-      by : (b : Bool) → is_wanted uids change.key ≡ b
-          → ((first second : Table) → first key ≡ second key → fold after_change first (wanted_changes uids all) key ≡ fold after_change second all key)
-          → fold after_change one (cond (is_wanted uids change.key) (change ∷ wanted_changes uids all) (wanted_changes uids all)) key
-          ≡ fold after_change (after_change two change) all key
-      by true h rest = search (rules, is_of, left_by)
-      by false h rest =
-          (λ i. fold after_change one (cond (h i) (change ∷ wanted_changes uids all) (wanted_changes uids all)) key)
-          ∙ rest one (after_change two change) (same ∙ sym (after_there two change key (apart h (is_of key change) refl)))
+  wanted_there key here = filtered_there (λ (one : Change). is_wanted uids one.key) key
+      (λ change h. ap (is_wanted uids) (same_key change.key key h) ∙ here)
 
   -- at any other key the table after the wanted changes has no body
   wanted_gone : (key : Key) → is_wanted uids key ≡ false → (all : List Change) → table_of (wanted_changes uids all) key ≡ None
@@ -136,10 +107,10 @@ module _ (place : List ℕ) (day : ℕ) (file : List (List ℕ)) (is_file : IsFi
         by true h = inl (live_wanted key ∙ wanted_there uids key h kept empty_table empty_table refl ∙ table_is_thin key)
         by false h = inr (live_wanted key ∙ wanted_gone uids key h kept, not_needed key h)
 
+    -- the state made from the wanted changes has the same docker as the summary of the file
+    pub wanted_docker : HaveOneDocker (live_table whole) (live_table part) place day
+    wanted_docker = thin_excerpt_docker place day (live_table whole) (summary_good file is_file few whole summary) (live_table part) wanted_excerpt
+
     -- the state made from the wanted changes has the same docker list as the summary of the file
     pub wanted_list : (lines : List DockerLine) → IsDockerList (live_table whole) place day lines ↔ IsDockerList (live_table part) place day lines
-    wanted_list = thin_excerpt_list place day (live_table whole) (summary_good file is_file few whole summary) (live_table part) wanted_excerpt
-
-    -- the state made from the wanted changes has the same docker text as the summary of the file
-    pub wanted_text : (text : List ℕ) → IsDockerText (live_table whole) place day text ↔ IsDockerText (live_table part) place day text
-    wanted_text = thin_excerpt_text place day (live_table whole) (summary_good file is_file few whole summary) (live_table part) wanted_excerpt
+    wanted_list = wanted_docker.list

@@ -1,9 +1,5 @@
 -- A schedule that doesn't call at a place has no docker line at the place.
-use Rattle.std.proofs.Common.{◌≡◌, ℕ, List, [], sym, ◌∙◌, true, false, cond, Contains}
-use Rattle.std.specs.Prelude.{Option}
-use Rattle.docker_model.specs.file.Journey.{calls_at}
-use Rattle.docker_model.specs.file.Change.{ScheduleKey}
-use Rattle.docker_model.specs.docker.Choice.{Train}
+use Rattle.cif_laws.proofs.Common.{◌≡◌, ℕ, List, [], sym, ◌∙◌, true, false, cond, Contains, Option, calls_at, ScheduleKey, Train}
 use Rattle.docker_laws.specs.Gathering.{start_days, runs_by, event_lines, schedule_lines}
 use Rattle.cif_laws.proofs.lists.Membership.{nil-Contains, Contains-flat_map}
 use Rattle.docker_laws.proofs.dockers.Events.{event_calls}

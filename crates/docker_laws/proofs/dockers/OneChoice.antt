@@ -1,12 +1,8 @@
 -- On a day a UID has at most one chosen schedule, and a group at most one chosen association.
-use Rattle.std.proofs.Common.{◌≡◌, ℕ, List, sym, ◌∙◌, Some, rules}
-use Rattle.std.specs.declared.cmp.Ordering.TheVariants.{Equal}
-use Rattle.std.specs.Cmp.{IsTotalOrder}
+use Rattle.cif_laws.proofs.Common.{◌≡◌, ℕ, List, sym, ◌∙◌, Some, rules, Equal, IsTotalOrder, exact_unsigned, schedule_key, association_key, ScheduleKey}
+use Rattle.cif_laws.proofs.Common.{AssociationKey, schedule_body, association_body, Table, schedule_choice_cmp, association_choice_cmp, IsChosen}
+use Rattle.cif_laws.proofs.Common.{IsChosenAssociation, TrainRuns, Group, group_of}
 use Rattle.std.proofs.lemmas.Cmp.{back_total, nat_cmp_total}
-use Rattle.std.proofs.lemmas.Map.Lookups.{exact_unsigned}
-use Rattle.docker_model.specs.file.Change.{schedule_key, association_key, ScheduleKey, AssociationKey, schedule_body, association_body}
-use Rattle.docker_model.specs.state.Table.{Table}
-use Rattle.docker_model.specs.docker.Choice.{schedule_choice_cmp, association_choice_cmp, IsChosen, IsChosenAssociation, TrainRuns, Group, group_of}
 use Rattle.cif_laws.proofs.orders.Orders.{then_equal}
 use Rattle.cif_laws.proofs.orders.AtMost.{level}
 

@@ -1,21 +1,11 @@
 -- Docker lines that tie in the order of docker lines are equal. They belong to the same schedule or
 -- association, and to the same start day.
-use Rattle.std.proofs.Common.{◌≡◌, ℕ, List, ap, sym, ◌∙◌, subst, inl, inr, ◌⊎◌, Some, None, Contains, rules}
-use Rattle.std.specs.Prelude.{Option}
-use Rattle.std.specs.declared.cmp.Ordering.TheVariants.{Equal}
-use Rattle.std.proofs.lemmas.Map.Lookups.{exact_unsigned, exact_bytes}
-use Rattle.std.proofs.lemmas.Bool.{eqb-true}
-use Rattle.std.proofs.lemmas.Slice.Eq.{bytes_eq-Decides}
-use Rattle.docker_model.specs.records.Record.{columns, column}
-use Rattle.docker_model.specs.file.Journey.{Occasion, joining, dividing, next_working}
-use Rattle.docker_model.specs.file.File.{first_record}
-use Rattle.docker_model.specs.file.Change.{ScheduleKey}
-use Rattle.docker_model.specs.state.Table.{Table}
-use Rattle.docker_model.specs.docker.Event.{Event, events_of, event_line, first_event_at}
-use Rattle.docker_model.specs.docker.Choice.{TrainRuns, IsChosenAssociation, group_of}
-use Rattle.docker_model.specs.docker.DockerLine.{DockerLine, docker_line_cmp, occasion_rank, associated_uid}
-use Rattle.docker_model.specs.docker.Association.{category_occasion, partner_start, IsIdentityOn, IsPartnerIdentity, IsAssociationLine}
-use Rattle.docker_model.specs.docker.DockerList.{IsEventLine}
+use Rattle.cif_laws.proofs.Common.{◌≡◌, ℕ, List, ap, sym, ◌∙◌, subst, inl, inr, ◌⊎◌, Some, None, Contains, rules, Option, Equal, exact_unsigned, exact_bytes}
+use Rattle.cif_laws.proofs.Common.{eqb-true, bytes_eq-Decides, columns, column, Occasion, dividing, next_working, first_record, Table, Event, events_of}
+use Rattle.cif_laws.proofs.Common.{event_line, first_event_at, TrainRuns, IsChosenAssociation, group_of, DockerLine, docker_line_cmp, category_occasion}
+use Rattle.cif_laws.proofs.Common.{partner_start, IsIdentityOn, IsPartnerIdentity, IsAssociationLine, IsEventLine}
+use Rattle.docker_model.specs.file.Journey.{joining}
+use Rattle.docker_model.specs.docker.DockerLine.{occasion_rank, associated_uid}
 use Rattle.docker_laws.specs.Gathering.{IsDockerLine}
 use Rattle.cif_laws.proofs.orders.Orders.{then_equal}
 use Rattle.cif_laws.proofs.lists.BoolsAndOptions.{both, none_some}
@@ -54,19 +44,11 @@ same_event_line live place day a b one two e =
     let uids : one.key.uid ≡ two.key.uid = sym (ap (λ (l : DockerLine). l.uid) one.is) ∙ common.uids ∙ ap (λ (l : DockerLine). l.uid) two.is in
     let starts : one.start ≡ two.start = sym (ap (λ (l : DockerLine). l.start) one.is) ∙ common.starts ∙ ap (λ (l : DockerLine). l.start) two.is in
     let numbers : one.event.number ≡ two.event.number = search rules in
-    by uids starts numbers (moved uids starts two.key two.schedule two.train_runs)
-  where
-    moved : one.key.uid ≡ two.key.uid → one.start ≡ two.start → (key : ScheduleKey) (lines : List (List ℕ)) → TrainRuns live two.key.uid two.start key lines
-        → TrainRuns live one.key.uid one.start key lines
-    moved uids starts key lines runs = search rules
-
-    by : one.key.uid ≡ two.key.uid → one.start ≡ two.start → one.event.number ≡ two.event.number → TrainRuns live one.key.uid one.start two.key two.schedule
-        → AreOneEvent live place day a b one two
-    by uids starts numbers runs =
-        let same = one_train live one.key.uid one.start one.key two.key one.schedule two.schedule one.train_runs runs in
-        let in_one : Contains (events_of one.schedule) two.event = subst (λ ls. Contains (events_of ls) two.event) (sym same.1) two.among in
-        let events = one_event one.schedule one.event two.event one.among in_one numbers in
-        search rules
+    let runs : TrainRuns live one.key.uid one.start two.key two.schedule = search rules in
+    let same = one_train live one.key.uid one.start one.key two.key one.schedule two.schedule one.train_runs runs in
+    let in_one : Contains (events_of one.schedule) two.event = subst (λ ls. Contains (events_of ls) two.event) (sym same.1) two.among in
+    let events = one_event one.schedule one.event two.event one.among in_one numbers in
+    search rules
 
 -- ---- a line of an event and a line of an association never tie
 
@@ -133,29 +115,24 @@ same_association_line live place day a b one two e =
     let numbers : one.event.number ≡ two.event.number = search rules in
     let associated : one.key.associated ≡ two.key.associated =
     sym (ap (λ (l : DockerLine). associated_uid l.detail) one.is) ∙ common.associated ∙ ap (λ (l : DockerLine). associated_uid l.detail) two.is in
-    by bases starts numbers associated
-  where
-    by : one.key.base ≡ two.key.base → one.start ≡ two.start → one.event.number ≡ two.event.number → one.key.associated ≡ two.key.associated
-        → AreOneAssociation live place day a b one two
-    by bases starts numbers associated =
-        let runs : TrainRuns live one.key.base one.start two.base_key two.base = search rules in
-        let trains = one_train live one.key.base one.start one.base_key two.base_key one.base two.base one.base_runs runs in
-        let first = first_event_is one.base one.key.location one.key.suffix one.event one.first_there in
-        let second = first_event_is two.base two.key.location two.key.suffix two.event two.first_there in
-        let in_one : Contains (events_of one.base) two.event = subst (λ ls. Contains (events_of ls) two.event) (sym trains.1) second.0 in
-        let events = one_event one.base one.event two.event first.0 in_one numbers in
-        let suffixes : one.key.suffix ≡ two.key.suffix = sym first.1 ∙ (λ i. column 10 (event_line (trains.1 i) (events i))) ∙ second.1 in
-        let locations : one.key.location ≡ two.key.location = one.here ∙ sym two.here in
-        let groups : group_of one.key ≡ group_of two.key =
-        (λ i. record { base = bases i; associated = associated i; location = locations i; suffix = suffixes i }) in
-        let chosen : IsChosenAssociation live (group_of one.key) one.start two.key two.association = search rules in
-        let links = one_link live (group_of one.key) one.start one.key two.key one.association two.association one.chosen chosen in
-        let occasion : Some one.occasion ≡ Some two.occasion = sym one.category ∙ ap (λ l. category_occasion (columns 35 36 l)) links.1 ∙ two.category in
-        let occasions : one.occasion ≡ two.occasion = cc in
-        let partner : IsPartnerIdentity live one.key.associated (partner_start (column 37 one.association) one.start) two.identity = search rules in
-        let identities = one_identity live one.key.associated
-        (partner_start (column 37 one.association) one.start) one.identity two.identity one.partner partner in
-        search rules
+    let runs : TrainRuns live one.key.base one.start two.base_key two.base = search rules in
+    let trains = one_train live one.key.base one.start one.base_key two.base_key one.base two.base one.base_runs runs in
+    let first = first_event_is one.base one.key.location one.key.suffix one.event one.first_there in
+    let second = first_event_is two.base two.key.location two.key.suffix two.event two.first_there in
+    let in_one : Contains (events_of one.base) two.event = subst (λ ls. Contains (events_of ls) two.event) (sym trains.1) second.0 in
+    let events = one_event one.base one.event two.event first.0 in_one numbers in
+    let suffixes : one.key.suffix ≡ two.key.suffix = sym first.1 ∙ (λ i. column 10 (event_line (trains.1 i) (events i))) ∙ second.1 in
+    let locations : one.key.location ≡ two.key.location = one.here ∙ sym two.here in
+    let groups : group_of one.key ≡ group_of two.key =
+    (λ i. record { base = bases i; associated = associated i; location = locations i; suffix = suffixes i }) in
+    let chosen : IsChosenAssociation live (group_of one.key) one.start two.key two.association = search rules in
+    let links = one_link live (group_of one.key) one.start one.key two.key one.association two.association one.chosen chosen in
+    let occasion : Some one.occasion ≡ Some two.occasion = sym one.category ∙ ap (λ l. category_occasion (columns 35 36 l)) links.1 ∙ two.category in
+    let occasions : one.occasion ≡ two.occasion = cc in
+    let partner : IsPartnerIdentity live one.key.associated (partner_start (column 37 one.association) one.start) two.identity = search rules in
+    let identities = one_identity live one.key.associated
+    (partner_start (column 37 one.association) one.start) one.identity two.identity one.partner partner in
+    search rules
 
 -- ---- any two lines that tie are equal
 

@@ -1,11 +1,8 @@
 -- A docker line comes from one schedule, one event and at most one association. So a table has at
 -- most one detailed docker for a place and a day.
-use Rattle.std.proofs.Common.{◌≡◌, ℕ, List, [], ◌∷◌, refl, ap, sym, ◌∙◌, subst, inl, inr, Some, None}
-use Rattle.std.specs.List.{AllZip, zip}
-use Rattle.std.specs.Cmp.{tied_itself}
-use Rattle.docker_model.specs.state.Table.{Table}
-use Rattle.docker_model.specs.docker.DockerLine.{DockerLine}
-use Rattle.docker_model.specs.docker.DetailedText.{IsOrigin, IsDetailedText, detailed_text, origin_text}
+use Rattle.cif_laws.proofs.Common.{◌≡◌, ℕ, List, [], ◌∷◌, refl, ap, sym, ◌∙◌, subst, inl, inr, Some, None, AllZip, zip, tied_itself, Table, DockerLine}
+use Rattle.cif_laws.proofs.Common.{IsOrigin, IsDetailedText}
+use Rattle.docker_model.specs.docker.DetailedText.{detailed_text, origin_text}
 use Rattle.cif_laws.proofs.orders.Orders.{docker_line_total}
 use Rattle.state_laws.proofs.states.OneJoin.{docker_unique}
 use Rattle.docker_laws.proofs.dockers.OneDockerLine.{same_event_line, same_association_line, event_apart}
@@ -28,14 +25,13 @@ pub one_list_of_origins : (live : Table) (place : List ℕ) (day : ℕ) (lines :
     → AllZip (IsOrigin live place day) lines first
     → AllZip (IsOrigin live place day) lines second → first ≡ second
 one_list_of_origins live place day [] [] [] one two = refl
-one_list_of_origins live place day [] (a ∷ first) second one two = absurd one
 one_list_of_origins live place day [] [] (b ∷ second) one two = absurd two
-one_list_of_origins live place day (line ∷ lines) [] second one two = absurd one
 one_list_of_origins live place day (line ∷ lines) (a ∷ first) [] one two = absurd two
 one_list_of_origins live place day (line ∷ lines) (a ∷ first) (b ∷ second) one two =
     let heads = one_origin live place day line a b one.0 two.0 in
     let tails = one_list_of_origins live place day lines first second one.1 two.1 in
     λ i. heads i ∷ tails i
+one_list_of_origins live place day lines first second one two = absurd one
 
 -- a table has at most one detailed docker for a place and a day
 pub one_detailed_text : (live : Table) (place : List ℕ) (day : ℕ) (text other : List ℕ) → IsDetailedText live place day text

@@ -1,12 +1,8 @@
 -- A segment of a table's rows has each schedule of a UID, if no row outside the segment is a
 -- schedule of that UID. The segment has each association of a group, if no row outside the segment
 -- is an association of that group.
-use Rattle.std.proofs.Common.{ℕ, List, ◌++◌, inl, inr, ◌⊎◌, Contains}
-use Rattle.std.proofs.lemmas.List.Elements.{Contains-append_left, Contains-append_right, Contains-append_cases}
-use Rattle.docker_model.specs.file.Change.{schedule_key, association_key, schedule_body, association_body}
-use Rattle.docker_model.specs.state.Table.{Table}
-use Rattle.docker_model.specs.state.Row.{Row, AreRowsOf}
-use Rattle.docker_model.specs.docker.Choice.{Group}
+use Rattle.cif_laws.proofs.Common.{ℕ, List, ◌++◌, inl, inr, ◌⊎◌, Contains, Contains-append_left, Contains-append_right, Contains-append_cases, schedule_key}
+use Rattle.cif_laws.proofs.Common.{association_key, schedule_body, association_body, Table, Row, AreRowsOf, Group}
 use Rattle.docker_laws.specs.LiveRows.{HasSchedulesOf, HasAssociationsOf, HasNoScheduleOf, HasNoAssociationOf}
 
 -- a row of `front ++ rows ++ back` that isn't in `front` or `back` is in `rows`

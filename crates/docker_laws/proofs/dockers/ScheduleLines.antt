@@ -1,20 +1,9 @@
 -- Lemmas on the docker lines of a schedule for one start day. The event lines of a docker are
 -- exactly these lines, for all schedules and start days.
-use Rattle.std.proofs.Common.{◌≡◌, ℕ, true, rules, List, Contains, sym, subst, Bool, eqb-true, arith, [], cond, refl, Some, None, false}
-use Rattle.std.proofs.lemmas.Grind.{common_steps}
-use Rattle.std.specs.Prelude.{◌==◌, filter, ◌&&◌, Option}
-use Rattle.std.specs.Str.{bytes_eq}
-use Rattle.std.specs.Ordering.{is_eq}
-use Rattle.std.proofs.lemmas.Slice.Eq.{bytes_eq-Decides}
-use Rattle.docker_model.specs.records.Record.{columns}
-use Rattle.docker_model.specs.file.Change.{ScheduleKey, schedule_key, schedule_body}
-use Rattle.docker_model.specs.state.Op.{schedule_key_cmp}
-use Rattle.docker_model.specs.state.Table.{Table}
-use Rattle.docker_model.specs.state.State.{HasGoodBodies}
-use Rattle.docker_model.specs.docker.Event.{Event, events_of, event_day, event_line}
-use Rattle.docker_model.specs.docker.Choice.{TrainRuns, Train}
-use Rattle.docker_model.specs.docker.DockerLine.{DockerLine, line_of_event, docker_line_cmp}
-use Rattle.docker_model.specs.docker.DockerList.{IsEventLine}
+use Rattle.cif_laws.proofs.Common.{◌≡◌, ℕ, true, rules, List, Contains, sym, subst, Bool, eqb-true, arith, [], cond, refl, Some, None, false, common_steps}
+use Rattle.cif_laws.proofs.Common.{◌==◌, filter, ◌&&◌, Option, bytes_eq, is_eq, bytes_eq-Decides, columns, ScheduleKey, schedule_key, schedule_body}
+use Rattle.cif_laws.proofs.Common.{schedule_key_cmp, Table, HasGoodBodies, Event, events_of, event_day, event_line, TrainRuns, Train, DockerLine, line_of_event}
+use Rattle.cif_laws.proofs.Common.{docker_line_cmp, IsEventLine}
 use Rattle.docker_laws.specs.LiveRows.{IsTrainOn, TellsTrains}
 use Rattle.docker_laws.specs.Gathering.{event_lines, runs_by, start_days}
 use Rattle.cif_laws.proofs.lists.Membership.{Contains-map, map-Contains, nil-Contains}
@@ -23,8 +12,8 @@ use Rattle.cif_laws.proofs.orders.Orders.{schedule_key_total, exact_schedule_key
 use Rattle.cif_laws.proofs.lists.FilteredMembers.{filter_back, filter_forth}
 use Rattle.cif_laws.proofs.lists.Later.{later_weaker, later_filter, later_map}
 use Rattle.cif_laws.proofs.lists.Sorted.{AreApart}
-use Rattle.docker_laws.proofs.dockers.StartDays.{event_within, start_days_iff}
-use Rattle.docker_laws.proofs.dockers.FewMidnights.{bodies_few}
+use Rattle.docker_laws.proofs.dockers.StartDays.{start_days_iff}
+use Rattle.docker_laws.proofs.dockers.NearStarts.{event_near}
 use Rattle.docker_laws.proofs.dockers.OneChoice.{one_schedule, one_train}
 use Rattle.docker_laws.proofs.dockers.Events.{numbers_ascend}
 use Rattle.docker_laws.proofs.dockers.OneDockerLine.{tied_lines_agree}
@@ -43,12 +32,11 @@ pub record IsLineOfEvent (place : List ℕ) (day start : ℕ) (key : ScheduleKey
   pub is : line ≡ line_of_event key start lines event
 
 module _ (place : List ℕ) (day start : ℕ) (key : ScheduleKey) (lines : List (List ℕ)) where
-  test : Event → Bool
+  abbrev test : Event → Bool
   test event = bytes_eq (columns 3 9 (event_line lines event)) place && (event_day start lines event == day)
 
   -- each line that `event_lines` computes is the docker line of an event at the place on the day
   pub event_lines_back : (line : DockerLine) → Contains (event_lines place day start key lines) line → IsLineOfEvent place day start key lines line
-  unfolding test
   event_lines_back line among =
       let found = Contains-map (line_of_event key start lines) (filter test (events_of lines)) line among in
       let passed = filter_back test (events_of lines) found.0 found.1 in
@@ -57,7 +45,6 @@ module _ (place : List ℕ) (day start : ℕ) (key : ScheduleKey) (lines : List 
 
   -- `event_lines` computes the docker line of each event at the place on the day
   pub event_lines_forth : (line : DockerLine) → IsLineOfEvent place day start key lines line → Contains (event_lines place day start key lines) line
-  unfolding test
   event_lines_forth line is =
       let day_is : (event_day start lines is.event == day) ≡ true = search (rules, number_itself) in
       let passes : test is.event ≡ true = (λ i. (bytes_eq-Decides (columns 3 9 (event_line lines is.event)) place).1 is.here i && day_is i) in
@@ -65,7 +52,6 @@ module _ (place : List ℕ) (day start : ℕ) (key : ScheduleKey) (lines : List 
 
   -- of the lines that `event_lines` computes, no two tie, since their events have different numbers
   pub event_lines_apart : AreApart docker_line_cmp (event_lines place day start key lines)
-  unfolding test
   event_lines_apart = grind (common_steps, arith, later_map, test, later_weaker, tied_lines_agree, later_filter, numbers_ascend)
 
 -- the docker lines of a schedule for one start day
@@ -129,10 +115,4 @@ module _ (live : Table) (trains : List ℕ → ℕ → Option Train) (tell : Tel
 
   -- the train of an event line starts on the docker's day or on one of the two days before it
   pub event_starts : HasGoodBodies live → (line : DockerLine) (made : IsEventLine live place day line) → Contains (start_days day) made.start
-  event_starts good line made =
-      let few = bodies_few live good made.key made.schedule made.train_runs.chosen.running.is_live in
-      let within = event_within made.start made.schedule made.event few in
-      let low = within.0 in
-      let high = within.1 in
-      let today = made.today in
-      (start_days_iff day made.start).1 (omega arith, omega arith)
+  event_starts good line made = (start_days_iff day made.start).1 (event_near live place day line good made)

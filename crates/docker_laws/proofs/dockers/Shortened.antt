@@ -1,58 +1,38 @@
 -- Of a schedule that calls at a place, a valid state may keep only the records that the docker of the
 -- place and a day needs. Then the state is still valid, and has the same docker for this place and
 -- day. Its excerpt for the place is valid too, and has the same docker.
-use Rattle.std.proofs.Common.{◌≡◌, ℕ, List, [], ◌∷◌, refl, ap, sym, ◌∙◌, subst, Bool, true, false, cond, Some, None, map, arith, rules}
-use Rattle.std.specs.Prelude.{Option, ◌↔◌, ◌&&◌, option_map, find}
-use Rattle.std.specs.Ordering.{is_eq, on}
-use Rattle.docker_model.specs.records.Record.{basic_schedule, HasKind}
-use Rattle.docker_model.specs.file.Journey.{calls_at}
-use Rattle.docker_model.specs.file.File.{first_record}
-use Rattle.docker_model.specs.file.Change.{Key, tiploc_key, schedule_key, association_key, ScheduleKey, AssociationKey}
-use Rattle.docker_model.specs.file.Change.{Body, tiploc_body, schedule_body, association_body}
-use Rattle.docker_model.specs.state.Lapse.{HasNotToLapse}
-use Rattle.docker_model.specs.state.Op.{Op, body_end, key_cmp}
-use Rattle.docker_model.specs.state.State.{State, IsValid, IsGoodEntry, IsOpOf, IsBodyOf, IsScheduleOf, HasGoodBodies, AreAscending, live_table}
-use Rattle.docker_model.specs.docker.DockerLine.{DockerLine}
-use Rattle.docker_model.specs.docker.DockerList.{IsDockerList}
-use Rattle.docker_model.specs.docker.DockerText.{IsDockerText}
+use Rattle.cif_laws.proofs.Common.{◌≡◌, ℕ, List, [], ◌∷◌, refl, ap, sym, ◌∙◌, subst, Bool, true, false, cond, Some, map, arith, rules, Option, ◌↔◌, ◌&&◌}
+use Rattle.cif_laws.proofs.Common.{option_map, find, is_eq, on, basic_schedule, HasKind, calls_at, first_record, Key, tiploc_key, schedule_key, association_key}
+use Rattle.cif_laws.proofs.Common.{ScheduleKey, Body, tiploc_body, schedule_body, association_body, HasNotToLapse, Op, body_end, key_cmp, State, IsValid}
+use Rattle.cif_laws.proofs.Common.{IsGoodEntry, IsOpOf, IsBodyOf, HasGoodBodies, AreAscending, live_table, DockerLine, IsDockerList}
 use Rattle.docker_laws.specs.NearDay.{may_reach, near_entries, near_state}
 use Rattle.docker_laws.specs.StandIn.{IsStandIn, StandsFor}
 use Rattle.docker_laws.specs.Thinning.{thin_lines, lines_for, excerpt_lines, excerpt_body, excerpt_op, excerpt_entry, shortened}
 use Rattle.docker_laws.specs.Thinning.{excerpt_on}
 use Rattle.cif_laws.proofs.lists.Membership.{Contains-map, all_members, member_of}
 use Rattle.cif_laws.proofs.lists.Later.{later_map}
-use Rattle.cif_laws.proofs.lists.BoolsAndOptions.{none_some}
 use Rattle.cif_laws.proofs.orders.Ascending.{later_of, ascending_of}
 use Rattle.state_laws.proofs.states.PlainTable.{Keyed}
 use Rattle.state_laws.proofs.states.GoodBodies.{good_bodies}
 use Rattle.docker_laws.proofs.dockers.FewMidnights.{bodies_few}
 use Rattle.docker_laws.proofs.dockers.KeptSchedules.{first_kind}
-use Rattle.docker_laws.proofs.dockers.ExcerptWalk.{walk_valid, walk_list_iff, walk_text_iff}
-use Rattle.docker_laws.proofs.dockers.NearState.{near_valid, near_state_list, near_state_text}
-use Rattle.docker_laws.proofs.dockers.ThinBody.{needed_of_key}
-use Rattle.docker_laws.proofs.dockers.ThinDocker.{own_stand_in, needed_stand_in, stand_in_list_iff, stand_in_text_iff}
+use Rattle.docker_laws.proofs.dockers.ExcerptWalk.{walk_valid, walk_docker}
+use Rattle.docker_laws.proofs.dockers.SameDocker.{HaveOneDocker, docker_again}
+use Rattle.docker_laws.proofs.dockers.NearDocker.{own_stand_in, stand_in_docker}
+use Rattle.docker_laws.proofs.dockers.NearState.{near_valid, near_state_docker}
+use Rattle.docker_laws.proofs.dockers.ThinBody.{needed_is_body, body_stays, was_schedule}
+use Rattle.docker_laws.proofs.dockers.ThinDocker.{needed_stand_in}
 
 -- ---- a body, and the body that the excerpt has instead of it
 
 module _ (place : List ℕ) (day : ℕ) where
-  -- the records of a schedule in the excerpt form a schedule with the same key
-  excerpt_of_key : (key : ScheduleKey) (lines : List (List ℕ)) → IsScheduleOf key lines → IsScheduleOf key (excerpt_lines place day lines)
-  excerpt_of_key key lines is = by (calls_at place lines)
-    where
-      by : (b : Bool) → IsScheduleOf key (cond b (lines_for place day lines) lines)
-      by true = needed_of_key place day key lines is
-      by false = is
-
   excerpt_is_body : (key : Key) (body : Body) → IsBodyOf key body → IsBodyOf key (excerpt_body place day body)
-  excerpt_is_body (schedule_key key) (schedule_body lines) is = excerpt_of_key key lines is
-  excerpt_is_body (schedule_key key) (tiploc_body bytes) is = is
-  excerpt_is_body (schedule_key key) (association_body line) is = is
-  excerpt_is_body (tiploc_key code) (tiploc_body bytes) is = is
-  excerpt_is_body (tiploc_key code) (association_body line) is = is
-  excerpt_is_body (tiploc_key code) (schedule_body lines) is = absurd is
-  excerpt_is_body (association_key key) (tiploc_body bytes) is = is
-  excerpt_is_body (association_key key) (association_body line) is = is
-  excerpt_is_body (association_key key) (schedule_body lines) is = absurd is
+  excerpt_is_body key (schedule_body lines) is = elim (calls_at place lines) as (λ b. IsBodyOf key (schedule_body (cond b (lines_for place day lines) lines))) [
+    | true ↦ needed_is_body place day key (schedule_body lines) is
+    | false ↦ is
+  ]
+  excerpt_is_body key (tiploc_body bytes) is = is
+  excerpt_is_body key (association_body line) is = is
 
   -- an op in the excerpt is well formed, if the whole op is
   pub excerpt_is_op : (key : Key) (op : Op) → IsOpOf key op → IsOpOf key (excerpt_op place day op)
@@ -119,34 +99,14 @@ module _ (place : List ℕ) (day : ℕ) where
   -- ---- the shortened state has the same docker as the state
 
   excerpt_stand_in : (lines : List (List ℕ)) → HasKind basic_schedule (first_record lines) → IsStandIn place day lines (excerpt_lines place day lines)
-  excerpt_stand_in lines kind = by (calls_at place lines)
-    where
-      by : (b : Bool) → IsStandIn place day lines (cond b (lines_for place day lines) lines)
-      by true = needed_stand_in place day lines kind
-      by false = own_stand_in place day lines
+  excerpt_stand_in lines kind = elim (calls_at place lines) as (λ b. IsStandIn place day lines (cond b (lines_for place day lines) lines)) [
+    | true ↦ needed_stand_in place day lines kind
+    | false ↦ own_stand_in place day lines
+  ]
 
-  tiploc_stays : (code : List ℕ) (found : Option Body) → ((body : Body) → found ≡ Some body → IsBodyOf (tiploc_key code) body)
-      → option_map (excerpt_body place day) found ≡ found
-  tiploc_stays code None is = refl
-  tiploc_stays code (Some (tiploc_body bytes)) is = refl
-  tiploc_stays code (Some (association_body line)) is = refl
-  tiploc_stays code (Some (schedule_body lines)) is = absurd (is (schedule_body lines) refl)
-
-  association_stays : (key : AssociationKey) (found : Option Body) → ((body : Body) → found ≡ Some body → IsBodyOf (association_key key) body)
-      → option_map (excerpt_body place day) found ≡ found
-  association_stays key None is = refl
-  association_stays key (Some (tiploc_body bytes)) is = refl
-  association_stays key (Some (association_body line)) is = refl
-  association_stays key (Some (schedule_body lines)) is = absurd (is (schedule_body lines) refl)
-
-  was_schedule : (found : Option Body) (lines : List (List ℕ)) → option_map (excerpt_body place day) found ≡ Some (schedule_body lines)
-      → (whole : List (List ℕ)) × (found ≡ Some (schedule_body whole)) × (excerpt_lines place day whole ≡ lines)
-  was_schedule None lines is = none_some (schedule_body lines) is
-  was_schedule (Some (schedule_body whole)) lines is =
-      let same : Some (schedule_body (excerpt_lines place day whole)) ≡ Some (schedule_body lines) = is in
-      (whole, refl, (let lines_are : excerpt_lines place day whole ≡ lines = cc in lines_are))
-  was_schedule (Some (tiploc_body bytes)) lines is = absurd (let bad : Some (tiploc_body bytes) ≡ Some (schedule_body lines) = is in cc)
-  was_schedule (Some (association_body line)) lines is = absurd (let bad : Some (association_body line) ≡ Some (schedule_body lines) = is in cc)
+  -- an entry that may count, as the excerpt has it
+  abbrev changed : Body → Option Body
+  changed body = Some (excerpt_body place day body)
 
   module _ (state : State) (valid : IsValid state) where
     near_good : HasGoodBodies (live_table (near_state day state))
@@ -159,42 +119,41 @@ module _ (place : List ℕ) (day : ℕ) where
         → HasKind basic_schedule (first_record whole)
     kind_there key whole there = first_kind key whole (near_good (schedule_key key) (schedule_body whole) there)
 
+    -- the shortened state has the same body as the state at a key that isn't a schedule's, if that
+    -- entry may count on the day
+    same_there : (key : Key) → ((lines : List (List ℕ)) → ¬ IsBodyOf key (schedule_body lines))
+        → live_table (shortened place day state) key ≡ live_table (near_state day state) key
+    same_there key apart = live_short state key ∙ body_stays changed (λ bytes. refl) (λ line. refl) key apart _ (near_good key)
+
     -- the shortened state has the same body as the state at the place's TIPLOC, if that entry may
     -- count on the day
     pub same_tiploc : live_table (shortened place day state) (tiploc_key place) ≡ live_table (near_state day state) (tiploc_key place)
-    same_tiploc = search (rules, live_short, tiploc_stays, near_good)
+    same_tiploc = same_there (tiploc_key place) (λ lines is. is)
 
     short_stands : StandsFor place day (live_table (near_state day state)) (live_table (shortened place day state))
     short_stands = record {
       tiploc = same_tiploc;
-      associations = λ key here.
-          live_short state (association_key key)
-          ∙ association_stays key (live_table (near_state day state) (association_key key)) (near_good (association_key key));
+      associations = λ key here. same_there (association_key key) (λ lines is. is);
       schedules = λ key whole is_live runs. (
         excerpt_lines place day whole,
         live_short state (schedule_key key) ∙ ap (option_map (excerpt_body place day)) is_live,
         excerpt_stand_in whole (kind_there key whole is_live),
       );
       no_others = λ key lines left runs.
-          let was = was_schedule (live_table (near_state day state) (schedule_key key)) lines (sym (live_short state (schedule_key key)) ∙ left) in
-          (was.0, was.1, subst (IsStandIn place day was.0) was.2 (excerpt_stand_in was.0 (kind_there key was.0 was.1)));
+          let was = was_schedule changed (λ bytes. refl) (λ line. refl) _ lines (sym (live_short state (schedule_key key)) ∙ left) in
+          let same : excerpt_lines place day was.0 ≡ lines = cc in
+          (was.0, was.1, subst (IsStandIn place day was.0) same (excerpt_stand_in was.0 (kind_there key was.0 was.1)));
     }
+
+    -- a valid state and the shortened state have the same docker for the place and the day
+    pub shortened_docker : HaveOneDocker (live_table state) (live_table (shortened place day state)) place day
+    shortened_docker = docker_again (near_state_docker place day state valid)
+        (stand_in_docker place day _ _ short_stands (bodies_few _ near_good) (bodies_few _ short_good))
 
     -- a valid state and the shortened state have the same docker list for the place and the day
     pub shortened_list : (lines : List DockerLine)
         → IsDockerList (live_table state) place day lines ↔ IsDockerList (live_table (shortened place day state)) place day lines
-    shortened_list lines =
-        let near = near_state_list _ _ _ _ valid in
-        let short_iff = stand_in_list_iff _ _ _ _ short_stands (bodies_few _ near_good) (bodies_few _ short_good) _ in
-        (λ is. short_iff.0 (near.0 is), λ is. near.1 (short_iff.1 is))
-
-    -- a valid state and the shortened state have the same docker text for the place and the day
-    pub shortened_text : (text : List ℕ)
-        → IsDockerText (live_table state) place day text ↔ IsDockerText (live_table (shortened place day state)) place day text
-    shortened_text text =
-        let near = near_state_text _ _ _ _ valid in
-        let short_iff = stand_in_text_iff _ _ _ _ short_stands (bodies_few _ near_good) (bodies_few _ short_good) _ in
-        (λ is. short_iff.0 (near.0 is), λ is. near.1 (short_iff.1 is))
+    shortened_list = shortened_docker.list
 
 -- ---- the excerpt for a place and a day has the same docker as the state
 
@@ -202,22 +161,8 @@ module _ (place : List ℕ) (day : ℕ) where
 pub excerpt_on_valid : (place : List ℕ) (day : ℕ) (state : State) → IsValid state → IsValid (excerpt_on place day state)
 excerpt_on_valid place day state valid = walk_valid place (shortened place day state) (shortened_valid place day state valid)
 
--- a valid state and its excerpt for a place and a day have the same docker list for this place and
--- day
-pub excerpt_on_list : (place : List ℕ) (day : ℕ) (state : State) (lines : List DockerLine) → IsValid state
-    → IsDockerList (live_table state) place day lines ↔ IsDockerList (live_table (excerpt_on place day state)) place day lines
-excerpt_on_list place day state lines valid =
-    let near = shortened_list place day state valid lines in
-    let walk = walk_list_iff place (shortened place day state) day lines (shortened_valid place day state valid) in
-    (λ is. walk.0 (near.0 is), λ is. near.1 (walk.1 is))
-
--- a valid state and its excerpt for a place and a day have the same docker text for this place and
--- day
-pub excerpt_on_text : (place : List ℕ) (day : ℕ) (state : State) (text : List ℕ) → IsValid state
-    → IsDockerText (live_table state) place day text ↔ IsDockerText (live_table (excerpt_on place day state)) place day text
-excerpt_on_text place day state text valid =
-    let near = shortened_text place day state valid text in
-    let walk = walk_text_iff place (shortened place day state) day text (shortened_valid place day state valid) in
-    (λ is. walk.0 (near.0 is), λ is. near.1 (walk.1 is))
-
--- ---- `excerpt_entries` keeps or drops each entry regardless of the other entries
+-- a valid state and its excerpt for a place and a day have the same docker for this place and day
+pub excerpt_on_docker : (place : List ℕ) (day : ℕ) (state : State) → IsValid state
+    → HaveOneDocker (live_table state) (live_table (excerpt_on place day state)) place day
+excerpt_on_docker place day state valid = docker_again (shortened_docker place day state valid)
+    (walk_docker place (shortened place day state) day (shortened_valid place day state valid))

@@ -1,13 +1,7 @@
 -- The events of a live schedule are on the start day of its train or on one of the two days after
 -- it. So the trains of one day's docker start on at most three different days.
-use Rattle.std.proofs.Common.{◌≡◌, ℕ, zero, suc, ◌+◌, ◌-◌, ◌≤◌, List, [], ◌∷◌, subst, Some, Contains, arith, rules}
-use Rattle.std.specs.Prelude.{filter, nat_le}
-use Rattle.std.proofs.lemmas.Bool.{leb-true, le-leb}
-use Rattle.docker_model.specs.file.Journey.{midnights}
-use Rattle.docker_model.specs.file.Change.{schedule_key, ScheduleKey, schedule_body}
-use Rattle.docker_model.specs.state.Table.{Table}
-use Rattle.docker_model.specs.state.State.{HasGoodBodies}
-use Rattle.docker_model.specs.docker.Event.{Event, event_day, falls_to}
+use Rattle.cif_laws.proofs.Common.{◌≡◌, ℕ, zero, suc, ◌+◌, ◌-◌, ◌≤◌, List, [], ◌∷◌, subst, Some, Contains, arith, rules, filter, nat_le, leb-true, le-leb}
+use Rattle.cif_laws.proofs.Common.{midnights, schedule_key, ScheduleKey, schedule_body, Table, HasGoodBodies, Event, event_day, falls_to}
 use Rattle.docker_laws.specs.Gathering.{start_days}
 use Rattle.cif_laws.proofs.lists.Membership.{cons-Contains, cons-Contains-first, map-Contains}
 use Rattle.docker_laws.proofs.dockers.FewMidnights.{bodies_few, falls_below}
@@ -18,10 +12,10 @@ pub few_falls_to : (live : Table) (key : ScheduleKey) (lines : List (List ℕ)) 
     → (number : ℕ) → falls_to lines number ≤ 2
 few_falls_to live key lines good is number = let front = falls_below lines number in let few = bodies_few live good key lines is in omega arith
 
--- an event is on the start day of its train or on one of the two days after it
-pub event_within : (start : ℕ) (lines : List (List ℕ)) (event : Event) → midnights lines ≤ 2 → (start ≤ event_day start lines event)
-    × (event_day start lines event ≤ start + 2)
-event_within start lines event few = let front = falls_below lines event.number in (omega arith, omega arith)
+-- a train with an event on the day starts on that day or on one of the two days before it
+pub event_within : (start : ℕ) (lines : List (List ℕ)) (event : Event) (day : ℕ) → midnights lines ≤ 2 → event_day start lines event ≡ day
+    → (start ≤ day) × (day ≤ start + 2)
+event_within start lines event day few today = let front = falls_below lines event.number in (omega arith, omega arith)
 
 -- ---- the start days for a day are the day and the two days before it
 

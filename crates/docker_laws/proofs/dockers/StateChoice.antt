@@ -1,11 +1,7 @@
 -- On each day that isn't before the horizon, the same schedules and associations are chosen from a
 -- state before and after its entries lapse.
-use Rattle.std.proofs.Common.{ℕ, ◌≤◌, List, subst, sym}
-use Rattle.std.specs.Prelude.{◌↔◌}
-use Rattle.docker_model.specs.records.Date.{IsDay}
-use Rattle.docker_model.specs.file.Change.{AssociationKey, ScheduleKey}
-use Rattle.docker_model.specs.state.State.{State, live_table, lapse_state}
-use Rattle.docker_model.specs.docker.Choice.{Group, IsChosen, IsChosenAssociation, TrainRuns}
+use Rattle.cif_laws.proofs.Common.{ℕ, ◌≤◌, List, subst, sym, ◌↔◌, IsDay, AssociationKey, ScheduleKey, State, live_table, lapse_state, Group, IsChosen}
+use Rattle.cif_laws.proofs.Common.{IsChosenAssociation, TrainRuns}
 use Rattle.state_laws.proofs.states.TableLapsed.{live_lapsed}
 use Rattle.docker_laws.proofs.dockers.LapsedChoice.{chosen_iff, train_iff, association_iff}
 use Rattle.docker_laws.proofs.dockers.PrintedDocker.{day_bound}

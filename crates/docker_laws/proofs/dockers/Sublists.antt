@@ -1,7 +1,6 @@
 -- Lemmas on sublists. A sublist has some elements of a list, possibly none or all, in the list's
 -- order.
-use Rattle.std.proofs.Common.{List, [], ◌∷◌, ◌++◌, ◌≡◌, ◌∙◌, refl, sym, subst, inl, inr, ◌⊎◌, Contains, Bool, All, arith}
-use Rattle.std.specs.Prelude.{filter}
+use Rattle.cif_laws.proofs.Common.{List, [], ◌∷◌, ◌++◌, ◌∙◌, refl, sym, subst, inl, inr, Contains, Bool, All, arith, filter}
 use Rattle.docker_laws.specs.Excerpt.{IsSublist}
 use Rattle.cif_laws.proofs.lists.Membership.{Contains-cons, cons-Contains, cons-Contains-first, nil-Contains}
 use Rattle.cif_laws.proofs.lists.Membership.{below_by_recursion, each_member, member_of, all_members}
@@ -26,14 +25,13 @@ sublist_filter test (x ∷ xs) = grind (arith, sublist_behind, (sublist_filter t
 pub sublist_member : {A : Type 0} (xs ys : List A) (z : A) → IsSublist xs ys → Contains xs z → Contains ys z
 sublist_member [] ys z is among = absurd (nil-Contains z among)
 sublist_member (x ∷ xs) [] z is among = absurd is
-sublist_member (x ∷ xs) (y ∷ ys) z is among =
-    by (λ rest inside. sublist_member xs ys z rest inside) (λ rest. sublist_member (x ∷ xs) ys z rest among) is (Contains-cons x xs z among)
-  where
-    by : (IsSublist xs ys → Contains xs z → Contains ys z) → (IsSublist (x ∷ xs) ys → Contains ys z)
-        → ((x ≡ y) × IsSublist xs ys) ⊎ IsSublist (x ∷ xs) ys → (x ≡ z) ⊎ Contains xs z → Contains (y ∷ ys) z
-    by inner outer (inl first) (inl same) = subst (Contains (y ∷ ys)) same (subst (λ v. Contains (y ∷ ys) v) (sym first.0) (cons-Contains-first y ys))
-    by inner outer (inl first) (inr inside) = cons-Contains y ys z (inner first.1 inside)
-    by inner outer (inr rest) where_ = cons-Contains y ys z (outer rest)
+sublist_member (x ∷ xs) (y ∷ ys) z is among = elim is [
+  | inl first ↦ elim (Contains-cons x xs z among) [
+    | inl same ↦ subst (Contains (y ∷ ys)) (sym first.0 ∙ same) (cons-Contains-first y ys)
+    | inr inside ↦ cons-Contains y ys z (sublist_member xs ys z first.1 inside)
+  ]
+  | inr rest ↦ cons-Contains y ys z (sublist_member (x ∷ xs) ys z rest among)
+]
 
 -- if each element of a list has a property, so has each element of a sublist
 pub sublist_all : {A : Type 0} (P : A → Type 0) (xs ys : List A) → IsSublist xs ys → All P ys → All P xs
@@ -43,33 +41,27 @@ sublist_all P xs ys is all = all_members P xs (λ z among. member_of P ys z all 
 pub sublist_later : {A : Type 0} (R : A → A → Type 0) (xs ys : List A) → IsSublist xs ys → AllLater R ys → AllLater R xs
 sublist_later R [] ys is later = tt
 sublist_later R (x ∷ xs) [] is later = absurd is
-sublist_later {A} R (x ∷ xs) (y ∷ ys) is later =
-    by (λ rest. sublist_later R xs ys rest later.1) (λ rest. sublist_later R (x ∷ xs) ys rest later.1) is
-  where
-    by : (IsSublist xs ys → AllLater R xs) → (IsSublist (x ∷ xs) ys → AllLater R (x ∷ xs)) → ((x ≡ y) × IsSublist xs ys) ⊎ IsSublist (x ∷ xs) ys
-        → AllLater R (x ∷ xs)
-    by inner outer (inl first) = (
-      each_member (R x) xs (λ z among.
-          subst (λ v. R v z) (sym first.0) (below_by_recursion (R y) ys z later.0 (sublist_member xs ys z first.1 among))),
-      inner first.1,
-    )
-    by inner outer (inr rest) = outer rest
+sublist_later R (x ∷ xs) (y ∷ ys) is later = elim is [
+  | inl first ↦ (
+    each_member (R x) xs (λ z among.
+        subst (λ v. R v z) (sym first.0) (below_by_recursion (R y) ys z later.0 (sublist_member xs ys z first.1 among))),
+    sublist_later R xs ys first.1 later.1,
+  )
+  | inr rest ↦ sublist_later R (x ∷ xs) ys rest later.1
+]
 
 -- the relation "is a sublist of" is transitive
 pub sublist_onward : {A : Type 0} (xs ys zs : List A) → IsSublist xs ys → IsSublist ys zs → IsSublist xs zs
 sublist_onward [] ys zs first second = tt
 sublist_onward (x ∷ xs) [] zs first second = absurd first
 sublist_onward (x ∷ xs) (y ∷ ys) [] first second = absurd second
-sublist_onward {A} (x ∷ xs) (y ∷ ys) (z ∷ zs) first second =
-    by (λ inside behind. sublist_onward xs ys zs inside behind) (λ inside behind. sublist_onward (x ∷ xs) ys zs inside behind)
-    (λ behind. sublist_onward (x ∷ xs) (y ∷ ys) zs first behind) first second
-  where
-    by : (IsSublist xs ys → IsSublist ys zs → IsSublist xs zs) → (IsSublist (x ∷ xs) ys → IsSublist ys zs → IsSublist (x ∷ xs) zs)
-        → (IsSublist (y ∷ ys) zs → IsSublist (x ∷ xs) zs) → ((x ≡ y) × IsSublist xs ys) ⊎ IsSublist (x ∷ xs) ys
-        → ((y ≡ z) × IsSublist ys zs) ⊎ IsSublist (y ∷ ys) zs → IsSublist (x ∷ xs) (z ∷ zs)
-    by both_step first_step skip (inl here) (inl there) = inl (here.0 ∙ there.0, both_step here.1 there.1)
-    by both_step first_step skip (inr later) (inl there) = inr (first_step later there.1)
-    by both_step first_step skip here (inr behind) = inr (skip behind)
+sublist_onward (x ∷ xs) (y ∷ ys) (z ∷ zs) first second = elim second [
+  | inl there ↦ elim first [
+    | inl here ↦ inl (here.0 ∙ there.0, sublist_onward xs ys zs here.1 there.1)
+    | inr later ↦ inr (sublist_onward (x ∷ xs) ys zs later there.1)
+  ]
+  | inr behind ↦ inr (sublist_onward (x ∷ xs) (y ∷ ys) zs first behind)
+]
 
 -- the concatenation of two sublists is a sublist of the concatenation of the two lists
 pub sublist_append : {A : Type 0} (us xs vs ys : List A) → IsSublist us xs → IsSublist vs ys → IsSublist (us ++ vs) (xs ++ ys)

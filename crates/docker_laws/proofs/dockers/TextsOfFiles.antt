@@ -1,24 +1,52 @@
 -- Texts that a table determines, and that don't change when its rows lapse. If two states are
 -- summaries of the same files, their texts of this kind are equal. If these files have distinct
 -- moments, the texts are also the texts of the files' plain table.
-use Rattle.std.proofs.Common.{◌≡◌, ℕ, ◌+◌, ◌≤◌, List, sym, subst, rules}
-use Rattle.std.specs.Prelude.{◌↔◌, max}
-use Rattle.std.proofs.Math.Nat.{le-max_left, le-max_right}
-use Rattle.std.proofs.lemmas.Bool.{ltb-true, ltb-false}
-use Rattle.docker_model.specs.records.Date.{IsDay}
-use Rattle.docker_model.specs.state.Lapse.{IsDayRefused, lapse_table}
-use Rattle.docker_model.specs.state.State.{State, IsValid, live_table, lapse_state, HasGoodBodies}
-use Rattle.docker_model.specs.state.Summary.{IsSummary}
-use Rattle.docker_model.specs.state.Table.{Table, IsPlainTable}
-use Rattle.docker_model.specs.run.Knowledge.{AreFiles, HaveSameFiles}
+use Rattle.cif_laws.proofs.Common.{◌≡◌, ℕ, ◌+◌, ◌≤◌, List, sym, subst, rules, length, map, All, inl, inr, ap, ◌∙◌, Some, None, ◌↔◌, max, Option, fold}
+use Rattle.cif_laws.proofs.Common.{le-max_left, le-max_right, max-eq_left, max-eq_right, ltb-true, ltb-false, IsDay, IsDayRefused, lapse_table, State, IsValid}
+use Rattle.cif_laws.proofs.Common.{live_table, lapse_state, HasGoodBodies, IsBodyOf, IsSummary, IsEntryOf, Table, IsPlainTable, empty_table, from_last_full}
+use Rattle.cif_laws.proofs.Common.{AreFiles, HaveSameFiles, IsFile, most_records, Key, Act, delete, put, Body, FileStamp, ledger_item_of, IsFloor, Entry, op_of}
+use Rattle.cif_laws.proofs.Common.{body_of}
 use Rattle.state_laws.proofs.states.Lapse.{max_most}
 use Rattle.state_laws.proofs.states.PlainLive.{lapse_table_none, live_is_lapsed_plain}
 use Rattle.state_laws.proofs.states.SummaryLaws.{summary_unique, lapsed_summary}
 use Rattle.state_laws.proofs.states.SummaryValid.{summary_is_valid}
 use Rattle.state_laws.proofs.states.TableLapsed.{live_lapsed}
 use Rattle.state_laws.proofs.states.GoodBodies.{good_bodies}
-use Rattle.docker_laws.proofs.dockers.PrintedDocker.{plain_bodies}
-use Rattle.docker_laws.proofs.runs.RunEnd.{greater_prints}
+use Rattle.cif_laws.proofs.files.FileChanges.{body_of_file}
+use Rattle.state_laws.proofs.states.PlainTable.{entries_along, step, last_there, after_files_is, entries_ascend, suffix_ascends, out_entries}
+
+-- if neither of two horizons makes the program refuse the dockers of a day, the greater horizon
+-- doesn't make the program refuse them either
+greater_prints : (a b day : ℕ) → ¬ IsDayRefused a day → ¬ IsDayRefused b day → ¬ IsDayRefused (max a b) day
+greater_prints = search (rules, ltb-true, max-eq_right, max-eq_left, ltb-false)
+
+-- ---- the bodies of a plain table are well formed
+
+put_of : (act : Act) (body : Body) → body_of (op_of act) ≡ Some body → act ≡ put body
+put_of delete body none = cc
+put_of (put here) body some = let same : here ≡ body = cc in ap put same
+
+module _ (files : List (List (List ℕ))) (each : All IsFile files) (few : All (λ file. length file ≤ most_records) files) (table : Table)
+    (plain : IsPlainTable files table)
+    (floor : Option FileStamp) (is_floor : IsFloor (map ledger_item_of files) floor) where
+  body_made_good : (key : Key) (entry : Entry) (body : Body) → IsEntryOf files floor key entry → body_of entry.op ≡ Some body → IsBodyOf key body
+  body_made_good = search (rules, put_of, body_of_file)
+
+  -- if each file has at most `most_records` records, the bodies in the plain table of the files are
+  -- well formed
+  pub plain_bodies : HasGoodBodies table
+  plain_bodies key body is =
+      elim (last_there (entries_along (from_last_full plain.ordered)) empty_table key
+      (entries_ascend (from_last_full plain.ordered) (suffix_ascends plain.ordered plain.order.ascending))) [
+        | inl none ↦ let bad : None ≡ Some body = sym none.1 ∙ sym table_is ∙ is in cc
+        | inr last ↦ body_made_good key last.0 body (out_entries files plain.ordered plain.order floor is_floor key last.0 last.1)
+            (sym last.2 ∙ sym table_is ∙ is)
+      ]
+    where
+      table_is : table key ≡ fold step empty_table (entries_along (from_last_full plain.ordered)) key
+      table_is = plain.is key ∙ (λ i. after_files_is empty_table (from_last_full plain.ordered) i key)
+
+-- ---- texts that stay when rows lapse
 
 -- on each day from the third day after a horizon, a table has the same texts before and after its
 -- rows lapse

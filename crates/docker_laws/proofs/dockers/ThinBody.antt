@@ -1,23 +1,15 @@
 -- A body and its thinned form belong to the same key. The thin records of a schedule don't call at
 -- the place.
-use Rattle.std.proofs.Common.{◌≡◌, ℕ, ◌≤◌, List, [], ◌∷◌, ◌++◌, subst, inl, refl, ap, sym, rules}
-use Rattle.std.proofs.Common.{Bool, true, false, cond, Contains, map}
-use Rattle.std.specs.Prelude.{Option, codes, slice_index_or, ◌||◌, ◌&&◌}
-use Rattle.std.specs.Str.{bytes_eq}
-use Rattle.std.specs.List.{AllPass, list_all}
-use Rattle.std.proofs.lemmas.List.Elements.{All-from_recursion}
-use Rattle.std.proofs.lemmas.List.Sums.{AllPass-from_list_all}
-use Rattle.docker_model.specs.records.Record.{basic_schedule, origin_location, terminating_location, HasKind, kind_of, IsRecord, columns}
-use Rattle.docker_model.specs.records.Record.{is_location, is_printable}
-use Rattle.docker_model.specs.records.Field.{HasGoodFields}
-use Rattle.docker_model.specs.file.Journey.{Occasion, arrival, departure, timed, times_by_kind, fall_count, midnights, calls_at}
-use Rattle.docker_model.specs.file.File.{IsSchedule, first_record}
-use Rattle.docker_model.specs.file.Change.{Key, tiploc_key, association_key, schedule_key, ScheduleKey, Body}
-use Rattle.docker_model.specs.file.Change.{tiploc_body, association_body, schedule_body}
-use Rattle.docker_model.specs.state.State.{IsScheduleOf, IsBodyOf}
+use Rattle.cif_laws.proofs.Common.{◌≡◌, ℕ, ◌≤◌, List, [], ◌∷◌, ◌++◌, subst, inl, refl, ap, sym, ◌∙◌, rules, Some, None, Bool, true, false, cond, Contains, map}
+use Rattle.cif_laws.proofs.Common.{Option, option_and_then, codes, slice_index_or, ◌||◌, ◌&&◌, bytes_eq, AllPass, list_all, All-from_recursion}
+use Rattle.cif_laws.proofs.Common.{AllPass-from_list_all, basic_schedule, origin_location, terminating_location, HasKind, kind_of, IsRecord, columns}
+use Rattle.cif_laws.proofs.Common.{is_location, is_printable, HasGoodFields, Occasion, arrival, departure, timed, times_by_kind, fall_count, midnights}
+use Rattle.cif_laws.proofs.Common.{calls_at, IsSchedule, first_record, Key, tiploc_key, association_key, schedule_key, ScheduleKey, Body, tiploc_body}
+use Rattle.cif_laws.proofs.Common.{association_body, schedule_body, IsScheduleOf, IsBodyOf}
 use Rattle.docker_laws.specs.NearDay.{may_reach}
 use Rattle.docker_laws.specs.Thinning.{ends_at, ends_elsewhere, thin_lines, lines_for, body_for}
 use Rattle.cif_laws.proofs.lists.Membership.{cons-Contains-first, member_of}
+use Rattle.cif_laws.proofs.lists.BoolsAndOptions.{none_some}
 
 -- ---- the made-up origin and terminus
 
@@ -126,11 +118,29 @@ needed_of_key place day key lines is = by (calls_at place lines && may_reach day
 -- key
 pub needed_is_body : (place : List ℕ) (day : ℕ) (key : Key) (body : Body) → IsBodyOf key body → IsBodyOf key (body_for place day body)
 needed_is_body place day (schedule_key key) (schedule_body lines) is = needed_of_key place day key lines is
-needed_is_body place day (schedule_key key) (tiploc_body bytes) is = is
-needed_is_body place day (schedule_key key) (association_body line) is = is
-needed_is_body place day (tiploc_key code) (tiploc_body bytes) is = is
-needed_is_body place day (tiploc_key code) (association_body line) is = is
 needed_is_body place day (tiploc_key code) (schedule_body lines) is = absurd is
-needed_is_body place day (association_key key) (tiploc_body bytes) is = is
-needed_is_body place day (association_key key) (association_body line) is = is
 needed_is_body place day (association_key key) (schedule_body lines) is = absurd is
+needed_is_body place day key (tiploc_body bytes) is = is
+needed_is_body place day key (association_body line) is = is
+
+-- ---- at a key that isn't a schedule's, a table keeps its body
+
+-- suppose that a function on bodies changes only schedules
+module _ (change : Body → Option Body) (of_tiploc : (bytes : List ℕ) → change (tiploc_body bytes) ≡ Some (tiploc_body bytes))
+    (of_association : (line : List ℕ) → change (association_body line) ≡ Some (association_body line)) where
+  -- the function doesn't change a body whose key isn't a schedule's
+  pub body_stays : (key : Key) → ((lines : List (List ℕ)) → ¬ IsBodyOf key (schedule_body lines)) → (found : Option Body)
+      → ((body : Body) → found ≡ Some body → IsBodyOf key body) → option_and_then change found ≡ found
+  body_stays key apart None is = refl
+  body_stays key apart (Some (tiploc_body bytes)) is = of_tiploc bytes
+  body_stays key apart (Some (association_body line)) is = of_association line
+  body_stays key apart (Some (schedule_body lines)) is = absurd (apart lines (is (schedule_body lines) refl))
+
+  -- if the function leaves a schedule, the body was a schedule before
+  pub was_schedule : (found : Option Body) (lines : List (List ℕ)) → option_and_then change found ≡ Some (schedule_body lines)
+      → (whole : List (List ℕ)) × (found ≡ Some (schedule_body whole)) × (change (schedule_body whole) ≡ Some (schedule_body lines))
+  was_schedule None lines is = none_some (schedule_body lines) is
+  was_schedule (Some (schedule_body whole)) lines is = (whole, refl, is)
+  was_schedule (Some (tiploc_body bytes)) lines is = absurd (let bad : Some (tiploc_body bytes) ≡ Some (schedule_body lines) = sym (of_tiploc bytes) ∙ is in cc)
+  was_schedule (Some (association_body line)) lines is =
+      absurd (let bad : Some (association_body line) ≡ Some (schedule_body lines) = sym (of_association line) ∙ is in cc)

@@ -1,22 +1,13 @@
 -- Applying the changes that are kept for a place and a day gives the same table as applying all
 -- changes and then thinning the table.
-use Rattle.std.proofs.Common.{arith, append-nil, append_assoc, ◌≡◌, ℕ, List, [], ◌∷◌, ◌++◌, subst, rules}
-use Rattle.std.proofs.lemmas.Grind.{common_steps}
-use Rattle.std.proofs.Common.{refl, ap, sym, ◌∙◌, Bool, true, false, cond, None, map}
-use Rattle.std.specs.Prelude.{Option, option_and_then, filter, fold, not}
-use Rattle.std.specs.Ordering.{is_eq}
-use Rattle.std.specs.Cmp.{tied_itself}
-use Rattle.docker_model.specs.state.Order.{IsBelow, IsAtMost}
-use Rattle.docker_model.specs.file.File.{first_record}
-use Rattle.docker_model.specs.file.Change.{schedule_body, Key, Body, Act, delete, put, Change}
-use Rattle.docker_model.specs.state.Op.{key_cmp, op_of, body_of}
-use Rattle.docker_model.specs.state.Table.{Table, empty_table, after_change}
+use Rattle.cif_laws.proofs.Common.{arith, append-nil, append_assoc, ◌≡◌, ℕ, List, [], ◌∷◌, ◌++◌, subst, rules, common_steps, refl, ap, sym, ◌∙◌, Bool, true}
+use Rattle.cif_laws.proofs.Common.{false, cond, None, map, Option, option_and_then, filter, fold, not, is_eq, tied_itself, IsBelow, IsAtMost, first_record}
+use Rattle.cif_laws.proofs.Common.{schedule_body, Key, Body, Act, delete, put, Change, key_cmp, op_of, body_of, Table, empty_table, after_change, as_new}
+use Rattle.cif_laws.proofs.Common.{map-append}
 use Rattle.docker_laws.specs.NearDay.{runs_near}
-use Rattle.docker_model.specs.records.Field.{as_new}
 use Rattle.cif_laws.proofs.records.Columns.{new_columns}
 use Rattle.docker_laws.specs.Thinning.{IsThinning, lines_for, may_matter, thin_body, thinned, thin_act}
 use Rattle.docker_laws.specs.Thinning.{thin_change, thin_changes, table_of, AreEnough, HasNoChangeOf, AreAtMost, without}
-use Rattle.std.proofs.lemmas.List.{map-append}
 use Rattle.docker_laws.specs.Excerpt.{IsSublist}
 use Rattle.docker_laws.proofs.dockers.Sublists.{sublist_itself, sublist_filter, sublist_onward, sublist_append, sublist_front}
 use Rattle.cif_laws.proofs.orders.Orders.{same_key, key_total}
@@ -112,32 +103,43 @@ table_more = grind (common_steps, arith)
 -- changes to other keys leave the body at a key unchanged
 pub untouched : (changes : List Change) (table : Table) (key : Key) → HasNoChangeOf key changes → fold after_change table changes key ≡ table key
 untouched [] table key none = refl
-untouched (change ∷ changes) table key none =
-    (elim (is_of key change) as (λ b. is_of key change ≡ b → fold after_change (after_change table change) changes key ≡ after_change table change key → fold
-    after_change (after_change table change) changes key ≡ table key) [
-      | true ↦ λ h rest. absurd (none change (cons-Contains-first change changes) (same_key change.key key h))
-      | false ↦ λ h rest. rest ∙ after_there table change key h
-    ]) refl (untouched changes (after_change table change) key (λ other among. none other (cons-Contains change changes other among)))
+untouched (change ∷ changes) table key none = grind (
+  arith,
+  same_key,
+  after_there,
+  (none change (cons-Contains-first change changes)),
+  (untouched changes (after_change table change) key (λ other among. none other (cons-Contains change changes other among))),
+)
 
 -- if all changes to a key are left out, the body at this key is unchanged
 without_here : (key : Key) (changes : List Change) (table : Table) → fold after_change table (without key changes) key ≡ table key
 without_here key [] table = refl
 without_here key (change ∷ changes) table = grind (arith, after_there, (without_here key changes))
 
+-- if all changes to a key pass a test, leaving out the changes that fail it leaves the body at this
+-- key unchanged
+pub filtered_there : (test : Change → Bool) (key : Key) → ((change : Change) → is_of key change ≡ true → test change ≡ true) → (changes : List Change)
+    (one two : Table) → one key ≡ two key → fold after_change one (filter test changes) key ≡ fold after_change two changes key
+filtered_there test key passes [] one two same = same
+filtered_there test key passes (change ∷ changes) one two same = by (test change) (is_of key change) refl refl (filtered_there test key passes changes)
+  where
+    by : (b c : Bool) → test change ≡ b → is_of key change ≡ c
+        → ((first second : Table) → first key ≡ second key → fold after_change first (filter test changes) key ≡ fold after_change second changes key)
+        → fold after_change one (cond b (change ∷ filter test changes) (filter test changes)) key ≡ fold after_change (after_change two change) changes key
+    by true c h g rest = rest (after_change one change) (after_change two change) (λ i. cond (is_of key change) (left_by change.act) (same i))
+    by false true h g rest = absurd (let bad : false ≡ true = sym h ∙ passes change g in cc)
+    by false false h g rest = rest one (after_change two change) (same ∙ sym (after_there two change key g))
+
 -- leaving out the changes to one key leaves the bodies at all other keys unchanged
 without_there : (key other : Key) → is_eq (key_cmp key other) ≡ false → (changes : List Change) (one two : Table) → one other ≡ two other
     → fold after_change one (without key changes) other ≡ fold after_change two changes other
-without_there key other apart [] one two same = same
-without_there key other apart (change ∷ changes) one two same = by (is_of key change) refl (without_there key other apart changes)
+without_there key other apart = filtered_there (λ (change : Change). not (is_of key change)) other (λ change h. passes change h (is_of key change) refl)
   where
-    by : (b : Bool) → is_of key change ≡ b
-        → ((first second : Table) → first other ≡ second other → fold after_change first (without key changes) other ≡ fold after_change second changes other)
-        → fold after_change one (cond (not (is_of key change)) (change ∷ without key changes) (without key changes)) other
-        ≡ fold after_change (after_change two change) changes other
-    by true h rest =
-        let elsewhere : is_of other change ≡ false = subst (λ (k : Key). is_eq (key_cmp k other) ≡ false) (sym (same_key change.key key h)) apart in
-        search (rules, after_there)
-    by false h rest = search (rules, is_of, left_by)
+    passes : (change : Change) → is_of other change ≡ true → (b : Bool) → is_of key change ≡ b → not b ≡ true
+    passes change h true g =
+        let bad : true ≡ false = sym h ∙ ap (λ (k : Key). is_eq (key_cmp k other)) (same_key change.key key g) ∙ apart in
+        absurd (let worse : true ≡ false = bad in cc)
+    passes change h false g = refl
 
 module _ (place : List ℕ) (day : ℕ) where
   enough_at_first : AreEnough place day [] []
@@ -161,46 +163,42 @@ module _ (place : List ℕ) (day : ℕ) where
         → thinned place day (after_change (table_of changes) change) key ≡ thinned place day (table_of changes) key
     same_elsewhere key h = left_at place day (after_change (table_of changes) change) (table_of changes) key (after_there (table_of changes) change key h)
 
+    -- other changes may be kept if they leave, at the key of the change, the body of the thinned
+    -- table, and elsewhere the same bodies as the kept changes
+    enough_by : (others : List Change)
+        → ((key : Key) → is_of key change ≡ true → table_of others key ≡ thinned place day (after_change (table_of changes) change) key)
+        → ((key : Key) → is_of key change ≡ false → table_of others key ≡ table_of kept key) → AreEnough place day (changes ++ change ∷ []) others
+    enough_by others here there key = by (is_of key change) refl ∙ sym (all_more key)
+      where
+        by : (b : Bool) → is_of key change ≡ b → table_of others key ≡ thinned place day (after_change (table_of changes) change) key
+        by true h = here key h
+        by false h = there key h ∙ so_far key ∙ sym (same_elsewhere key h)
+
     -- a change whose thin form is a deletion may be dropped if no change to the same key is kept
     enough_dropped : thin_act place day change.act ≡ delete → HasNoChangeOf change.key kept → AreEnough place day (changes ++ change ∷ []) kept
-    enough_dropped deletes none key = by (is_of key change) refl
-      where
-        by : (b : Bool) → is_of key change ≡ b → table_of kept key ≡ thinned place day (table_of (changes ++ change ∷ [])) key
-        by true h =
-            let of_key : HasNoChangeOf key kept = subst (λ (k : Key). HasNoChangeOf k kept) (same_key change.key key h) none in
-            untouched kept empty_table key of_key ∙ sym (none_left deletes key h) ∙ sym (all_more key)
-        by false h = so_far key ∙ sym (same_elsewhere key h) ∙ sym (all_more key)
+    enough_dropped deletes none = enough_by kept
+        (λ key h. untouched kept empty_table key (subst (λ (k : Key). HasNoChangeOf k kept) (same_key change.key key h) none) ∙ sym (none_left deletes key h))
+        (λ key h. refl)
 
     -- after a change whose thin form is a deletion, the kept changes to the same key may be removed
     enough_removed : thin_act place day change.act ≡ delete → AreEnough place day (changes ++ change ∷ []) (without change.key kept)
-    enough_removed deletes key = by (is_of key change) refl
-      where
-        by : (b : Bool) → is_of key change ≡ b → table_of (without change.key kept) key ≡ thinned place day (table_of (changes ++ change ∷ [])) key
-        by true h = (λ i. table_of (without (same_key _ key h i) kept) key)
-            ∙ without_here _ kept _
-            ∙ sym (none_left deletes key h)
-            ∙ sym (all_more _)
-        by false h = without_there change.key _ h kept _ empty_table refl ∙ so_far key ∙ sym (same_elsewhere _ h) ∙ sym (all_more key)
+    enough_removed deletes = enough_by (without change.key kept)
+        (λ key h. (λ i. table_of (without (same_key change.key key h i) kept) key) ∙ without_here key kept empty_table ∙ sym (none_left deletes key h))
+        (λ key h. without_there change.key key h kept empty_table empty_table refl)
 
     -- if the thin form of a change is kept, the earlier kept changes to the same key may be removed
     enough_replaced : may_matter place change.key ≡ true
         → AreEnough place day (changes ++ change ∷ []) (without change.key kept ++ thin_change place day change ∷ [])
-    enough_replaced matters key =
-        (λ i. table_more empty_table (without change.key kept) (thin_change place day change) i key)
-        ∙ ((elim (is_of key change) as (λ b. is_of key change ≡ b → goal) [
-          | true ↦ λ h. after_here (table_of (without change.key kept)) (thin_change place day change) key h
-              ∙ sym (after_here (table_of kept) (thin_change place day change) key h)
-              ∙ step_kept place day (table_of changes) (table_of kept) change key matters (so_far key)
-              ∙ sym (all_more key)
-          | false ↦ λ h. after_there (table_of (without change.key kept)) (thin_change place day change) key h
-              ∙ without_there change.key key h kept empty_table empty_table refl
-              ∙ so_far key
-              ∙ sym (same_elsewhere key h)
-              ∙ sym (all_more key)
-        ]) refl)
+    enough_replaced matters = enough_by (without change.key kept ++ thin_change place day change ∷ [])
+        (λ key h. more key ∙ after_here (table_of (without change.key kept)) (thin_change place day change) key h
+        ∙ sym (after_here (table_of kept) (thin_change place day change) key h)
+        ∙ step_kept place day (table_of changes) (table_of kept) change key matters (so_far key))
+        (λ key h. more key ∙ after_there (table_of (without change.key kept)) (thin_change place day change) key h
+        ∙ without_there change.key key h kept empty_table empty_table refl)
       where
-        goal : Type 0
-        goal = after_change (table_of (without change.key kept)) (thin_change place day change) key ≡ thinned place day (table_of (changes ++ change ∷ [])) key
+        more : (key : Key) → table_of (without change.key kept ++ thin_change place day change ∷ []) key
+            ≡ after_change (table_of (without change.key kept)) (thin_change place day change) key
+        more key = λ i. table_more empty_table (without change.key kept) (thin_change place day change) i key
 
 -- ---- which thin changes may be kept
 
@@ -262,24 +260,14 @@ module _ (place : List ℕ) (day : ℕ) where
 pub thinning_more : (place : List ℕ) (day : ℕ) (all kept more : List Change) → IsThinning place day all kept
     → IsThinning place day (all ++ more) (kept ++ thin_changes place day more)
 thinning_more place day all kept [] is = search (rules, append-nil)
-thinning_more place day all kept (change ∷ more) is =
-    subst (λ (changes : List Change). IsThinning place day changes (kept ++ thin_changes place day (change ∷ more))) (append_assoc all (change ∷ []) more)
-    ((elim (may_matter place change.key) as (λ b. may_matter place change.key ≡ b →
-    ((others : List Change) → IsThinning place day (all ++ change ∷ []) others → IsThinning place day (all ++ change ∷ [] ++ more)
-    (others ++ thin_changes place day more)) → Goal (may_matter place change.key)) [
-      | true ↦ λ h onward. subst Goal (sym h)
-          (subst (IsThinning place day (all ++ change ∷ [] ++ more)) (append_assoc kept (thin_change place day change ∷ []) (thin_changes place day more))
-          (onward (kept ++ thin_change place day change ∷ []) (thinning_kept place day all kept change is h)))
-      | false ↦ λ h onward. subst Goal (sym h) (onward kept (thinning_elsewhere place day all kept change is h))
-    ]) refl (λ others so_far. thinning_more place day (all ++ change ∷ []) others more so_far))
-  where
-    rest : List Change
-    rest = filter (λ (c : Change). may_matter place c.key) more
-
-    -- the claim of `thinning_more` for a change that is kept if the test is true, and dropped
-    -- otherwise
-    Goal : Bool → Type 0
-    Goal test = IsThinning place day (all ++ change ∷ [] ++ more) (kept ++ map (thin_change place day) (cond test (change ∷ rest) rest))
+thinning_more place day all kept (change ∷ more) is = grind (
+  arith,
+  append_assoc,
+  (thinning_kept place day all kept change is),
+  (thinning_elsewhere place day all kept change is),
+  (thinning_more place day (all ++ change ∷ []) kept more),
+  (thinning_more place day (all ++ change ∷ []) (kept ++ thin_change place day change ∷ []) more),
+)
 
 -- ---- the thin form of an act in each case
 

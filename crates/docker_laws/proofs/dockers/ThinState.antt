@@ -1,25 +1,15 @@
 -- A state that is made from the kept changes of a file is valid. For the place and the day, it has
 -- the same docker as the summary of the file.
-use Rattle.std.proofs.Common.{◌≡◌, ℕ, ◌-◌, ◌^◌, ◌<◌, ◌≤◌, List, [], ◌∷◌, length, map, subst, inl, inr, ◌⊎◌, rules}
-use Rattle.std.proofs.Common.{refl, ap, sym, ◌∙◌, Some, None, Contains, All, arith}
-use Rattle.std.specs.Prelude.{◌↔◌, fold}
-use Rattle.std.specs.Cmp.{tied_itself}
-use Rattle.docker_model.specs.records.Date.{IsDay}
-use Rattle.docker_model.specs.file.File.{IsFile, most_records}
-use Rattle.docker_model.specs.file.Change.{Key, Act, Change, changes}
-use Rattle.docker_model.specs.state.Order.{IsBelow, IsAtMost}
-use Rattle.docker_model.specs.state.Stamp.{LedgerItem, file_stamp_of, stamp_cmp, file_stamp_cmp, IsKept}
-use Rattle.docker_model.specs.state.Op.{Op, Entry, entry_cmp, body_of, op_of}
-use Rattle.docker_model.specs.state.Table.{Table, empty_table, after_file, IsPlainTable}
-use Rattle.docker_model.specs.state.Lapse.{HasNotToLapse}
-use Rattle.docker_model.specs.state.State.{State, IsValid, IsLedger, IsGoodItem, IsGoodKey, HasGoodBodies, IsGoodEntry, IsOpOf, live_table}
-use Rattle.docker_model.specs.state.Summary.{IsSummary}
-use Rattle.docker_model.specs.docker.DockerLine.{DockerLine}
-use Rattle.docker_model.specs.docker.DockerList.{IsDockerList}
-use Rattle.docker_model.specs.docker.DockerText.{IsDockerText}
+use Rattle.cif_laws.proofs.Common.{◌≡◌, ℕ, ◌-◌, ◌^◌, ◌<◌, ◌≤◌, List, [], ◌∷◌, length, map, subst, inl, inr, ◌⊎◌, rules, refl, ap, sym, ◌∙◌, Some, Contains, All}
+use Rattle.cif_laws.proofs.Common.{arith, fold, Option, Bool, true, false, ◌==◌, eqb-true, eq-eqb, All-from_recursion, IsDay, IsFile, most_records, Key, Act}
+use Rattle.cif_laws.proofs.Common.{Change, changes, IsBelow, IsAtMost, LedgerItem, FileStamp, IsFloor, file_stamp_of, stamp_cmp, IsKept, Op, Entry, entry_cmp}
+use Rattle.cif_laws.proofs.Common.{body_of, op_of, Table, empty_table, IsPlainTable, HasNotToLapse, State, IsValid, IsLedger, IsGoodItem, IsGoodKey}
+use Rattle.cif_laws.proofs.Common.{HasGoodBodies, IsGoodEntry, IsOpOf, live_table, IsSummary}
+use Rattle.cif_laws.proofs.orders.AtMost.{at_most_itself}
+use Rattle.docker_model.specs.state.Table.{after_file}
 use Rattle.docker_laws.specs.Thinning.{thinned, thin_act, thin_change, table_of, IsThinning, IsStateOfChanges}
 use Rattle.cif_laws.proofs.orders.Orders.{entry_total, file_stamp_total}
-use Rattle.cif_laws.proofs.lists.Membership.{Contains-single, single-Contains, Contains-map, all_members}
+use Rattle.cif_laws.proofs.lists.Membership.{single-Contains, Contains-map, all_members}
 use Rattle.cif_laws.proofs.lists.Later.{AllLater, later_map, later_map_weaker}
 use Rattle.docker_laws.proofs.dockers.Sublists.{sublist_member, sublist_later}
 use Rattle.cif_laws.proofs.files.ChangeOrder.{Apart, changes_apart}
@@ -31,7 +21,8 @@ use Rattle.state_laws.proofs.states.LapsedPlainTable.{live_is_plain}
 use Rattle.state_laws.proofs.states.SummaryValid.{item_good, summary_is_valid}
 use Rattle.state_laws.proofs.states.GoodBodies.{good_bodies}
 use Rattle.docker_laws.proofs.dockers.ThinBody.{needed_is_body}
-use Rattle.docker_laws.proofs.dockers.ThinDocker.{thin_list_iff, thin_text_iff}
+use Rattle.docker_laws.proofs.dockers.ThinDocker.{thin_docker}
+use Rattle.docker_laws.proofs.dockers.SameDocker.{HaveOneDocker}
 
 -- ---- the live table of the state equals the table after the kept changes
 
@@ -94,36 +85,37 @@ thin_op = grind (arith, needed_is_body)
 
 -- ---- the state made from the kept changes is valid
 
+-- a list of one element has a property if the element has it
+pub all_of_one : {A : Type 0} (P : A → Type 0) (x : A) → P x → All P (x ∷ [])
+all_of_one P x here = All-from_recursion P (x ∷ []) (here, tt)
+
+-- a ledger that has only one item has a floor, and the item's stamp isn't below it
+pub floor_of : (item : LedgerItem) (b : Bool) → (item.indicator == 70) ≡ b
+    → (floor : Option FileStamp) × IsFloor (item ∷ []) floor × IsKept floor item.stamp
+floor_of item true h = (
+  Some item.stamp,
+  record {
+    full = item;
+    among = single-Contains item item refl;
+    is_full = eqb-true item.indicator 70 h;
+    stamped = refl;
+    greatest = search (rules, at_most_itself, file_stamp_total);
+  },
+  at_most_itself file_stamp_total item.stamp,
+)
+floor_of item false h = search (rules, eq-eqb)
+
 -- a ledger that has only one item is well formed if this item is well formed
 ledger_of_one : (item : LedgerItem) → IsGoodItem item → IsLedger (item ∷ [])
-ledger_of_one item good = elim good.indicator [
-  | inl full ↦ record {
-    each = all_members _ (item ∷ []) (is_item IsGoodItem good);
-    ascending = (tt, tt);
-    floor = Some item.stamp;
-    is_floor = record {
-      full = item;
-      among = single-Contains _ item refl;
-      is_full = full;
-      stamped = refl;
-      greatest = λ other among is_full. is_item (λ (i : LedgerItem). IsAtMost file_stamp_cmp i.stamp item.stamp) itself other among;
-    };
-    kept = all_members _ (item ∷ []) (is_item (λ (i : LedgerItem). IsKept (Some item.stamp) i.stamp) itself);
-  }
-  | inr update ↦ record {
-    each = all_members _ (item ∷ []) (is_item IsGoodItem good);
-    ascending = (tt, tt);
-    floor = None;
-    is_floor = search rules;
-    kept = all_members _ (item ∷ []) (is_item (λ (i : LedgerItem). IsKept None i.stamp) tt);
-  }
-]
-  where
-    itself : IsAtMost file_stamp_cmp item.stamp item.stamp
-    itself greater = let tied = tied_itself file_stamp_total item.stamp in cc
-
-    is_item : (P : LedgerItem → Type 0) → P item → (other : LedgerItem) → Contains (item ∷ []) other → P other
-    is_item P here other among = subst P (Contains-single _ other among) here
+ledger_of_one item good =
+    let floor = floor_of item (item.indicator == 70) refl in
+    record {
+      each = all_of_one IsGoodItem item good;
+      ascending = (tt, tt);
+      floor = floor.0;
+      is_floor = floor.1;
+      kept = all_of_one (λ (i : LedgerItem). IsKept floor.0 i.stamp) item floor.2;
+    }
 
 -- if the horizon is 0, no entry has to lapse, whatever its op is
 pub no_lapse : (op : Op) → HasNotToLapse 0 op
@@ -171,10 +163,7 @@ module _ (place : List ℕ) (day : ℕ) (file : List (List ℕ)) (is_file : IsFi
 pub summary_good : (file : List (List ℕ)) → IsFile file → length file ≤ most_records → (whole : State) → IsSummary (file ∷ []) 0 whole
     → HasGoodBodies (live_table whole)
 summary_good file is_file few whole summary = good_bodies _
-    (summary_is_valid (file ∷ []) _ whole (omega arith) (all_of_one IsFile is_file) (all_of_one (λ f. length f ≤ most_records) few) summary)
-  where
-    all_of_one : (P : List (List ℕ) → Type 0) → P file → All P (file ∷ [])
-    all_of_one P here = all_members _ (file ∷ []) (λ other among. subst P (Contains-single _ other among) here)
+    (summary_is_valid (file ∷ []) _ whole (omega arith) (all_of_one IsFile file is_file) (all_of_one (λ f. length f ≤ most_records) file few) summary)
 
 module _ (place : List ℕ) (day : ℕ) (file : List (List ℕ)) (is_file : IsFile file) (few : length file ≤ most_records) (kept : List Change)
     (is : IsThinning place day (changes file) kept) (state : State) (of : IsStateOfChanges file kept state) where
@@ -194,12 +183,7 @@ module _ (place : List ℕ) (day : ℕ) (file : List (List ℕ)) (is_file : IsFi
         same : (key : Key) → thinned place day (live_table whole) key ≡ live_table state key
         same key = search (rules, live_of_summary, thin_live)
 
-    -- the state made from the kept changes has the same docker list as the summary of the file
-    pub thin_state_list : (lines : List DockerLine) → IsDockerList (live_table whole) place day lines ↔ IsDockerList (live_table state) place day lines
-    thin_state_list lines = subst (λ (table : Table). IsDockerList (live_table whole) place day lines ↔ IsDockerList table place day lines) same_live
-        (thin_list_iff place _ (live_table whole) whole_good lines)
-
-    -- the state made from the kept changes has the same docker text as the summary of the file
-    pub thin_state_text : (text : List ℕ) → IsDockerText (live_table whole) place day text ↔ IsDockerText (live_table state) place day text
-    thin_state_text text = subst (λ (table : Table). IsDockerText (live_table whole) place day text ↔ IsDockerText table place day text) same_live
-        (thin_text_iff place _ (live_table whole) whole_good text)
+    -- the state made from the kept changes has the same docker as the summary of the file
+    pub thin_state_docker : HaveOneDocker (live_table whole) (live_table state) place day
+    thin_state_docker = subst (λ (table : Table). HaveOneDocker (live_table whole) table place day) same_live
+        (thin_docker place day (live_table whole) whole_good)

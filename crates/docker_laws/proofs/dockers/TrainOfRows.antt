@@ -1,13 +1,7 @@
 -- The rows of a live table determine its chosen schedules and its trains.
-use Rattle.std.proofs.Common.{◌≡◌, ℕ, List, refl, ap, sym, ◌∙◌, Some, None, Bool, true, false, cond, Contains, eqb-true, rules}
-use Rattle.std.specs.Prelude.{Option, ◌&&◌, ◌==◌}
-use Rattle.std.specs.Ordering.{on}
-use Rattle.std.specs.Cmp.{IsTotalOrder, on_total}
-use Rattle.std.proofs.lemmas.Slice.Eq.{bytes_eq-Decides}
-use Rattle.docker_model.specs.file.Change.{Key, schedule_key, Body, schedule_body}
-use Rattle.docker_model.specs.state.Table.{Table}
-use Rattle.docker_model.specs.state.Row.{Row, AreRowsOf}
-use Rattle.docker_model.specs.docker.Choice.{schedule_choice_cmp, IsRunning, IsChosen, Train, IsChosenOn}
+use Rattle.cif_laws.proofs.Common.{◌≡◌, ℕ, List, refl, ap, sym, ◌∙◌, Some, None, Bool, true, false, cond, Contains, eqb-true, rules, Option, ◌&&◌, ◌==◌, on}
+use Rattle.cif_laws.proofs.Common.{IsTotalOrder, on_total, bytes_eq-Decides, Key, schedule_key, Body, schedule_body, Table, Row, AreRowsOf, schedule_choice_cmp}
+use Rattle.cif_laws.proofs.Common.{IsRunning, IsChosen, Train, IsChosenOn}
 use Rattle.docker_laws.specs.LiveRows.{HasSchedulesOf, schedule_of, schedules_in, is_running, chosen_in, unless_cancelled, train_in, IsTrainOn, TellsTrains}
 use Rattle.docker_laws.specs.ChoiceWalk.{IsChosenSoFar}
 use Rattle.cif_laws.proofs.lists.BoolsAndOptions.{both, none_some}

@@ -1,19 +1,14 @@
 -- Each line of a detailed docker has the width of its docker line in front, and no line feed. So the
 -- first 56 columns of the lines are the docker.
-use Rattle.std.proofs.Common.{◌≡◌, ℕ, ◌≤◌, List, [], ◌∷◌, ◌++◌, Contains, refl, ap, sym, ◌∙◌, subst, inl, inr, true, false, true≢false, Some}
-use Rattle.std.proofs.Common.{None, append-nil, arith, rules}
-use Rattle.std.specs.Prelude.{Option, codes, find, filter, take, unwrap_or}
+use Rattle.cif_laws.proofs.Common.{◌≡◌, ℕ, ◌≤◌, List, [], ◌∷◌, ◌++◌, Contains, refl, ap, sym, ◌∙◌, subst, inl, inr, true, false, true≢false, Some, None}
+use Rattle.cif_laws.proofs.Common.{append-nil, arith, rules, Option, codes, find, filter, take, All-contains, All-from_recursion, Contains-append_right}
+use Rattle.cif_laws.proofs.Common.{columns, column, kind_of, is_printable, IsRecord, origin_location, terminating_location, IsJourney, first_record, Key}
+use Rattle.cif_laws.proofs.Common.{tiploc_key, association_key, schedule_key, ScheduleKey, association_body, schedule_body, HasGoodBodies, IsScheduleOf}
+use Rattle.cif_laws.proofs.Common.{IsAssociationOf, Table, Event, events_of, event_line, event_identity, changed_identity, has_identity, DockerLine}
+use Rattle.cif_laws.proofs.Common.{line_of_event, tiploc_of_first, IsIdentityOn, IsPartnerIdentity, partner_start}
+use Rattle.std.specs.Prelude.{unwrap_or}
 use Rattle.std.specs.List.{last_or}
-use Rattle.std.proofs.lemmas.List.Elements.{All-contains, All-from_recursion, All-take, Contains-append_right}
-use Rattle.docker_model.specs.records.Record.{columns, column, kind_of, is_printable, IsRecord}
-use Rattle.docker_model.specs.records.Record.{origin_location, terminating_location}
-use Rattle.docker_model.specs.file.File.{IsJourney, first_record}
-use Rattle.docker_model.specs.file.Change.{Key, tiploc_key, association_key, schedule_key, ScheduleKey, association_body, schedule_body}
-use Rattle.docker_model.specs.state.State.{HasGoodBodies, IsScheduleOf, IsAssociationOf}
-use Rattle.docker_model.specs.state.Table.{Table}
-use Rattle.docker_model.specs.docker.Event.{Event, events_of, event_line, event_identity, changed_identity, has_identity}
-use Rattle.docker_model.specs.docker.DockerLine.{DockerLine, line_of_event, tiploc_of_first}
-use Rattle.docker_model.specs.docker.Association.{IsIdentityOn, IsPartnerIdentity, partner_start}
+use Rattle.std.proofs.lemmas.List.Elements.{All-take}
 use Rattle.cif_laws.proofs.lists.Membership.{cons-Contains, cons-Contains-first}
 use Rattle.cif_laws.proofs.lists.FilteredMembers.{filter_back, find_some, find_none}
 use Rattle.cif_laws.proofs.lists.BoolsAndOptions.{none_some}

@@ -1,18 +1,13 @@
 -- The widths of the printed parts of a docker. Each byte of a part is at least 32, so no part has a
 -- line feed.
-use Rattle.std.proofs.Common.{◌≡◌, ℕ, zero, suc, ◌+◌, ◌-◌, ◌/◌, ◌%◌, ◌<◌, ◌≤◌, List, [], ◌∷◌, ◌++◌, length, All, refl, Bool, true}
-use Rattle.std.proofs.lemmas.Grind.{common_steps}
-use Rattle.std.proofs.Common.{cond, Some, None, arith, length-append, rules}
-use Rattle.std.specs.Prelude.{Option, codes, nat_le, ◌==◌}
-use Rattle.std.proofs.lemmas.Bool.{leb-true}
-use Rattle.std.proofs.lemmas.List.Elements.{All-nil, All-weaker, All-from_recursion}
-use Rattle.docker_model.specs.records.Record.{Kind, columns, column, IsRecord, IsTextOfLength, is_printable}
-use Rattle.docker_model.specs.records.Record.{header, tiploc_insert, tiploc_amend, tiploc_delete, association, basic_schedule, extra_details}
-use Rattle.docker_model.specs.records.Record.{origin_location, intermediate_location, terminating_location, change_en_route, trailer}
-use Rattle.docker_model.specs.records.PrintedTime.{spaces, two_digit_text, time_text, day_text, date_text, shown_public}
-use Rattle.docker_model.specs.file.Journey.{Occasion, arrival, pass, joining, dividing, next_working, departure}
-use Rattle.docker_model.specs.docker.DockerLine.{DockerLine, platform_by_kind, track_by_kind, path_by_kind, public_by_kind}
-use Rattle.docker_model.specs.docker.DockerText.{line_text, occasion_text, detail_text}
+use Rattle.cif_laws.proofs.Common.{◌≡◌, ℕ, zero, suc, ◌+◌, ◌-◌, ◌/◌, ◌%◌, ◌<◌, ◌≤◌, List, [], ◌∷◌, ◌++◌, length, All, refl, Bool, true, common_steps, cond}
+use Rattle.cif_laws.proofs.Common.{Some, arith, length-append, rules, Option, codes, nat_le, ◌==◌, leb-true, All-nil, All-from_recursion, Kind, columns, column}
+use Rattle.cif_laws.proofs.Common.{IsRecord, IsTextOfLength, is_printable, origin_location, intermediate_location, terminating_location, spaces, day_text}
+use Rattle.cif_laws.proofs.Common.{date_text, Occasion, arrival, departure, DockerLine, line_text}
+use Rattle.std.proofs.lemmas.List.Elements.{All-weaker}
+use Rattle.docker_model.specs.records.PrintedTime.{two_digit_text, time_text, shown_public}
+use Rattle.docker_model.specs.docker.DockerLine.{platform_by_kind, track_by_kind, path_by_kind, public_by_kind}
+use Rattle.docker_model.specs.docker.DockerText.{occasion_text, detail_text}
 use Rattle.cif_laws.proofs.lists.BoolsAndOptions.{both}
 use Rattle.cif_laws.proofs.records.Columns.{text_in, printable_column}
 
@@ -109,129 +104,25 @@ wide_shown = search (rules, wide_spaces)
 
 -- the platform at a record
 pub wide_platform : (kind : Option Kind) (line : List ℕ) → IsRecord line → IsWide 3 (platform_by_kind kind line)
-wide_platform None line is = wide_columns line 20 22 is (omega arith) (omega arith)
-wide_platform (Some header) line is = wide_columns line 20 22 is (omega arith) (omega arith)
-wide_platform (Some tiploc_insert) line is = wide_columns line 20 22 is (omega arith) (omega arith)
-wide_platform (Some tiploc_amend) line is = wide_columns line 20 22 is (omega arith) (omega arith)
-wide_platform (Some tiploc_delete) line is = wide_columns line 20 22 is (omega arith) (omega arith)
-wide_platform (Some association) line is = wide_columns line 20 22 is (omega arith) (omega arith)
-wide_platform (Some basic_schedule) line is = wide_columns line 20 22 is (omega arith) (omega arith)
-wide_platform (Some extra_details) line is = wide_columns line 20 22 is (omega arith) (omega arith)
-wide_platform (Some origin_location) line is = wide_columns line 20 22 is (omega arith) (omega arith)
 wide_platform (Some intermediate_location) line is = wide_columns line 34 36 is (omega arith) (omega arith)
-wide_platform (Some terminating_location) line is = wide_columns line 20 22 is (omega arith) (omega arith)
-wide_platform (Some change_en_route) line is = wide_columns line 20 22 is (omega arith) (omega arith)
-wide_platform (Some trailer) line is = wide_columns line 20 22 is (omega arith) (omega arith)
+wide_platform kind line is = wide_columns line 20 22 is (omega arith) (omega arith)
 
 -- the line at a record
 pub wide_track : (kind : Option Kind) (line : List ℕ) → IsRecord line → IsWide 3 (track_by_kind kind line)
-wide_track None line is = wide_spaces 3
-wide_track (Some header) line is = wide_spaces 3
-wide_track (Some tiploc_insert) line is = wide_spaces 3
-wide_track (Some tiploc_amend) line is = wide_spaces 3
-wide_track (Some tiploc_delete) line is = wide_spaces 3
-wide_track (Some association) line is = wide_spaces 3
-wide_track (Some basic_schedule) line is = wide_spaces 3
-wide_track (Some extra_details) line is = wide_spaces 3
 wide_track (Some origin_location) line is = wide_columns line 23 25 is (omega arith) (omega arith)
 wide_track (Some intermediate_location) line is = wide_columns line 37 39 is (omega arith) (omega arith)
-wide_track (Some terminating_location) line is = wide_spaces 3
-wide_track (Some change_en_route) line is = wide_spaces 3
-wide_track (Some trailer) line is = wide_spaces 3
+wide_track kind line is = wide_spaces 3
 
 -- the path at a record
 pub wide_path : (kind : Option Kind) (line : List ℕ) → IsRecord line → IsWide 3 (path_by_kind kind line)
-wide_path None line is = wide_spaces 3
-wide_path (Some header) line is = wide_spaces 3
-wide_path (Some tiploc_insert) line is = wide_spaces 3
-wide_path (Some tiploc_amend) line is = wide_spaces 3
-wide_path (Some tiploc_delete) line is = wide_spaces 3
-wide_path (Some association) line is = wide_spaces 3
-wide_path (Some basic_schedule) line is = wide_spaces 3
-wide_path (Some extra_details) line is = wide_spaces 3
-wide_path (Some origin_location) line is = wide_spaces 3
 wide_path (Some intermediate_location) line is = wide_columns line 40 42 is (omega arith) (omega arith)
 wide_path (Some terminating_location) line is = wide_columns line 23 25 is (omega arith) (omega arith)
-wide_path (Some change_en_route) line is = wide_spaces 3
-wide_path (Some trailer) line is = wide_spaces 3
+wide_path kind line is = wide_spaces 3
 
 -- the public time of an event at a record
 pub wide_public : (kind : Option Kind) (occasion : Occasion) (line : List ℕ) → IsRecord line → IsWide 4 (public_by_kind kind occasion line)
-wide_public None arrival line is = wide_spaces 4
-wide_public None pass line is = wide_spaces 4
-wide_public None joining line is = wide_spaces 4
-wide_public None dividing line is = wide_spaces 4
-wide_public None next_working line is = wide_spaces 4
-wide_public None departure line is = wide_spaces 4
-wide_public (Some header) arrival line is = wide_spaces 4
-wide_public (Some header) pass line is = wide_spaces 4
-wide_public (Some header) joining line is = wide_spaces 4
-wide_public (Some header) dividing line is = wide_spaces 4
-wide_public (Some header) next_working line is = wide_spaces 4
-wide_public (Some header) departure line is = wide_spaces 4
-wide_public (Some tiploc_insert) arrival line is = wide_spaces 4
-wide_public (Some tiploc_insert) pass line is = wide_spaces 4
-wide_public (Some tiploc_insert) joining line is = wide_spaces 4
-wide_public (Some tiploc_insert) dividing line is = wide_spaces 4
-wide_public (Some tiploc_insert) next_working line is = wide_spaces 4
-wide_public (Some tiploc_insert) departure line is = wide_spaces 4
-wide_public (Some tiploc_amend) arrival line is = wide_spaces 4
-wide_public (Some tiploc_amend) pass line is = wide_spaces 4
-wide_public (Some tiploc_amend) joining line is = wide_spaces 4
-wide_public (Some tiploc_amend) dividing line is = wide_spaces 4
-wide_public (Some tiploc_amend) next_working line is = wide_spaces 4
-wide_public (Some tiploc_amend) departure line is = wide_spaces 4
-wide_public (Some tiploc_delete) arrival line is = wide_spaces 4
-wide_public (Some tiploc_delete) pass line is = wide_spaces 4
-wide_public (Some tiploc_delete) joining line is = wide_spaces 4
-wide_public (Some tiploc_delete) dividing line is = wide_spaces 4
-wide_public (Some tiploc_delete) next_working line is = wide_spaces 4
-wide_public (Some tiploc_delete) departure line is = wide_spaces 4
-wide_public (Some association) arrival line is = wide_spaces 4
-wide_public (Some association) pass line is = wide_spaces 4
-wide_public (Some association) joining line is = wide_spaces 4
-wide_public (Some association) dividing line is = wide_spaces 4
-wide_public (Some association) next_working line is = wide_spaces 4
-wide_public (Some association) departure line is = wide_spaces 4
-wide_public (Some basic_schedule) arrival line is = wide_spaces 4
-wide_public (Some basic_schedule) pass line is = wide_spaces 4
-wide_public (Some basic_schedule) joining line is = wide_spaces 4
-wide_public (Some basic_schedule) dividing line is = wide_spaces 4
-wide_public (Some basic_schedule) next_working line is = wide_spaces 4
-wide_public (Some basic_schedule) departure line is = wide_spaces 4
-wide_public (Some extra_details) arrival line is = wide_spaces 4
-wide_public (Some extra_details) pass line is = wide_spaces 4
-wide_public (Some extra_details) joining line is = wide_spaces 4
-wide_public (Some extra_details) dividing line is = wide_spaces 4
-wide_public (Some extra_details) next_working line is = wide_spaces 4
-wide_public (Some extra_details) departure line is = wide_spaces 4
-wide_public (Some origin_location) arrival line is = wide_spaces 4
-wide_public (Some origin_location) pass line is = wide_spaces 4
-wide_public (Some origin_location) joining line is = wide_spaces 4
-wide_public (Some origin_location) dividing line is = wide_spaces 4
-wide_public (Some origin_location) next_working line is = wide_spaces 4
 wide_public (Some origin_location) departure line is = wide_shown (columns 16 19 line) (wide_columns line 16 19 is (omega arith) (omega arith))
 wide_public (Some intermediate_location) arrival line is = wide_shown (columns 26 29 line) (wide_columns line 26 29 is (omega arith) (omega arith))
-wide_public (Some intermediate_location) pass line is = wide_spaces 4
-wide_public (Some intermediate_location) joining line is = wide_spaces 4
-wide_public (Some intermediate_location) dividing line is = wide_spaces 4
-wide_public (Some intermediate_location) next_working line is = wide_spaces 4
 wide_public (Some intermediate_location) departure line is = wide_shown (columns 30 33 line) (wide_columns line 30 33 is (omega arith) (omega arith))
 wide_public (Some terminating_location) arrival line is = wide_shown (columns 16 19 line) (wide_columns line 16 19 is (omega arith) (omega arith))
-wide_public (Some terminating_location) pass line is = wide_spaces 4
-wide_public (Some terminating_location) joining line is = wide_spaces 4
-wide_public (Some terminating_location) dividing line is = wide_spaces 4
-wide_public (Some terminating_location) next_working line is = wide_spaces 4
-wide_public (Some terminating_location) departure line is = wide_spaces 4
-wide_public (Some change_en_route) arrival line is = wide_spaces 4
-wide_public (Some change_en_route) pass line is = wide_spaces 4
-wide_public (Some change_en_route) joining line is = wide_spaces 4
-wide_public (Some change_en_route) dividing line is = wide_spaces 4
-wide_public (Some change_en_route) next_working line is = wide_spaces 4
-wide_public (Some change_en_route) departure line is = wide_spaces 4
-wide_public (Some trailer) arrival line is = wide_spaces 4
-wide_public (Some trailer) pass line is = wide_spaces 4
-wide_public (Some trailer) joining line is = wide_spaces 4
-wide_public (Some trailer) dividing line is = wide_spaces 4
-wide_public (Some trailer) next_working line is = wide_spaces 4
-wide_public (Some trailer) departure line is = wide_spaces 4
+wide_public kind occasion line is = wide_spaces 4

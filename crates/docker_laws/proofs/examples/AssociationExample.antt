@@ -1,18 +1,10 @@
 -- An example of an association line: the train that ends at COLWELL at 23:50 becomes the train that
 -- leaves COLWELL after midnight.
-use Rattle.std.proofs.Common.{◌≡◌, ℕ, List, [], ◌∷◌, refl, inl, inr, Some, None, arith, ap, sym, ◌∙◌, subst, Contains, ◌⊎◌, rules}
-use Rattle.std.specs.Prelude.{codes, Option, slice_index}
+use Rattle.cif_laws.proofs.Common.{◌≡◌, ℕ, List, [], ◌∷◌, refl, inl, inr, Some, None, arith, ap, sym, ◌∙◌, subst, Contains, ◌⊎◌, rules, codes, Option}
+use Rattle.cif_laws.proofs.Common.{slice_index, next_working, arrival, Key, schedule_key, association_key, ScheduleKey, AssociationKey, Body, schedule_body}
+use Rattle.cif_laws.proofs.Common.{association_body, IsAtMost, Entry, put_with, body_of, State, live_table, Event, schedule_choice_cmp, IsChosen}
+use Rattle.cif_laws.proofs.Common.{IsChosenAssociation, group_of, DockerLine, line_of_association, IsAssociationLine, line_text}
 use Rattle.jiff_core.specs.Calendar.{days_from_civil, day_count, days_of_years, days_of_months}
-use Rattle.docker_model.specs.file.Journey.{next_working, arrival}
-use Rattle.docker_model.specs.file.Change.{Key, schedule_key, association_key, ScheduleKey, AssociationKey, Body, schedule_body, association_body}
-use Rattle.docker_model.specs.state.Order.{IsAtMost}
-use Rattle.docker_model.specs.state.Op.{Entry, put_with, body_of}
-use Rattle.docker_model.specs.state.State.{State, live_table}
-use Rattle.docker_model.specs.docker.Event.{Event}
-use Rattle.docker_model.specs.docker.Choice.{schedule_choice_cmp, IsChosen, IsChosenAssociation, group_of}
-use Rattle.docker_model.specs.docker.DockerLine.{DockerLine, line_of_association}
-use Rattle.docker_model.specs.docker.Association.{IsAssociationLine}
-use Rattle.docker_model.specs.docker.DockerText.{line_text}
 use Rattle.cif_laws.proofs.records.Builders.{no_text, bs, lo, lt, aa}
 use Rattle.cif_laws.proofs.lists.Membership.{Contains-cons, nil-Contains}
 use Rattle.state_laws.proofs.states.PlainTable.{Keyed}
@@ -59,13 +51,12 @@ linked = record {
 abbrev Same : Key → Body → Key → Body → Type 0
 Same key body other others = (key ≡ other) × (body ≡ others)
 
-body_or : Option Body → Body
+abbrev body_or : Option Body → Body
 body_or (Some body) = body
 body_or None = association_body []
 
 same_entry : (key other : Key) (body others : Body) (entry : Entry) → put_in key body ≡ (other, entry) → body_of entry.op ≡ Some others
     → Same key body other others
-unfolding body_or
 same_entry = search (rules, body_or)
 
 -- the key and the body belong to one of the three live entries of the example

@@ -1,14 +1,8 @@
 -- Worked examples of the choice among schedules, and of an association line.
-use Rattle.std.proofs.Common.{◌≡◌, ℕ, List, [], ◌∷◌, refl, inl, inr, Some, subst, Contains, ◌⊎◌, false, rules}
-use Rattle.std.specs.Prelude.{codes, Option}
+use Rattle.cif_laws.proofs.Common.{◌≡◌, ℕ, List, [], ◌∷◌, refl, inl, inr, Some, subst, Contains, ◌⊎◌, false, rules, codes, Option, first_record, Key}
+use Rattle.cif_laws.proofs.Common.{schedule_key, ScheduleKey, Body, schedule_body, IsAtMost, Stamp, Entry, put_with, body_of, State, live_table, schedule_runs}
+use Rattle.cif_laws.proofs.Common.{schedule_choice_cmp, IsRunning, IsChosen}
 use Rattle.jiff_core.specs.Calendar.{days_from_civil, day_count, days_of_years, days_of_months}
-use Rattle.docker_model.specs.file.File.{first_record}
-use Rattle.docker_model.specs.file.Change.{Key, schedule_key, ScheduleKey, Body, schedule_body}
-use Rattle.docker_model.specs.state.Order.{IsAtMost}
-use Rattle.docker_model.specs.state.Stamp.{Stamp}
-use Rattle.docker_model.specs.state.Op.{Entry, put_with, body_of}
-use Rattle.docker_model.specs.state.State.{State, live_table}
-use Rattle.docker_model.specs.docker.Choice.{schedule_runs, schedule_choice_cmp, IsRunning, IsChosen}
 use Rattle.cif_laws.proofs.records.Builders.{no_text, bs, lo, f2_origin, f2_terminus}
 use Rattle.cif_laws.proofs.lists.Membership.{nil-Contains}
 use Rattle.state_laws.proofs.states.PlainTable.{Keyed, find_in, live_at, live_none}
@@ -53,11 +47,11 @@ three = record {
       (schedule_key (key_of 23541 67), put_lines cancellation) ∷ [];
 }
 
-schedule_in : Key → ScheduleKey
+abbrev schedule_in : Key → ScheduleKey
 schedule_in (schedule_key key) = key
 schedule_in _ = key_of 0 0
 
-lines_in : Option Body → List (List ℕ)
+abbrev lines_in : Option Body → List (List ℕ)
 lines_in (Some (schedule_body lines)) = lines
 lines_in _ = []
 
@@ -66,7 +60,6 @@ IsOneOf key lines other others = (key ≡ other) × (lines ≡ others)
 
 one_of : (key other : ScheduleKey) (lines others : List (List ℕ)) (entry : Entry) → placed key lines ≡ (schedule_key other, entry)
     → body_of entry.op ≡ Some (schedule_body others) → IsOneOf key lines other others
-unfolding schedule_in lines_in
 one_of = search (rules, schedule_in, lines_in)
 
 one_of_three : (other : ScheduleKey) (others : List (List ℕ)) → live_table three (schedule_key other) ≡ Some (schedule_body others)

@@ -1,14 +1,9 @@
 -- Worked examples of events and docker lines.
-use Rattle.std.proofs.Common.{◌≡◌, [], ◌∷◌, ◌++◌, length, refl, map, Some}
-use Rattle.std.specs.Prelude.{codes}
+use Rattle.cif_laws.proofs.Common.{◌≡◌, [], ◌∷◌, ◌++◌, length, refl, map, Some, codes, columns, day_text, date_text, arrival, pass, departure, dividing}
+use Rattle.cif_laws.proofs.Common.{ScheduleKey, tiploc_body, Event, events_of, event_day, event_identity, first_event_at, line_of_event, line_of_association}
+use Rattle.cif_laws.proofs.Common.{line_text, last_line, description_in}
 use Rattle.jiff_core.specs.Calendar.{days_from_civil, day_count, days_of_years, days_of_months}
-use Rattle.docker_model.specs.records.Record.{columns}
-use Rattle.docker_model.specs.records.PrintedTime.{day_text, date_text}
-use Rattle.docker_model.specs.file.Journey.{arrival, pass, departure, dividing}
-use Rattle.docker_model.specs.file.Change.{ScheduleKey, tiploc_body}
-use Rattle.docker_model.specs.docker.Event.{Event, events_of, event_day, event_identity, first_event_at}
-use Rattle.docker_model.specs.docker.DockerLine.{line_of_event, line_of_association}
-use Rattle.docker_model.specs.docker.DockerText.{line_text, last_line, description_in, files_text}
+use Rattle.docker_model.specs.docker.DockerText.{files_text}
 use Rattle.state_laws.proofs.examples.StateExamples.{f2_item}
 use Rattle.cif_laws.proofs.records.Builders.{f2_schedule, night_schedule, changing_schedule, rename_amend}
 

@@ -1,22 +1,9 @@
 -- The docker of the example file at ASHFELD on 10 June 2024 has only one line.
-use Rattle.std.proofs.Common.{◌≡◌, ℕ, List, [], ◌∷◌, refl, inl, inr, Some, None, lit<, rules}
-use Rattle.std.proofs.Common.{arith, ap, sym, ◌∙◌, subst, Contains, Bool, true, false, ◌⊎◌, ◌++◌}
-use Rattle.std.specs.Prelude.{codes, Option}
-use Rattle.std.specs.Ordering.{is_eq}
-use Rattle.std.specs.declared.cmp.Ordering.{Ordering}
-use Rattle.std.specs.declared.cmp.Ordering.TheVariants.{Equal}
+use Rattle.cif_laws.proofs.Common.{◌≡◌, ℕ, List, [], ◌∷◌, refl, inl, inr, Some, None, lit<, rules, arith, ap, sym, ◌∙◌, subst, Contains, Bool, true, false, ◌⊎◌}
+use Rattle.cif_laws.proofs.Common.{◌++◌, codes, Option, is_eq, Ordering, Equal, columns, Key, schedule_key, ScheduleKey, Body, schedule_body, key_cmp, Table}
+use Rattle.cif_laws.proofs.Common.{live_table, Event, events_of, event_line, event_day, IsRunning, IsChosen, TrainRuns, DockerLine, line_of_event}
+use Rattle.cif_laws.proofs.Common.{IsAssociationLine, IsEventLine, IsDockerList, IsDockerText, docker_text}
 use Rattle.jiff_core.specs.Calendar.{days_from_civil, day_count, days_of_years, days_of_months}
-use Rattle.docker_model.specs.records.Record.{columns}
-use Rattle.docker_model.specs.file.Change.{Key, schedule_key, ScheduleKey, Body, schedule_body}
-use Rattle.docker_model.specs.state.Op.{key_cmp}
-use Rattle.docker_model.specs.state.Table.{Table}
-use Rattle.docker_model.specs.state.State.{live_table}
-use Rattle.docker_model.specs.docker.Event.{Event, events_of, event_line, event_day}
-use Rattle.docker_model.specs.docker.Choice.{IsRunning, IsChosen, TrainRuns}
-use Rattle.docker_model.specs.docker.DockerLine.{DockerLine, line_of_event}
-use Rattle.docker_model.specs.docker.Association.{IsAssociationLine}
-use Rattle.docker_model.specs.docker.DockerList.{IsEventLine, IsDockerList}
-use Rattle.docker_model.specs.docker.DockerText.{IsDockerText, docker_text}
 use Rattle.cif_laws.proofs.records.Builders.{f2_schedule, f2_terminus}
 use Rattle.state_laws.proofs.examples.StateExamples.{f2_state}
 use Rattle.docker_laws.proofs.examples.DockerExamples.{leaves_f2, ends_f2, f2_key}
@@ -45,16 +32,15 @@ only_live key body h =
     let told = found_is (is_eq (key_cmp (schedule_key f2_key) key)) body (sym (live_by_test key) ∙ h) in
     (exact_key (schedule_key f2_key) key (equal_by_test _ told.0), told.1)
 
-schedule_key_of : Key → ScheduleKey
+abbrev schedule_key_of : Key → ScheduleKey
 schedule_key_of (schedule_key key) = key
 schedule_key_of _ = f2_key
 
-lines_in : Body → List (List ℕ)
+abbrev lines_in : Body → List (List ℕ)
 lines_in (schedule_body lines) = lines
 lines_in _ = []
 
 only_running : (uid : List ℕ) (day : ℕ) (key : ScheduleKey) (lines : List (List ℕ)) → IsRunning live uid day key lines → (f2_key ≡ key) × (f2_schedule ≡ lines)
-unfolding schedule_key_of lines_in
 only_running uid day key lines running =
     let told = only_live (schedule_key key) (schedule_body lines) running.is_live in
     (ap schedule_key_of told.0, ap lines_in told.1)

@@ -1,18 +1,11 @@
 -- Examples of excerpts for COLWELL: the entries that the docker of COLWELL needs, and the excerpt
 -- that the walk computes. Without the needed entries the docker would be wrong.
-use Rattle.std.proofs.Common.{◌≡◌, ℕ, List, [], ◌∷◌, refl, inl, inr, Some, None, arith, ap, ◌∙◌, subst, ◌⊎◌, rules}
-use Rattle.std.specs.Prelude.{codes, slice_index}
+use Rattle.cif_laws.proofs.Common.{◌≡◌, ℕ, List, [], ◌∷◌, refl, inl, inr, Some, None, arith, ap, ◌∙◌, subst, rules, codes, slice_index, spaces, Key, tiploc_key}
+use Rattle.cif_laws.proofs.Common.{schedule_key, association_key, ScheduleKey, AssociationKey, Body, tiploc_body, schedule_body, association_body, Entry, Op}
+use Rattle.cif_laws.proofs.Common.{deleted, lapsed, put_with, State, AreAscending, live_table, TrainRuns, schedule_choice_cmp, IsPartnerIdentity, IsAtMost}
 use Rattle.jiff_core.specs.Calendar.{days_from_civil, day_count, days_of_years, days_of_months}
-use Rattle.docker_model.specs.records.PrintedTime.{spaces}
-use Rattle.docker_model.specs.file.Change.{Key, tiploc_key, schedule_key, association_key, ScheduleKey}
-use Rattle.docker_model.specs.file.Change.{AssociationKey, Body, tiploc_body, schedule_body, association_body}
-use Rattle.docker_model.specs.state.Op.{Entry, Op, deleted, lapsed, put_with}
-use Rattle.docker_model.specs.state.State.{State, AreAscending, live_table}
-use Rattle.docker_model.specs.docker.Choice.{TrainRuns, schedule_choice_cmp}
-use Rattle.docker_model.specs.docker.Association.{IsPartnerIdentity}
 use Rattle.docker_laws.specs.Excerpt.{IsNeeded, IsExcerpt, IsExcerptState}
 use Rattle.docker_laws.specs.ExcerptWalk.{excerpt_for}
-use Rattle.docker_model.specs.state.Order.{IsAtMost}
 use Rattle.cif_laws.proofs.records.Builders.{no_text, bs, lo, lt, aa}
 use Rattle.state_laws.proofs.states.PlainTable.{Keyed}
 use Rattle.docker_laws.proofs.examples.ChoiceExamples.{in_state, some_stamp}
@@ -75,12 +68,11 @@ overlaid = state_of (put_in (schedule_key stops_key) (schedule_body stops) ∷ p
 abbrev pub alone : State
 alone = state_of (put_in (schedule_key stops_key) (schedule_body stops) ∷ [])
 
-schedule_in : Key → ScheduleKey
+abbrev schedule_in : Key → ScheduleKey
 schedule_in (schedule_key key) = key
 schedule_in _ = stops_key
 
 only_stops : (other : ScheduleKey) (others : List (List ℕ)) → live_table alone (schedule_key other) ≡ Some (schedule_body others) → stops_key ≡ other
-unfolding schedule_in
 only_stops = grind (arith, in_state, schedule_in)
 
 -- on the day of the overlay the train doesn't run according to the permanent schedule
@@ -111,12 +103,10 @@ overlay_is_needed = inl (record {
 })
 
 alone_is_no_excerpt : ¬ IsExcerpt place (live_table overlaid) (live_table alone)
-alone_is_no_excerpt is = by (is (schedule_key short_key))
-  where
-    by : (live_table alone (schedule_key short_key) ≡ live_table overlaid (schedule_key short_key))
-        ⊎ ((live_table alone (schedule_key short_key) ≡ None) × ¬ IsNeeded (live_table overlaid) place (schedule_key short_key)) → ⊥
-    by (inl same) = let bad : None ≡ Some (schedule_body short) = same in cc
-    by (inr none) = none.1 overlay_is_needed
+alone_is_no_excerpt is = elim (is (schedule_key short_key)) [
+  | inl same ↦ let bad : None ≡ Some (schedule_body short) = same in cc
+  | inr none ↦ none.1 overlay_is_needed
+]
 
 overlay_is_kept : (excerpt_for place overlaid).entries ≡ overlaid.entries
 overlay_is_kept = refl
@@ -159,13 +149,11 @@ not_first other entry uid same = let bad : association_key link_key ≡ schedule
 
 not_second : (other : ScheduleKey) (entry : Entry) → other.uid ≡ codes "C40002"
     → ¬ (put_in (schedule_key stops_key) (schedule_body stops) ≡ (schedule_key other, entry))
-unfolding schedule_in
 not_second other entry uid same = uids_differ (ap (λ (pair : Keyed). (schedule_in pair.0).uid) same ∙ uid)
 
 -- the associated train has only one schedule
 only_partner : (other : ScheduleKey) (others : List (List ℕ)) → other.uid ≡ codes "C40002"
     → live_table joined (schedule_key other) ≡ Some (schedule_body others) → partner_key ≡ other
-unfolding schedule_in
 only_partner = search (rules, in_state, not_second, schedule_in, not_first)
 
 no_partner : (other : ScheduleKey) (others : List (List ℕ)) → other.uid ≡ codes "C40002"
@@ -198,12 +186,10 @@ partner_is_needed : IsNeeded (live_table joined) place (schedule_key partner_key
 partner_is_needed = inr (record { key = link_key; line = link; associated_is = refl; linked = record { is_live = refl; here = refl } })
 
 parted_is_no_excerpt : ¬ IsExcerpt place (live_table joined) (live_table parted)
-parted_is_no_excerpt is = by (is (schedule_key partner_key))
-  where
-    by : (live_table parted (schedule_key partner_key) ≡ live_table joined (schedule_key partner_key))
-        ⊎ ((live_table parted (schedule_key partner_key) ≡ None) × ¬ IsNeeded (live_table joined) place (schedule_key partner_key)) → ⊥
-    by (inl same) = let bad : None ≡ Some (schedule_body partner) = same in cc
-    by (inr none) = none.1 partner_is_needed
+parted_is_no_excerpt is = elim (is (schedule_key partner_key)) [
+  | inl same ↦ let bad : None ≡ Some (schedule_body partner) = same in cc
+  | inr none ↦ none.1 partner_is_needed
+]
 
 partner_is_kept : (excerpt_for place joined).entries ≡ joined.entries
 partner_is_kept = refl

@@ -1,12 +1,8 @@
 -- A worked example of the docker lines that a walk gathers. A train ends at COLWELL at 23:50 and
 -- becomes the train that leaves COLWELL after midnight.
-use Rattle.std.proofs.Common.{◌≡◌, ℕ, List, [], ◌∷◌, map, refl, true, false}
-use Rattle.std.specs.Prelude.{codes}
+use Rattle.cif_laws.proofs.Common.{◌≡◌, ℕ, List, [], ◌∷◌, map, refl, true, false, codes, calls_at, schedule_key, association_key, schedule_body}
+use Rattle.cif_laws.proofs.Common.{association_body, Row, line_text}
 use Rattle.jiff_core.specs.Calendar.{days_from_civil, day_count, days_of_years, days_of_months}
-use Rattle.docker_model.specs.file.Journey.{calls_at}
-use Rattle.docker_model.specs.file.Change.{schedule_key, association_key, schedule_body, association_body}
-use Rattle.docker_model.specs.state.Row.{Row}
-use Rattle.docker_model.specs.docker.DockerText.{line_text}
 use Rattle.docker_laws.specs.LiveRows.{train_in, link_in}
 use Rattle.docker_laws.specs.Gathering.{gathered, start_days}
 use Rattle.cif_laws.proofs.records.Builders.{no_text, bs, lo, li, lt, aa}

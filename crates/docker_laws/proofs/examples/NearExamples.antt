@@ -1,6 +1,6 @@
 -- Worked examples of days for which a schedule may count, and of days for which it can't. The
 -- schedule runs from 10 to 16 June 2024, day 23537 to day 23543.
-use Rattle.std.proofs.Common.{◌≡◌, [], true, false, refl}
+use Rattle.cif_laws.proofs.Common.{◌≡◌, [], true, false, refl}
 use Rattle.jiff_core.specs.Calendar.{days_from_civil, day_count, days_of_years, days_of_months}
 use Rattle.docker_laws.specs.NearDay.{may_reach, near_entries}
 use Rattle.docker_laws.specs.Thinning.{excerpt_on}

@@ -1,25 +1,12 @@
 -- Worked examples of the changes that are kept for COLWELL and a day, and of four wrong thinnings.
 -- Each of the wrong thinnings keeps too few changes or records.
-use Rattle.std.proofs.Common.{length-append, ◌≡◌, ℕ, ◌≤◌, List, [], ◌∷◌, refl, inl, inr, rules}
-use Rattle.std.proofs.Common.{Some, None, arith, lit<, ap, sym, ◌∙◌, subst, Bool, true, false, cond}
-use Rattle.std.specs.Prelude.{codes, ◌↔◌, ◌&&◌, nat_le}
-use Rattle.std.specs.declared.cmp.Ordering.TheVariants.{Greater}
-use Rattle.std.specs.Ordering.{is_eq}
-use Rattle.std.proofs.lemmas.Bool.{leb-true}
+use Rattle.cif_laws.proofs.Common.{length-append, ◌≡◌, ℕ, ◌≤◌, List, [], ◌∷◌, refl, inl, inr, rules, Some, None, arith, lit<, ap, sym, ◌∙◌, subst, Bool, true}
+use Rattle.cif_laws.proofs.Common.{false, cond, codes, ◌↔◌, ◌&&◌, nat_le, Greater, is_eq, leb-true, spaces, arrival, CallsAt, midnights, IsSchedule}
+use Rattle.cif_laws.proofs.Common.{first_record, Key, tiploc_key, association_key, schedule_key, ScheduleKey, tiploc_body, association_body, schedule_body, Act}
+use Rattle.cif_laws.proofs.Common.{delete, put, Change, schedule_key_cmp, IsAtMost, Table, empty_table, Event, event_day, IsRunning, TrainRuns, schedule_runs}
+use Rattle.cif_laws.proofs.Common.{schedule_choice_cmp, DockerLine, line_of_event, IsAssociationLine, IsPartnerIdentity, partner_start, IsEventLine}
+use Rattle.cif_laws.proofs.Common.{IsDockerList}
 use Rattle.jiff_core.specs.Calendar.{days_from_civil, day_count, days_of_years, days_of_months}
-use Rattle.docker_model.specs.records.PrintedTime.{spaces}
-use Rattle.docker_model.specs.file.Journey.{arrival, CallsAt, midnights}
-use Rattle.docker_model.specs.file.File.{IsSchedule, first_record}
-use Rattle.docker_model.specs.file.Change.{Key, tiploc_key, association_key, schedule_key, ScheduleKey, tiploc_body}
-use Rattle.docker_model.specs.file.Change.{association_body, schedule_body, Act, delete, put, Change}
-use Rattle.docker_model.specs.state.Op.{schedule_key_cmp}
-use Rattle.docker_model.specs.state.Order.{IsAtMost}
-use Rattle.docker_model.specs.state.Table.{Table, empty_table}
-use Rattle.docker_model.specs.docker.Event.{Event, event_day}
-use Rattle.docker_model.specs.docker.Choice.{IsRunning, TrainRuns, schedule_runs, schedule_choice_cmp}
-use Rattle.docker_model.specs.docker.DockerLine.{DockerLine, line_of_event}
-use Rattle.docker_model.specs.docker.Association.{IsAssociationLine, IsPartnerIdentity, partner_start}
-use Rattle.docker_model.specs.docker.DockerList.{IsEventLine, IsDockerList}
 use Rattle.docker_laws.specs.StandIn.{IsStandIn}
 use Rattle.docker_laws.specs.Thinning.{lines_for, thin_changes, table_of, IsThinning}
 use Rattle.cif_laws.proofs.records.Builders.{f2, no_text, bs, lo, li, lt, night_schedule}
@@ -144,13 +131,12 @@ stops_alone = put_schedule 2 stops_key stops ∷ []
 abbrev arrives : Event
 arrives = record { number = 2; place = 2; occasion = arrival; time = 2860 }
 
-schedule_in : Key → ScheduleKey
+abbrev schedule_in : Key → ScheduleKey
 schedule_in (schedule_key key) = key
 schedule_in _ = stops_key
 
 -- schedule keys that compare as equal are equal
 same_schedule : (key other : ScheduleKey) → is_eq (schedule_key_cmp key other) ≡ true → key ≡ other
-unfolding schedule_in
 same_schedule key other h = ap schedule_in (same_key (schedule_key key) (schedule_key other) h)
 
 -- the table after `stops_alone` has no schedule with a key other than `stops_key`

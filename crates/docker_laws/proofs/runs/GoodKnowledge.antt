@@ -1,19 +1,16 @@
 -- If all events of a run are good, all knowledge after the run is good: every known file is a CIF
 -- file, and the format allows every known horizon.
-use Rattle.std.proofs.Common.{◌≡◌, ℕ, ◌≤◌, Bool, true, false, List, [], ◌∷◌, length, get_or, refl, arith, All, rules}
-use Rattle.std.proofs.lemmas.Grind.{common_steps}
-use Rattle.std.specs.Prelude.{max, nat_lt, fold, slice_set}
-use Rattle.std.specs.List.{zip}
+use Rattle.cif_laws.proofs.Common.{◌≡◌, ℕ, ◌≤◌, Bool, true, false, List, [], ◌∷◌, length, get_or, refl, arith, All, rules, common_steps, max, nat_lt, fold, zip}
+use Rattle.cif_laws.proofs.Common.{ltb-true, ltb-false, All-cons, All-append, All-set, All-push, All-nil, All-head, All-tail, IsFile, most_records, lines_of}
+use Rattle.cif_laws.proofs.Common.{IsFileText, Format, IsHorizonOf, RunEvent, take_file, send_state, deliver, reload, horizon_event, Reply, done, Known}
+use Rattle.cif_laws.proofs.Common.{KnownSets, nothing, united, office_known, message_known, after_reply, none_known, known_sets, AreReplies, AreFiles}
+use Rattle.cif_laws.proofs.Common.{IsGoodKnown}
+use Rattle.std.specs.Prelude.{slice_set}
 use Rattle.std.proofs.Math.Nat.{zero-max}
-use Rattle.std.proofs.lemmas.Bool.{ltb-true, ltb-false}
-use Rattle.std.proofs.lemmas.List.Elements.{All-cons, All-append, All-set, All-push, All-nil, All-replicate, All-head, All-tail}
-use Rattle.docker_model.specs.file.File.{IsFile, most_records}
-use Rattle.docker_model.specs.file.Text.{lines_of}
-use Rattle.docker_model.specs.file.FileFault.{IsFileText}
-use Rattle.docker_model.specs.state.StateText.{Format, IsHorizonOf}
-use Rattle.docker_model.specs.run.Run.{RunEvent, take_file, send_state, deliver, reload, horizon_event, Reply, done, refused, Known, KnownSets}
-use Rattle.docker_model.specs.run.Run.{nothing, united, office_known, message_known, after_done, after_reply, none_known, known_sets, IsReply, AreReplies}
-use Rattle.docker_model.specs.run.Knowledge.{AreFiles, IsGoodKnown, IsGoodEvent}
+use Rattle.std.proofs.lemmas.List.Elements.{All-replicate}
+use Rattle.docker_model.specs.run.Run.{refused}
+use Rattle.docker_model.specs.run.Run.{after_done, IsReply}
+use Rattle.docker_model.specs.run.Knowledge.{IsGoodEvent}
 use Rattle.state_laws.proofs.states.Lapse.{max_most}
 
 -- ---- if the knowledge of each of two offices is good, their knowledge together is good

@@ -1,20 +1,17 @@
 -- Lemmas on the knowledge after one more event of a run, and on the numbers of offices and
 -- messages.
-use Rattle.std.proofs.Common.{◌≡◌, ℕ, suc, ◌+◌, Bool, true, false, cond, List, [], ◌∷◌, ◌++◌, length, refl, ap, ◌∙◌, arith, length-append, length-set}
-use Rattle.std.proofs.Common.{rules}
-use Rattle.std.specs.Prelude.{fold, filter}
-use Rattle.std.specs.List.{zip}
+use Rattle.cif_laws.proofs.Common.{◌≡◌, ℕ, suc, ◌+◌, Bool, true, false, cond, List, [], ◌∷◌, ◌++◌, length, refl, ap, ◌∙◌, arith, length-append, rules, fold}
+use Rattle.cif_laws.proofs.Common.{filter, zip, RunEvent, Reply, KnownSets, nothing, after_reply, none_known, known_sets, AreReplies}
+use Rattle.std.proofs.Common.{length-set}
 use Rattle.std.proofs.lemmas.List.Sums.{fold-append}
 use Rattle.std.proofs.lemmas.List.{length-replicate}
-use Rattle.docker_model.specs.run.Run.{RunEvent, Reply}
-use Rattle.docker_model.specs.run.Run.{KnownSets, nothing, after_reply, none_known, known_sets, IsReply, AreReplies}
+use Rattle.docker_model.specs.run.Run.{IsReply}
 use Rattle.docker_model.specs.run.Knowledge.{is_sent, sent_count}
 
 zip_more : {A B : Type 0} (xs : List A) (ys : List B) (x : A) (y : B) → length xs ≡ length ys → zip (xs ++ x ∷ []) (ys ++ y ∷ []) ≡ zip xs ys ++ (x, y) ∷ []
 zip_more [] [] x y same = refl
-zip_more [] (b ∷ ys) x y same = absurd (omega arith)
-zip_more (a ∷ xs) [] x y same = absurd (omega arith)
 zip_more (a ∷ xs) (b ∷ ys) x y same = ap (λ rest. (a, b) ∷ rest) (zip_more xs ys x y (omega arith))
+zip_more xs ys x y same = absurd (omega arith)
 
 -- `after_reply` computes the knowledge after one more event from the knowledge before the event,
 -- from the event and from its reply
@@ -27,9 +24,8 @@ sets_more = search (rules, zip_more, fold-append)
 -- in a run, the number of replies equals the number of events
 pub replies_long : (known : KnownSets) (events : List RunEvent) (replies : List Reply) → AreReplies known events replies → length events ≡ length replies
 replies_long known [] [] are = refl
-replies_long known [] (reply ∷ replies) are = absurd are
-replies_long known (event ∷ events) [] are = absurd are
 replies_long known (event ∷ events) (reply ∷ replies) are = ap suc (replies_long (after_reply known (event, reply)) events replies are.1)
+replies_long known events replies are = absurd are
 
 -- if all replies of a run are allowed, and an event with an allowed reply is appended, all replies
 -- of the longer run are allowed. The run may begin with any knowledge
@@ -37,10 +33,9 @@ pub replies_after : (known : KnownSets) (events : List RunEvent) (replies : List
     → AreReplies known events replies → IsReply (fold after_reply known (zip events replies)) event reply → AreReplies known (events ++ event ∷ [])
     (replies ++ reply ∷ [])
 replies_after known [] [] event reply are is = (is, tt)
-replies_after known [] (other ∷ replies) event reply are is = absurd are
-replies_after known (other ∷ events) [] event reply are is = absurd are
 replies_after known (other ∷ events) (answer ∷ replies) event reply are is =
     (are.0, replies_after (after_reply known (other, answer)) events replies event reply are.1 is)
+replies_after known events replies event reply are is = absurd are
 
 -- like `replies_after`, for a run in which the offices know nothing at the start
 pub replies_more : (offices : ℕ) (events : List RunEvent) (replies : List Reply) (event : RunEvent) (reply : Reply)
@@ -60,9 +55,8 @@ messages_grow = search (rules, length-append)
 
 offices_along : (known : KnownSets) (events : List RunEvent) (replies : List Reply) → length (fold after_reply known (zip events replies)).offices
     ≡ length known.offices
-offices_along known [] replies = refl
-offices_along known (event ∷ events) [] = refl
 offices_along known (event ∷ events) (reply ∷ replies) = offices_along (after_reply known (event, reply)) events replies ∙ offices_stay known event reply
+offices_along known events replies = refl
 
 messages_along : (known : KnownSets) (events : List RunEvent) (replies : List Reply) → length (fold after_reply known (zip events replies)).messages
     ≡ length known.messages + sent_count events replies

@@ -1,18 +1,9 @@
 -- If an office's knowledge is good for a format (`IsGoodKnown`), the format can hold the summary of
 -- the files that the office knows. The counts in a text of fewer than 2^64 bytes fit in eight
 -- bytes.
-use Rattle.std.proofs.Common.{◌≡◌, ℕ, ◌^◌, ◌<◌, ◌≤◌, List, [], ◌∷◌, length, sym, subst, arith, length-append, rules}
-use Rattle.std.specs.List.{flat_map}
-use Rattle.docker_model.specs.file.Change.{Key}
-use Rattle.docker_model.specs.state.Op.{Entry}
-use Rattle.docker_model.specs.state.Lapse.{lapse_entry}
-use Rattle.docker_model.specs.state.State.{State}
-use Rattle.docker_model.specs.state.Summary.{IsGreatestEntryOf}
-use Rattle.docker_model.specs.state.StateText.{Format, state_text}
-use Rattle.docker_model.specs.state.StateText.{IsHorizonOf, TellsOp, IsToldState}
+use Rattle.cif_laws.proofs.Common.{◌≡◌, ℕ, ◌^◌, ◌<◌, ◌≤◌, List, [], ◌∷◌, length, sym, subst, arith, length-append, rules, flat_map, Key, Entry, lapse_entry}
+use Rattle.cif_laws.proofs.Common.{State, IsGreatestEntryOf, Format, state_text, IsHorizonOf, TellsOp, IsToldState, Known, IsStateOf, IsGoodKnown}
 use Rattle.docker_model.specs.state.StatePart.{IsCount}
-use Rattle.docker_model.specs.run.Run.{Known, IsStateOf}
-use Rattle.docker_model.specs.run.Knowledge.{IsGoodKnown}
 use Rattle.cif_laws.proofs.lists.Membership.{all_members}
 use Rattle.state_laws.proofs.states.Lapse.{lapse_none}
 use Rattle.state_laws.proofs.texts.StateGrown.{horizon_day}

@@ -1,29 +1,17 @@
 -- Offices with the same knowledge have equal states, and offices that know the same files print the
 -- same dockers, even in different runs.
-use Rattle.std.proofs.Common.{◌≡◌, ℕ, ◌+◌, Bool, true, false, List, ap, sym, ◌∙◌, subst, refl, arith, All, rules}
-use Rattle.std.specs.Prelude.{◌↔◌, max, nat_lt}
-use Rattle.std.proofs.Math.Nat.{le-max_left, le-max_right, max-eq_left, max-eq_right}
-use Rattle.std.proofs.lemmas.Bool.{ltb-true, ltb-false}
-use Rattle.std.proofs.lemmas.List.Elements.{All-get_or}
-use Rattle.docker_model.specs.records.Date.{IsDay}
-use Rattle.docker_model.specs.state.Table.{Table, IsPlainTable}
-use Rattle.docker_model.specs.state.Lapse.{IsDayRefused}
-use Rattle.docker_model.specs.state.State.{State, IsValid, live_table, lapse_state}
-use Rattle.docker_model.specs.state.Summary.{IsSummary}
-use Rattle.docker_model.specs.state.StateText.{Format, state_text}
-use Rattle.docker_model.specs.docker.DockerText.{IsDockerText, docker_text}
-use Rattle.docker_model.specs.run.Run.{RunEvent, Exchange, IsRun, AreReplies, none_known, IsStateOf}
-use Rattle.docker_model.specs.run.Run.{Known, nothing, office_known, message_known, IsOffice, IsMessage}
-use Rattle.docker_model.specs.run.Knowledge.{HaveSameFiles, AreOneKnowledge, IsGoodKnown, IsGoodEvent, office_state, message_text, sets_of}
+use Rattle.cif_laws.proofs.Common.{◌≡◌, ℕ, List, ap, sym, ◌∙◌, subst, All, rules, ◌↔◌, All-get_or, Table, IsPlainTable, IsDayRefused, State, live_table}
+use Rattle.cif_laws.proofs.Common.{IsSummary, Format, state_text, IsDockerText, RunEvent, AreReplies, none_known, IsStateOf, Known, nothing, office_known}
+use Rattle.cif_laws.proofs.Common.{message_known, IsOffice, HaveSameFiles, AreOneKnowledge, IsGoodKnown}
+use Rattle.docker_model.specs.run.Run.{Exchange, IsRun}
+use Rattle.docker_model.specs.run.Run.{IsMessage}
+use Rattle.docker_model.specs.run.Knowledge.{IsGoodEvent, office_state, message_text, sets_of}
 use Rattle.docker_laws.specs.RunInvariant.{Holds}
-use Rattle.state_laws.proofs.states.Lapse.{max_most}
-use Rattle.docker_laws.proofs.dockers.PrintedDocker.{state_text_iff, printed_is_plain}
-use Rattle.state_laws.proofs.joins.RaisedHorizon.{lapsed_already, none_to_lapse}
+use Rattle.docker_laws.proofs.dockers.PrintedDocker.{docker_lapses, printed_is_plain, one_text}
+use Rattle.docker_laws.proofs.dockers.TextsOfFiles.{text_of_files}
 use Rattle.docker_laws.proofs.runs.GoodKnowledge.{good_in_run}
-use Rattle.docker_laws.proofs.runs.MessageTexts.{summary_told}
 use Rattle.state_laws.proofs.texts.StateGrown.{horizon_day}
-use Rattle.state_laws.proofs.states.SummaryLaws.{summary_unique, lapsed_summary}
-use Rattle.state_laws.proofs.states.OneJoin.{docker_unique}
+use Rattle.state_laws.proofs.states.SummaryLaws.{summary_unique}
 use Rattle.cif_laws.proofs.lists.ZipSteps.{zip_at}
 
 -- if the replies of an exchange are allowed, and its states and messages match the knowledge
@@ -42,47 +30,15 @@ run_holds format offices events exchange each run =
 
 -- ---- two summaries of the same files have the same dockers
 
--- if neither of two horizons makes the program refuse the dockers of a day, the greater horizon
--- doesn't make the program refuse them either
-pub greater_prints : (a b day : ℕ) → ¬ IsDayRefused a day → ¬ IsDayRefused b day → ¬ IsDayRefused (max a b) day
-greater_prints = search (rules, ltb-true, max-eq_right, max-eq_left, ltb-false)
-
--- suppose that the program doesn't refuse the dockers of a day because of a horizon. Then a state
--- has the same dockers of that day before and after its entries lapse with this horizon
-docker_stays : (horizon : ℕ) (state : State) (place : List ℕ) (day : ℕ) (text : List ℕ) → IsDay horizon → IsValid state → ¬ IsDayRefused horizon day
-    → IsDockerText (live_table state) place day text → IsDockerText (live_table (lapse_state horizon state)) place day text
-docker_stays horizon state place day text is_day valid printed is = by (nat_lt 0 horizon) (nat_lt day (horizon + 3)) refl refl
-  where
-    by : (b c : Bool) → nat_lt 0 horizon ≡ b → nat_lt day (horizon + 3) ≡ c → IsDockerText (live_table (lapse_state horizon state)) place day text
-    by true true above before = absurd (printed (ltb-true 0 horizon above, ltb-true day (horizon + 3) before))
-    by true false above after = (state_text_iff horizon state place day text is_day valid (ltb-false day (horizon + 3) after)).0 is
-    by false c none either =
-        let low = ltb-false 0 horizon none in
-        let zero_is : horizon ≡ 0 = omega arith in
-        subst (λ h. IsDockerText (live_table (lapse_state h state)) place day text) (sym zero_is)
-        (subst (λ (s : State). IsDockerText (live_table s) place day text) (sym (lapsed_already 0 state (none_to_lapse state.entries))) is)
-
--- a table has at most one docker text for a place and a day
-pub one_text : (live : Table) (place : List ℕ) (day : ℕ) (text other : List ℕ) → IsDockerText live place day text → IsDockerText live place day other
-    → text ≡ other
-one_text live place day text other is that = is.2 ∙ ap (docker_text live place day) (docker_unique _ is.0 that.0 is.1 that.1) ∙ sym that.2
-
 -- two summaries of the same files have the same docker for each place and each day, unless the
 -- program refuses the docker because of a horizon
 pub docker_of_files : (format : Format) (one two : Known) (first second : State) → IsGoodKnown format one → IsGoodKnown format two → IsStateOf one first
     → IsStateOf two second
     → HaveSameFiles one.files two.files → (place : List ℕ) (day : ℕ) → ¬ IsDayRefused one.horizon day → ¬ IsDayRefused two.horizon day → (text other : List ℕ)
     → IsDockerText (live_table first) place day text → IsDockerText (live_table second) place day other → text ≡ other
-docker_of_files format one two first second good also is that same place day prints_one prints_two text other told told_too =
-    let low = horizon_day _ _ good.1 in
-    let high = horizon_day _ _ also.1 in
-    let day_is : IsDay (max one.horizon two.horizon) = max_most _ _ _ low high in
-    let prints = greater_prints _ _ _ prints_one prints_two in
-    let states = summary_unique _ _ same _ _ _ (lapsed_summary _ _ _ _ (le-max_left one.horizon two.horizon) is)
-    (lapsed_summary _ _ _ _ (le-max_right one.horizon two.horizon) that) in
-    one_text _ _ _ _ _ (subst (λ s. IsDockerText (live_table s) place day text) states
-    (docker_stays _ _ _ _ _ day_is (summary_told _ _ _ good is).valid prints told))
-    (docker_stays _ _ _ _ _ day_is (summary_told _ _ _ also that).valid prints told_too)
+docker_of_files format one two first second good also is that same place =
+    text_of_files (λ live day text. IsDockerText live place day text) (docker_lapses place) (one_text place) _ _ _ _ _ _ good.0 also.0 same
+    (horizon_day _ _ good.1) (horizon_day _ _ also.1) is that
 
 -- ---- offices with the same knowledge have equal states
 

@@ -1,20 +1,12 @@
 -- `Holds` is true at the start of a run and after each event. `Holds` says that the states and
 -- messages match the knowledge. Each state is the summary of the files that its office knows. Each
 -- message is the text of the summary of the files that its sender knew.
-use Rattle.std.proofs.Common.{◌≡◌, ℕ, ◌^◌, ◌<◌, ◌≤◌, List, [], ◌∷◌, ◌++◌, length, refl, sym, ◌∙◌, subst, arith, All, set, rules}
-use Rattle.std.proofs.lemmas.Grind.{common_steps}
-use Rattle.std.proofs.Math.Nat.{max_comm}
-use Rattle.std.proofs.lemmas.List.Elements.{All-set, All-push, All-get_or}
-use Rattle.docker_model.specs.file.File.{most_records}
-use Rattle.docker_model.specs.file.Text.{lines_of}
-use Rattle.docker_model.specs.file.FileFault.{IsFileText}
-use Rattle.docker_model.specs.state.State.{State, IsJoin, raise_horizon}
-use Rattle.docker_model.specs.state.Summary.{IsSummary}
-use Rattle.docker_model.specs.state.StateText.{Format, state_text, IsHorizonOf, IsToldState}
-use Rattle.docker_model.specs.state.StateFault.{IsStateText}
-use Rattle.docker_model.specs.run.Run.{take_file, send_state, deliver, reload, horizon_event, done, Known, KnownSets, IsOffice}
-use Rattle.docker_model.specs.run.Run.{IsMessage, IsStateOf, IsMessageOf, nothing, united, office_known, message_known, after_reply, none_known}
-use Rattle.docker_model.specs.run.Knowledge.{IsGoodKnown, office_state, message_text}
+use Rattle.cif_laws.proofs.Common.{◌≡◌, ℕ, ◌^◌, ◌<◌, ◌≤◌, List, [], ◌∷◌, ◌++◌, length, refl, sym, ◌∙◌, subst, arith, All, set, rules, common_steps, max_comm}
+use Rattle.cif_laws.proofs.Common.{All-set, All-push, All-get_or, most_records, lines_of, IsFileText, State, IsJoin, raise_horizon, IsSummary, Format}
+use Rattle.cif_laws.proofs.Common.{state_text, IsHorizonOf, IsToldState, IsStateText, take_file, send_state, deliver, reload, horizon_event, done, Known}
+use Rattle.cif_laws.proofs.Common.{KnownSets, IsOffice, IsStateOf, nothing, united, office_known, message_known, after_reply, none_known, IsGoodKnown}
+use Rattle.docker_model.specs.run.Run.{IsMessage, IsMessageOf}
+use Rattle.docker_model.specs.run.Knowledge.{office_state, message_text}
 use Rattle.docker_laws.specs.RunInvariant.{Holds}
 use Rattle.state_laws.proofs.joins.JoinLaws.{join_commutes}
 use Rattle.docker_laws.proofs.runs.GoodKnowledge.{nothing_good, united_good, file_good, horizon_good}

@@ -1,17 +1,11 @@
 -- Worked examples of horizons, and of the texts of states in the format with a horizon.
-use Rattle.std.proofs.Common.{◌≡◌, ℕ, ◌≤◌, List, [], ◌∷◌, ◌++◌, length, take, drop, refl, inl, inr, lit≤, lit<, arith, ap, rules}
-use Rattle.std.specs.Prelude.{codes, slice_index}
-use Rattle.std.proofs.lemmas.List.Elements.{All-from_recursion}
+use Rattle.cif_laws.proofs.Common.{◌≡◌, ℕ, ◌≤◌, List, [], ◌∷◌, ◌++◌, length, take, drop, refl, inl, inr, lit≤, lit<, arith, ap, rules, codes, slice_index}
+use Rattle.cif_laws.proofs.Common.{All-from_recursion, IsDay, Key, schedule_key, ScheduleKey, schedule_body, tiploc_body, IsBelow, key_cmp, body_end, lapsed}
+use Rattle.cif_laws.proofs.Common.{put_with, Entry, lapse, IsDayRefused, State, raise_horizon, dks_1, dks_2, state_text, IsToldState, IsOpByte, before_op}
+use Rattle.cif_laws.proofs.Common.{before_line, IsStampHere, before_mark, before_horizon, in_entry, IsStateFault, IsStateText, bad_mark, bad_body, too_short}
+use Rattle.cif_laws.proofs.Common.{has_tail}
 use Rattle.jiff_core.specs.Calendar.{days_from_civil, day_count, days_of_years, days_of_months}
-use Rattle.docker_model.specs.records.Date.{IsDay}
-use Rattle.docker_model.specs.file.Change.{Key, schedule_key, ScheduleKey, schedule_body, tiploc_body}
-use Rattle.docker_model.specs.state.Order.{IsBelow}
-use Rattle.docker_model.specs.state.Op.{key_cmp, body_end, lapsed, put_with, Entry}
-use Rattle.docker_model.specs.state.Lapse.{lapse, IsDayRefused}
-use Rattle.docker_model.specs.state.State.{State, raise_horizon}
-use Rattle.docker_model.specs.state.StateText.{dks_1, dks_2, state_text, IsToldState, IsOpByte}
-use Rattle.docker_model.specs.state.StatePart.{before_op, before_line, IsStampHere, before_mark, before_horizon, in_entry}
-use Rattle.docker_model.specs.state.StateFault.{IsStateFault, IsStateText, bad_mark, bad_horizon, bad_body, too_short, has_tail}
+use Rattle.docker_model.specs.state.StateFault.{bad_horizon}
 use Rattle.cif_laws.proofs.records.Builders.{f2_basic, f2_schedule}
 use Rattle.state_laws.proofs.examples.StateExamples.{f2_item, end_of_f2}
 use Rattle.state_laws.proofs.examples.SummaryExamples as plain

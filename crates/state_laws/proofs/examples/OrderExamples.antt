@@ -2,15 +2,9 @@
 -- first example, the bytes of the keys lack the tag, which is the byte for the kind of a key. In
 -- the second, the low byte of a number comes first. In the third, the keys have UIDs of different
 -- lengths, which no record can have.
-use Rattle.std.proofs.Common.{◌≡◌, ℕ, List, ◌∷◌, refl}
-use Rattle.std.specs.Prelude.{codes}
-use Rattle.std.specs.Int.{w16, to_le_bytes}
-use Rattle.std.specs.declared.cmp.Ordering.TheVariants.{Less, Greater}
-use Rattle.docker_model.specs.file.Change.{Key, tiploc_key, association_key, schedule_key}
-use Rattle.docker_model.specs.state.Order.{bytes_cmp}
-use Rattle.docker_model.specs.state.Stamp.{LedgerItem, ledger_item_cmp}
-use Rattle.docker_model.specs.state.Op.{key_cmp, key_tag}
-use Rattle.docker_model.specs.state.StateText.{item_bytes, key_bytes}
+use Rattle.cif_laws.proofs.Common.{◌≡◌, ℕ, List, ◌∷◌, refl, codes, w16, Less, Greater, Key, tiploc_key, association_key, schedule_key, bytes_cmp, LedgerItem}
+use Rattle.cif_laws.proofs.Common.{ledger_item_cmp, key_cmp, key_tag, item_bytes, key_bytes}
+use Rattle.std.specs.Int.{to_le_bytes}
 
 abbrev last_tiploc : Key
 last_tiploc = tiploc_key (codes "ZZZZZZZ")

@@ -1,8 +1,6 @@
 -- A worked example of staging: an office with the horizon 15 June receives a schedule that ends on
 -- 14 June.
-use Rattle.std.proofs.Common.{◌≡◌, ap, ◌∙◌, arith, [], ◌∷◌, subst, inl, None, rules}
-use Rattle.docker_model.specs.state.Stamp.{LedgerItem}
-use Rattle.docker_model.specs.state.State.{State, raise_horizon}
+use Rattle.cif_laws.proofs.Common.{◌≡◌, ap, ◌∙◌, arith, [], ◌∷◌, subst, inl, None, rules, LedgerItem, State, raise_horizon}
 use Rattle.state_laws.specs.Staging.{IsStaged, IsCommit}
 use Rattle.cif_laws.proofs.lists.Membership.{nil-Contains, Contains-single}
 use Rattle.state_laws.proofs.examples.HorizonExamples.{f2_state, state_with, lapsed_entry, raised_state}

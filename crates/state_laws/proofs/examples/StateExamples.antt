@@ -1,13 +1,7 @@
 -- Worked examples of states and of their texts.
-use Rattle.std.proofs.Common.{◌≡◌, [], ◌∷◌, ◌++◌, length, refl, take, drop}
-use Rattle.std.specs.Prelude.{codes, slice_range}
-use Rattle.std.specs.List.{concat}
+use Rattle.cif_laws.proofs.Common.{◌≡◌, [], ◌∷◌, ◌++◌, length, refl, take, drop, codes, slice_range, concat, schedule_key, schedule_named, schedule_body}
+use Rattle.cif_laws.proofs.Common.{LedgerItem, ledger_item_of, put_with, body_end, State, dks_1, state_text, item_in, stamp_in, key_in}
 use Rattle.jiff_core.specs.Calendar.{days_from_civil, day_count, days_of_years, days_of_months}
-use Rattle.docker_model.specs.file.Change.{schedule_key, schedule_named, schedule_body}
-use Rattle.docker_model.specs.state.Stamp.{LedgerItem, ledger_item_of}
-use Rattle.docker_model.specs.state.Op.{put_with, body_end}
-use Rattle.docker_model.specs.state.State.{State}
-use Rattle.docker_model.specs.state.StateText.{dks_1, state_text, item_in, stamp_in, key_in}
 use Rattle.cif_laws.proofs.records.Builders.{f2, f2_basic, f2_schedule}
 
 -- the ledger item of the example file

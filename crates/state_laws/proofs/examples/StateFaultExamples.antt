@@ -1,16 +1,10 @@
 -- Worked examples of texts that aren't the text of a state.
-use Rattle.std.proofs.Common.{◌≡◌, ℕ, List, [], ◌∷◌, ◌++◌, take, drop, refl, inl, inr, lit≤, lit<, arith, ap, rules}
-use Rattle.std.specs.Prelude.{codes, slice_index}
-use Rattle.std.proofs.lemmas.List.Elements.{All-from_recursion}
-use Rattle.std.specs.Cmp.{tied_itself}
-use Rattle.docker_model.specs.file.Change.{Key, schedule_key, ScheduleKey}
-use Rattle.docker_model.specs.state.Order.{IsBelow}
-use Rattle.docker_model.specs.state.Stamp.{ledger_item_cmp}
-use Rattle.docker_model.specs.state.Op.{Entry, key_cmp}
-use Rattle.docker_model.specs.state.State.{State, IsValid}
-use Rattle.docker_model.specs.state.StateText.{dks_1, state_text, ledger_text, item_bytes, IsToldState, TellsOp, IsOpByte}
-use Rattle.docker_model.specs.state.StatePart.{IsTag, before_mark, before_item, in_entry, before_tag, before_op, before_line, IsStampHere}
-use Rattle.docker_model.specs.state.StateFault.{IsStateFault, bad_mark, bad_order, bad_tag, bad_body, too_short, too_long, has_tail}
+use Rattle.cif_laws.proofs.Common.{◌≡◌, ℕ, List, [], ◌∷◌, ◌++◌, take, drop, refl, inl, inr, lit≤, lit<, arith, ap, rules, codes, slice_index}
+use Rattle.cif_laws.proofs.Common.{All-from_recursion, tied_itself, Key, schedule_key, ScheduleKey, IsBelow, ledger_item_cmp, Entry, key_cmp, State, IsValid}
+use Rattle.cif_laws.proofs.Common.{dks_1, state_text, item_bytes, IsToldState, TellsOp, IsOpByte, IsTag, before_mark, before_item, in_entry, before_tag}
+use Rattle.cif_laws.proofs.Common.{before_op, before_line, IsStampHere, IsStateFault, bad_mark, bad_body, too_short, has_tail}
+use Rattle.docker_model.specs.state.StateText.{ledger_text}
+use Rattle.docker_model.specs.state.StateFault.{bad_order, bad_tag, too_long}
 use Rattle.cif_laws.proofs.records.Builders.{f2_basic, f2_origin, f2_terminus}
 use Rattle.state_laws.proofs.examples.StateExamples.{f2_item, f2_state, key_of_f2}
 use Rattle.cif_laws.proofs.schedules.WorkedSchedule.{f2_is_schedule}

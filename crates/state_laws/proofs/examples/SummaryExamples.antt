@@ -1,14 +1,8 @@
 -- The example state is valid, and is the summary of the example file.
-use Rattle.std.proofs.Common.{refl, lit≤, lit<, ◌≡◌, [], ◌∷◌, arith, ap, ◌∙◌, Contains, None, sym, subst, rules}
-use Rattle.std.specs.Prelude.{⊤, codes}
-use Rattle.std.proofs.lemmas.List.Elements.{All-from_recursion}
-use Rattle.std.specs.declared.cmp.Ordering.TheVariants.{Greater}
-use Rattle.std.specs.Cmp.{tied_itself}
-use Rattle.docker_model.specs.file.Change.{ScheduleKey, schedule_body, schedule_key, Key, schedule_named, Change, put, changes}
-use Rattle.docker_model.specs.state.Stamp.{LedgerItem, ledger_item_of}
-use Rattle.docker_model.specs.state.Op.{Entry, put_with, entry_cmp}
-use Rattle.docker_model.specs.state.State.{IsGoodItem, IsLedger, IsScheduleOf, IsGoodEntry, IsValid}
-use Rattle.docker_model.specs.state.Summary.{entry_of, IsKeptFile, IsEntryOf, IsSummary, IsGreatestEntryOf}
+use Rattle.cif_laws.proofs.Common.{refl, lit≤, lit<, ◌≡◌, [], ◌∷◌, arith, ap, ◌∙◌, Contains, None, sym, subst, rules, ⊤, codes, All-from_recursion, Greater}
+use Rattle.cif_laws.proofs.Common.{tied_itself, ScheduleKey, schedule_body, schedule_key, Key, schedule_named, Change, put, changes, LedgerItem, ledger_item_of}
+use Rattle.cif_laws.proofs.Common.{Entry, put_with, entry_cmp, IsGoodItem, IsLedger, IsScheduleOf, IsGoodEntry, IsValid, entry_of, IsKeptFile, IsEntryOf}
+use Rattle.cif_laws.proofs.Common.{IsSummary, IsGreatestEntryOf}
 use Rattle.cif_laws.proofs.orders.Orders.{entry_total}
 use Rattle.cif_laws.proofs.records.Builders.{f2_schedule, f2, f2_basic}
 use Rattle.state_laws.proofs.examples.StateExamples.{f2_item, key_of_f2, f2_state, item_of_f2}

@@ -1,18 +1,8 @@
 -- Lemmas on the test of whether a schedule calls at a place, and on the indexes made from the rows
 -- of a table.
-use Rattle.std.proofs.Common.{◌≡◌, ℕ, List, [], ◌∷◌, refl, ap, sym, ◌∙◌, subst, Some, Bool, true, Contains, arith}
-use Rattle.std.proofs.lemmas.Grind.{common_steps}
-use Rattle.std.proofs.Common.{rules}
-use Rattle.std.specs.Prelude.{◌↔◌, filter}
-use Rattle.std.specs.List.{flat_map, list_any}
-use Rattle.std.proofs.lemmas.Slice.Eq.{bytes_eq-Decides}
-use Rattle.docker_model.specs.records.Record.{kind_of, columns, is_location}
-use Rattle.docker_model.specs.file.Journey.{CallsAt, calls_at}
-use Rattle.docker_model.specs.file.Change.{Key, association_key, schedule_key, AssociationKey}
-use Rattle.docker_model.specs.file.Change.{ScheduleKey, Body, association_body, schedule_body}
-use Rattle.docker_model.specs.state.Order.{IsStrictlyAscending}
-use Rattle.docker_model.specs.state.Table.{Table}
-use Rattle.docker_model.specs.state.Row.{Row, AreRowsOf}
+use Rattle.cif_laws.proofs.Common.{◌≡◌, ℕ, List, [], ◌∷◌, refl, ap, sym, ◌∙◌, subst, Some, Bool, true, Contains, arith, common_steps, rules, ◌↔◌, filter}
+use Rattle.cif_laws.proofs.Common.{flat_map, list_any, bytes_eq-Decides, kind_of, columns, is_location, CallsAt, calls_at, Key, association_key, schedule_key}
+use Rattle.cif_laws.proofs.Common.{AssociationKey, ScheduleKey, Body, association_body, schedule_body, IsStrictlyAscending, Table, Row, AreRowsOf}
 use Rattle.state_laws.specs.Index.{CallingRow, LinkedRow, calling_cmp, linked_cmp, calls_of, links_of, IsCallingIndex, IsLinkedIndex}
 use Rattle.cif_laws.proofs.lists.Membership.{cons-Contains, cons-Contains-first, nil-Contains, Contains-flat_map}
 use Rattle.cif_laws.proofs.lists.Membership.{flat_map-Contains, single-Contains, Contains-map, map-Contains}

@@ -1,11 +1,7 @@
 -- The rows of an index for one place are a segment of the index. All rows in the segment are for
 -- the place, and all other rows are for other places.
-use Rattle.std.proofs.Common.{◌≡◌, ℕ, List, [], ◌∷◌, ◌++◌, map, refl, ap, ◌∙◌, Bool, true, false, cond, Contains, append-nil, rules}
-use Rattle.std.specs.Prelude.{filter}
-use Rattle.std.specs.Str.{bytes_eq}
-use Rattle.std.proofs.lemmas.List.Elements.{filter-append}
-use Rattle.std.proofs.lemmas.Slice.Eq.{bytes_eq-Decides}
-use Rattle.docker_model.specs.file.Change.{schedule_key, association_key}
+use Rattle.cif_laws.proofs.Common.{◌≡◌, ℕ, List, ◌∷◌, ◌++◌, map, refl, ap, ◌∙◌, Bool, true, false, cond, Contains, append-nil, rules, [], filter, bytes_eq}
+use Rattle.cif_laws.proofs.Common.{filter-append, bytes_eq-Decides, schedule_key, association_key}
 use Rattle.state_laws.specs.Index.{CallingRow, LinkedRow, calling_keys, linked_keys}
 use Rattle.cif_laws.proofs.lists.Membership.{cons-Contains, cons-Contains-first}
 
@@ -24,11 +20,11 @@ module _ {K : Type 0} (place : List ℕ) where
   none_kept : (rows : List (List ℕ × K)) → ((row : List ℕ × K) → Contains rows row → ¬ (row.0 ≡ place)) → filter test rows ≡ []
   unfolding test
   none_kept [] each = refl
-  none_kept (row ∷ rows) each = by (bytes_eq row.0 place) refl (none_kept rows (λ other among. each other (cons-Contains row rows other among)))
-    where
-      by : (b : Bool) → bytes_eq row.0 place ≡ b → filter test rows ≡ [] → cond b (row ∷ filter test rows) (filter test rows) ≡ []
-      by true h rest = absurd (each row (cons-Contains-first row rows) ((bytes_eq-Decides row.0 place).0 h))
-      by false h rest = rest
+  none_kept (row ∷ rows) each =
+      (elim (bytes_eq row.0 place) as (λ b. bytes_eq row.0 place ≡ b → cond b (row ∷ filter test rows) (filter test rows) ≡ []) [
+        | true ↦ λ h. absurd (each row (cons-Contains-first row rows) ((bytes_eq-Decides row.0 place).0 h))
+        | false ↦ λ h. none_kept rows (λ other among. each other (cons-Contains row rows other among))
+      ]) refl
 
   -- if all rows of a segment are for the place and no other row of the index is for it, filtering
   -- the index by the place gives the segment

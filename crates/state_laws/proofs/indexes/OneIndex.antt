@@ -1,22 +1,11 @@
 -- A live table has at most one index of calls and at most one index of associations. It has at most
 -- one list of rows for the schedules that call at a place, for the associations at a place, and for
 -- the schedules of a UID.
-use Rattle.std.proofs.Common.{◌≡◌, List, ℕ, map, sym, ◌∙◌, Contains, refl, subst, [], ◌∷◌, ap, Some}
-use Rattle.std.specs.Prelude.{◌↔◌, filter}
-use Rattle.std.specs.Str.{bytes_eq}
-use Rattle.std.specs.List.{AllByRecursion}
-use Rattle.std.specs.declared.cmp.Ordering.{Ordering}
-use Rattle.std.specs.declared.cmp.Ordering.TheVariants.{Less, Equal}
-use Rattle.std.specs.Ordering.{on, ordering_then}
-use Rattle.std.specs.Cmp.{IsTotalOrder, then_total, on_total, tied_itself}
-use Rattle.std.specs.Cmp.Lexicographic.{nat_list_cmp_total}
-use Rattle.std.proofs.lemmas.Slice.Eq.{bytes_eq-Decides}
-use Rattle.docker_model.specs.file.Change.{Key, association_key, schedule_key, Body, association_body, schedule_body}
-use Rattle.docker_model.specs.state.Order.{bytes_cmp, IsBelow, IsStrictlyAscending}
-use Rattle.docker_model.specs.state.Op.{key_cmp}
-use Rattle.docker_model.specs.state.Table.{Table}
-use Rattle.docker_model.specs.state.Row.{Row, AreInKeyOrder}
-use Rattle.state_laws.specs.Index.{CallingRow, calling_cmp, LinkedRow, linked_cmp, IsCallingIndex}
+use Rattle.cif_laws.proofs.Common.{◌≡◌, List, ℕ, map, sym, ◌∙◌, Contains, refl, subst, ◌∷◌, ap, Some, [], ◌↔◌, filter, bytes_eq, AllByRecursion, Ordering, Less}
+use Rattle.cif_laws.proofs.Common.{Equal, on, ordering_then, IsTotalOrder, then_total, on_total, tied_itself, nat_list_cmp_total, bytes_eq-Decides, Key}
+use Rattle.cif_laws.proofs.Common.{association_key, schedule_key, Body, association_body, schedule_body, bytes_cmp, IsBelow, IsStrictlyAscending, key_cmp}
+use Rattle.cif_laws.proofs.Common.{Table, Row, AreInKeyOrder}
+use Rattle.state_laws.specs.Index.{IsCalling, IsLinked, CallingRow, calling_cmp, LinkedRow, linked_cmp, IsCallingIndex}
 use Rattle.state_laws.specs.Index.{IsLinkedIndex, AreCalling, AreLinked, AreOfUid, calling_keys, linked_keys}
 use Rattle.cif_laws.proofs.orders.Ascending.{same_list, ascending_of, later_of}
 use Rattle.cif_laws.proofs.orders.Orders.{schedule_key_total, association_key_total, key_total}
@@ -104,28 +93,36 @@ order_of_keys (row ∷ rows) up = (above rows up.0, order_of_keys rows up.1)
     above (other ∷ others) all = (all.0, above others all.1)
 
 module _ (live : Table) (place : List ℕ) where
+  -- suppose that live rows have the keys that an index lists for a place. Then the index determines
+  -- which rows they are
+  by_index : {K V : Type 0} (wrap : K → Key) (put : V → Body) (Made : K → V → Type 0) (index : List (List ℕ × K)) (rows : List Row)
+      → ((k : K) → Contains index (place, k) ↔ ((v : V) × Made k v)) → ((k : K) (v : V) → Made k v → live (wrap k) ≡ Some (put v))
+      → map (λ (row : Row). row.0) rows ≡ map (λ (r : List ℕ × K). wrap r.1) (filter (λ (r : List ℕ × K). bytes_eq r.0 place) index)
+      → ((key : Key) (body : Body) → Contains rows (key, body) → live key ≡ Some body) → (key : Key) (body : Body)
+      → Contains rows (key, body) ↔ ((k : K) × (v : V) × (key ≡ wrap k) × (body ≡ put v) × Made k v)
+  by_index wrap put Made index rows members lives keys each key body = (
+    λ among.
+        let found = (found_at wrap place index key).0 (subst (λ ks. Contains ks key) keys (map-Contains _ _ _ among)) in
+        let made = (members found.0).0 found.1 in
+        let body_is : Some body ≡ Some (put made.0) = sym (each key body among) ∙ ap live (sym found.2) ∙ lives found.0 made.0 made.1 in
+        (found.0, made.0, sym found.2, (let e : body ≡ put made.0 = cc in e), made.1),
+    λ told.
+        let in_index : Contains index (place, told.0) = (members told.0).1 (told.1, told.4) in
+        let in_keys : Contains (map (λ (row : Row). row.0) rows) (wrap told.0) = subst (λ ks. Contains ks (wrap told.0)) (sym keys)
+        ((found_at wrap place index (wrap told.0)).1 (told.0, in_index, refl)) in
+        let row = Contains-map _ _ _ in_keys in
+        let body_is : Some row.0.1 ≡ Some (put told.1) = sym (each row.0.0 row.0.1 row.1) ∙ ap live row.2 ∙ lives told.0 told.1 told.4 in
+        let same : row.0.1 ≡ body = (let e : row.0.1 ≡ put told.1 = cc in e) ∙ sym told.3 in
+        subst (Contains rows) (λ i. ((row.2 ∙ sym told.2) i, same i)) row.1,
+  )
+
   -- if live rows have the keys that the index of calls lists for a place, they are the rows of the
   -- schedules that call at the place
   pub calling_by_index : (index : List CallingRow) (rows : List Row) → IsCallingIndex live index → map (λ (row : Row). row.0) rows ≡ calling_keys index place
       → ((key : Key) (body : Body) → Contains rows (key, body) → live key ≡ Some body) → AreCalling live place rows
   calling_by_index index rows is keys each = record {
     ascending = order_of_keys _ (subst (IsStrictlyAscending key_cmp) (sym keys) (at_place_ascends _ _ (λ a b below. below) _ _ (later_of _ _ is.ascending)));
-    members = λ key body. (
-      λ among.
-          let in_keys : Contains (calling_keys index place) key = subst (λ ks. Contains ks key) keys (map-Contains _ _ _ among) in
-          let found = (found_at _ _ _ _).0 in_keys in
-          let made = (is.members place found.0).0 found.1 in
-          let body_is : Some body ≡ Some (schedule_body made.0) = sym (each key body among) ∙ ap live (sym found.2) ∙ made.1.is_live in
-          (found.0, made.0, sym found.2, (let e : body ≡ schedule_body made.0 = cc in e), made.1),
-      λ told.
-          let in_index : Contains index (place, told.0) = (is.members place told.0).1 (told.1, told.4) in
-          let in_keys : Contains (map (λ (row : Row). row.0) rows) (schedule_key told.0) = subst (λ ks. Contains ks (schedule_key told.0)) (sym keys)
-          ((found_at _ _ _ _).1 (told.0, in_index, refl)) in
-          let row = Contains-map _ _ _ in_keys in
-          let body_is : Some row.0.1 ≡ Some (schedule_body told.1) = sym (each row.0.0 row.0.1 row.1) ∙ ap live row.2 ∙ told.4.is_live in
-          let same : row.0.1 ≡ body = (let e : row.0.1 ≡ schedule_body told.1 = cc in e) ∙ sym told.3 in
-          subst (Contains rows) (λ i. ((row.2 ∙ sym told.2) i, same i)) row.1,
-    );
+    members = by_index schedule_key schedule_body (IsCalling live place) index rows (is.members place) (λ k v made. made.is_live) keys each;
   }
 
   -- if live rows have the keys that the index of associations lists for a place, they are the rows
@@ -134,20 +131,5 @@ module _ (live : Table) (place : List ℕ) where
       → ((key : Key) (body : Body) → Contains rows (key, body) → live key ≡ Some body) → AreLinked live place rows
   linked_by_index index rows is keys each = record {
     ascending = order_of_keys _ (subst (IsStrictlyAscending key_cmp) (sym keys) (at_place_ascends _ _ (λ a b below. below) _ _ (later_of _ _ is.ascending)));
-    members = λ key body. (
-      λ among.
-          let in_keys : Contains (linked_keys index place) key = subst (λ ks. Contains ks key) keys (map-Contains _ _ _ among) in
-          let found = (found_at _ _ _ _).0 in_keys in
-          let made = (is.members place found.0).0 found.1 in
-          let body_is : Some body ≡ Some (association_body made.0) = sym (each key body among) ∙ ap live (sym found.2) ∙ made.1.is_live in
-          (found.0, made.0, sym found.2, (let e : body ≡ association_body made.0 = cc in e), made.1),
-      λ told.
-          let in_index : Contains index (place, told.0) = (is.members place told.0).1 (told.1, told.4) in
-          let in_keys : Contains (map (λ (row : Row). row.0) rows) (association_key told.0) = subst (λ ks. Contains ks (association_key told.0)) (sym keys)
-          ((found_at _ _ _ _).1 (told.0, in_index, refl)) in
-          let row = Contains-map _ _ _ in_keys in
-          let body_is : Some row.0.1 ≡ Some (association_body told.1) = sym (each row.0.0 row.0.1 row.1) ∙ ap live row.2 ∙ told.4.is_live in
-          let same : row.0.1 ≡ body = (let e : row.0.1 ≡ association_body told.1 = cc in e) ∙ sym told.3 in
-          subst (Contains rows) (λ i. ((row.2 ∙ sym told.2) i, same i)) row.1,
-    );
+    members = by_index association_key association_body (IsLinked live place) index rows (is.members place) (λ k v made. made.is_live) keys each;
   }

@@ -1,21 +1,14 @@
 -- The join is commutative, associative and, for valid states, idempotent. Two states have at most
 -- one join.
-use Rattle.std.proofs.Common.{◌++◌, ◌≡◌, ◌∙◌, sym, ◌≤◌, subst, arith, List, Contains, inl, inr, Some, None, rules}
-use Rattle.std.specs.Prelude.{max, Option}
-use Rattle.std.proofs.Math.Nat.{max_comm, le-max_left, le-max_right, max-eq_left}
-use Rattle.std.proofs.lemmas.List.Elements.{Contains-append_cases, Contains-append_left}
-use Rattle.docker_model.specs.file.Change.{Key}
-use Rattle.docker_model.specs.state.Order.{IsAtMost}
-use Rattle.docker_model.specs.state.Stamp.{FileStamp, LedgerItem, IsFloor, IsKept}
-use Rattle.docker_model.specs.state.Op.{Entry, entry_cmp}
-use Rattle.docker_model.specs.state.Lapse.{lapse_entry}
-use Rattle.docker_model.specs.state.State.{State, IsJoin, IsValid, IsGoodEntry}
+use Rattle.cif_laws.proofs.Common.{◌++◌, ◌≡◌, ◌∙◌, sym, ◌≤◌, subst, arith, List, Contains, inl, inr, rules, max, max_comm, le-max_left, le-max_right}
+use Rattle.cif_laws.proofs.Common.{max-eq_left, Contains-append_cases, Contains-append_left, Key, IsAtMost, LedgerItem, IsKept, Entry, entry_cmp, lapse_entry}
+use Rattle.cif_laws.proofs.Common.{State, IsJoin, IsValid, IsGoodEntry}
 use Rattle.cif_laws.proofs.lists.Membership.{same_members_turned, same_members_rotated, Contains-map, member_of}
 use Rattle.cif_laws.proofs.orders.AtMost.{at_most_itself}
 use Rattle.cif_laws.proofs.orders.Orders.{entry_total}
 use Rattle.state_laws.proofs.states.PlainTable.{one_per_key}
 use Rattle.state_laws.proofs.states.ReducedEntries.{IsReduced, reduced_twice}
-use Rattle.state_laws.proofs.states.ReducedMembers.{reduced_along, reduced_unique}
+use Rattle.state_laws.proofs.states.ReducedMembers.{reduced_along, reduced_unique, kept_floor}
 
 -- ---- `IsJoin` can be stated with `IsReduced`
 
@@ -66,7 +59,8 @@ pub join_idempotent : (a : State) → IsValid a → IsJoin a a a
 join_idempotent a valid = record {
   horizon = sym (max-eq_left {n = a.horizon} {m = a.horizon} (omega arith));
   floor = valid.ledger.floor;
-  is_floor = doubled valid.ledger.floor valid.ledger.is_floor;
+  is_floor = kept_floor a.ledger (a.ledger ++ a.ledger) valid.ledger.floor valid.ledger.is_floor (λ item among. one_of_two a.ledger item among)
+      (λ item among low. Contains-append_left a.ledger a.ledger item among);
   ledger_ascends = valid.ledger.ascending;
   ledger = λ item. (
     λ among. (Contains-append_left a.ledger a.ledger item among, member_of (λ i. IsKept valid.ledger.floor i.stamp) a.ledger item valid.ledger.kept among),
@@ -93,16 +87,6 @@ join_idempotent a valid = record {
   where
     stays : (key : Key) (entry : Entry) → Contains a.entries (key, entry) → lapse_entry a.horizon entry ≡ entry
     stays key entry among = search rules
-
-    doubled : (floor : Option FileStamp) → IsFloor a.ledger floor → IsFloor (a.ledger ++ a.ledger) floor
-    doubled None none = λ item among. none item (one_of_two a.ledger item among)
-    doubled (Some stamp) greatest = record {
-      full = greatest.full;
-      among = Contains-append_left a.ledger a.ledger greatest.full greatest.among;
-      is_full = greatest.is_full;
-      stamped = greatest.stamped;
-      greatest = λ item among. greatest.greatest item (one_of_two a.ledger item among);
-    }
 
     kept : (key : Key) (entry : Entry) → Contains a.entries (key, entry) → IsKept valid.ledger.floor entry.stamp.file
     kept key entry among =

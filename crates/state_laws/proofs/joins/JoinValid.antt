@@ -1,32 +1,22 @@
 -- The join of valid states is valid. A valid state is still valid after its horizon is raised. The
 -- floor of a valid state's ledger is the file stamp of its first full extract.
-use Rattle.std.proofs.Common.{List, Contains, subst, sym, Some, None, map, inl, inr, ◌⊎◌, ℕ, rules}
-use Rattle.std.proofs.Common.{◌++◌, ap, ◌≡◌, [], ◌∷◌, refl, ◌∙◌, Bool, true, false, cond, eqb-true, All}
-use Rattle.std.specs.Prelude.{Option, max, option_map, find, ◌==◌}
-use Rattle.std.proofs.lemmas.List.Elements.{All-contains, Contains-append_left, Contains-append_right, Contains-append_cases}
-use Rattle.docker_model.specs.records.Date.{IsDay, last_day}
-use Rattle.docker_model.specs.file.Change.{Key}
-use Rattle.docker_model.specs.state.Order.{IsAtMost}
-use Rattle.docker_model.specs.state.Stamp.{FileStamp, LedgerItem, file_stamp_cmp, IsFloor, IsKept, IsFull}
-use Rattle.docker_model.specs.state.Op.{Op, deleted, lapsed, put_with, Entry}
-use Rattle.docker_model.specs.state.Lapse.{lapse, lapse_entry, HasNotToLapse, lapse_entries}
-use Rattle.docker_model.specs.state.State.{IsOpOf, IsGoodEntry, State, IsJoin, IsValid, IsGoodItem, lapse_state, raise_horizon}
+use Rattle.cif_laws.proofs.Common.{List, Contains, subst, sym, Some, None, map, inl, inr, ℕ, rules, ◌++◌, ap, ◌≡◌, refl, ◌∙◌, true, false, eqb-true, All}
+use Rattle.cif_laws.proofs.Common.{Option, max, option_map, find, ◌==◌, All-contains, Contains-append_left, Contains-append_right, Contains-append_cases, IsDay}
+use Rattle.cif_laws.proofs.Common.{last_day, Key, IsAtMost, FileStamp, LedgerItem, file_stamp_cmp, IsFloor, IsKept, IsFull, Op, deleted, lapsed, put_with}
+use Rattle.cif_laws.proofs.Common.{Entry, lapse, lapse_entry, HasNotToLapse, lapse_entries, IsOpOf, IsGoodEntry, State, IsJoin, IsValid, IsGoodItem}
+use Rattle.cif_laws.proofs.Common.{lapse_state, raise_horizon, eq-eqb}
 use Rattle.cif_laws.proofs.orders.Orders.{file_stamp_total, exact_file_stamp}
-use Rattle.cif_laws.proofs.lists.Membership.{Contains-map, map-Contains, all_members, member_of, Contains-cons}
-use Rattle.cif_laws.proofs.lists.Membership.{cons-Contains, cons-Contains-first, nil-Contains}
-use Rattle.cif_laws.proofs.orders.AtMost.{at_most_itself, level}
+use Rattle.cif_laws.proofs.lists.Membership.{Contains-map, map-Contains, all_members, member_of}
+use Rattle.cif_laws.proofs.orders.AtMost.{level}
 use Rattle.state_laws.proofs.states.OneJoin.{floor_unique}
+use Rattle.state_laws.proofs.states.PlainTable.{Keyed}
+use Rattle.state_laws.proofs.states.ReducedEntries.{IsReduced}
+use Rattle.state_laws.proofs.states.ReducedMembers.{kept_floor}
+use Rattle.state_laws.proofs.joins.JoinLaws.{join_reduced}
+use Rattle.cif_laws.proofs.lists.FilteredMembers.{find_some, find_none}
 use Rattle.state_laws.proofs.states.Lapse.{has_lapsed, max_most}
 use Rattle.state_laws.proofs.states.LapsedGreatest.{lapsed_from}
 use Rattle.state_laws.proofs.states.KeptEntries.{lapse_ascends}
-
--- leaving out items below the floor leaves the floor unchanged
-pub kept_floor : (items ledger : List LedgerItem) (floor : Option FileStamp) → IsFloor items floor
-    → ((item : LedgerItem) → Contains ledger item → Contains items item) → ((item : LedgerItem) → Contains items item → IsKept floor item.stamp
-    → Contains ledger item)
-    → IsFloor ledger floor
-kept_floor items ledger None none from to = λ item among. none item (from item among)
-kept_floor items ledger (Some stamp) greatest from to = search (rules, at_most_itself, file_stamp_total)
 
 -- suppose that the joined ledger has each item of `ledger`, unless the item is below the floor.
 -- Then each file stamp in `ledger` that isn't below the floor is also in the joined ledger
@@ -50,35 +40,58 @@ pub good_lapses : (horizon : ℕ) (ledger : List LedgerItem) (key : Key) (entry 
     → IsGoodEntry ledger (key, lapse_entry horizon entry)
 good_lapses horizon ledger key entry good = record { key = good.key; stamp = good.stamp; op = op_lapses horizon key entry.op good.op }
 
--- the join of valid states is valid
-pub join_is_valid : (first second joined : State) → IsValid first → IsValid second → IsJoin first second joined → IsValid joined
-join_is_valid first second joined one two is = record {
-  horizon = subst IsDay (sym is.horizon) (max_most _ second.horizon _ one.horizon two.horizon);
+-- a reduction of good items and good entries is a valid state, if its horizon is a day number
+pub reduced_is_valid : (items : List LedgerItem) (entries : List Keyed) (state : State) (is : IsReduced items entries state) → IsDay state.horizon
+    → ((item : LedgerItem) → Contains items item → IsGoodItem item)
+    → ((key : Key) (entry : Entry) → Contains entries (key, entry) → IsKept is.floor entry.stamp.file → IsGoodEntry state.ledger (key, entry))
+    → IsValid state
+reduced_is_valid items entries state is day good_items good = record {
+  horizon = day;
   ledger = record {
-    each = all_members IsGoodItem _ (λ item among. elim (Contains-append_cases first.ledger second.ledger item ((is.ledger item).0 among).0) [
-      | inl here ↦ All-contains IsGoodItem first.ledger item one.ledger.each here
-      | inr here ↦ All-contains IsGoodItem second.ledger item two.ledger.each here
-    ]);
+    each = all_members IsGoodItem state.ledger (λ item among. good_items item ((is.ledger item).0 among).0);
     ascending = is.ledger_ascends;
     floor = is.floor;
-    is_floor = kept_floor (first.ledger ++ second.ledger) _ is.floor is.is_floor (λ item among. ((is.ledger item).0 among).0)
+    is_floor = kept_floor items state.ledger is.floor is.is_floor (λ item among. ((is.ledger item).0 among).0)
         (λ item among kept. (is.ledger item).1 (among, kept));
-    kept = all_members _ joined.ledger (λ item among. ((is.ledger item).0 among).1);
+    kept = all_members _ state.ledger (λ item among. ((is.ledger item).0 among).1);
   };
   entries = (
-    all_members _ joined.entries (λ entry among.
-        let told = (is.entries entry.0 entry.1).0 among in
-        subst (λ e. IsGoodEntry joined.ledger (entry.0, e)) told.3 (good_lapses _ joined.ledger _ told.0
-        (entry_is (entry.0, told.0) told.2 (Contains-append_cases first.entries second.entries (entry.0, told.0) told.1.among)))),
+    all_members _ state.entries (λ entry among.
+        let told = (is.of_keys entry.0 entry.1).0 among in
+        subst (λ e. IsGoodEntry state.ledger (entry.0, e)) told.3
+        (good_lapses state.horizon state.ledger entry.0 told.0 (good entry.0 told.0 told.1.among told.2))),
     is.entries_ascend,
   );
-  have_lapsed = all_members _ joined.entries (λ entry among.
-      let told = (is.entries entry.0 entry.1).0 among in
-      subst (HasNotToLapse joined.horizon) (ap (λ (e : Entry). e.op) told.3) (has_lapsed _ told.0.op));
+  have_lapsed = all_members _ state.entries (λ entry among.
+      let told = (is.of_keys entry.0 entry.1).0 among in
+      subst (HasNotToLapse state.horizon) (ap (λ (e : Entry). e.op) told.3) (has_lapsed state.horizon told.0.op));
 }
+
+-- the join of valid states is valid
+pub join_is_valid : (first second joined : State) → IsValid first → IsValid second → IsJoin first second joined → IsValid joined
+join_is_valid first second joined one two is =
+    reduced_is_valid (first.ledger ++ second.ledger) (first.entries ++ second.entries) joined reduced
+    (subst IsDay (sym is.horizon) (max_most _ second.horizon _ one.horizon two.horizon))
+    (λ item among. elim (Contains-append_cases first.ledger second.ledger item among) [
+      | inl here ↦ All-contains IsGoodItem first.ledger item one.ledger.each here
+      | inr here ↦ All-contains IsGoodItem second.ledger item two.ledger.each here
+    ])
+    (λ key entry among kept. elim (Contains-append_cases first.entries second.entries (key, entry) among) [
+      | inl here ↦
+          moved first.ledger (λ item inside keeps. (reduced.ledger item).1 (Contains-append_left first.ledger second.ledger item inside, keeps))
+          (key, entry) kept
+          (All-contains (IsGoodEntry first.ledger) first.entries (key, entry) one.entries.0 here)
+      | inr here ↦
+          moved second.ledger (λ item inside keeps. (reduced.ledger item).1 (Contains-append_right first.ledger second.ledger item inside, keeps))
+          (key, entry) kept
+          (All-contains (IsGoodEntry second.ledger) second.entries (key, entry) two.entries.0 here)
+    ])
   where
-    moved : (ledger : List LedgerItem) → ((item : LedgerItem) → Contains ledger item → IsKept is.floor item.stamp → Contains joined.ledger item)
-        → (entry : Key × Entry) → IsKept is.floor entry.1.stamp.file → IsGoodEntry ledger entry → IsGoodEntry joined.ledger entry
+    reduced : IsReduced (first.ledger ++ second.ledger) (first.entries ++ second.entries) joined
+    reduced = join_reduced first second joined is
+
+    moved : (ledger : List LedgerItem) → ((item : LedgerItem) → Contains ledger item → IsKept reduced.floor item.stamp → Contains joined.ledger item)
+        → (entry : Key × Entry) → IsKept reduced.floor entry.1.stamp.file → IsGoodEntry ledger entry → IsGoodEntry joined.ledger entry
     moved ledger to entry kept good = record {
       key = good.key;
       stamp = record {
@@ -88,15 +101,6 @@ join_is_valid first second joined one two is = record {
       };
       op = good.op;
     }
-
-    entry_is : (entry : Key × Entry) → IsKept is.floor entry.1.stamp.file → Contains first.entries entry ⊎ Contains second.entries entry
-        → IsGoodEntry joined.ledger entry
-    entry_is entry kept (inl here) =
-        moved first.ledger (λ item among keeps. (is.ledger item).1 (Contains-append_left first.ledger second.ledger item among, keeps)) entry kept
-        (All-contains (IsGoodEntry first.ledger) first.entries entry one.entries.0 here)
-    entry_is entry kept (inr here) =
-        moved second.ledger (λ item among keeps. (is.ledger item).1 (Contains-append_right first.ledger second.ledger item among, keeps)) entry kept
-        (All-contains (IsGoodEntry second.ledger) second.entries entry two.entries.0 here)
 
 -- if the horizon is a day number, a valid state is still valid after lapsing with this horizon
 pub lapsed_is_valid : (horizon : ℕ) (state : State) → IsDay horizon → IsValid state → IsValid (lapse_state horizon state)
@@ -138,17 +142,14 @@ FirstFull ledger (Some stamp) = (item : LedgerItem) × Contains ledger item × I
 
 first_full_is : (ledger : List LedgerItem) → FirstFull ledger (first_full ledger)
 unfolding FirstFull
-first_full_is [] = λ item among. absurd (nil-Contains item among)
-first_full_is (head ∷ ledger) = by (head.indicator == 70) refl (find (λ (item : LedgerItem). item.indicator == 70) ledger) (first_full_is ledger)
-  where
-    by : (b : Bool) → (head.indicator == 70) ≡ b → (found : Option LedgerItem) → FirstFull ledger (option_map (λ (item : LedgerItem). item.stamp) found)
-        → FirstFull (head ∷ ledger) (option_map (λ (item : LedgerItem). item.stamp) (cond b (Some head) found))
-    by true h found rest = (head, cons-Contains-first head ledger, eqb-true _ _ h, refl)
-    by false h None none = λ item among full. elim (Contains-cons head ledger item among) [
-      | inl same ↦ let bad : false ≡ true = sym h ∙ (λ i. (same i).indicator == 70) ∙ (λ i. full i == 70) in cc
-      | inr inside ↦ none item inside full
-    ]
-    by false h (Some item) rest = (rest.0, cons-Contains head ledger rest.0 rest.1, rest.2, rest.3)
+first_full_is ledger = (elim (find (λ (item : LedgerItem). item.indicator == 70) ledger) as
+    (λ found. find (λ (item : LedgerItem). item.indicator == 70) ledger ≡ found → FirstFull ledger (option_map (λ (item : LedgerItem). item.stamp) found)) [
+      | None ↦ λ h item among full.
+          let fails : (item.indicator == 70) ≡ false = find_none (λ (i : LedgerItem). i.indicator == 70) ledger item h among in
+          let passes : (item.indicator == 70) ≡ true = eq-eqb item.indicator 70 full in cc
+      | Some item ↦ λ h.
+          let told = find_some (λ (i : LedgerItem). i.indicator == 70) ledger item h in (item, told.0, eqb-true item.indicator 70 told.1, refl)
+    ]) refl
 
 -- the floor of a valid state's ledger is the file stamp of its first full extract
 pub floor_is_first_full : (state : State) → IsValid state → IsFloor state.ledger (first_full state.ledger)

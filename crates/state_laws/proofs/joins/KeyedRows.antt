@@ -1,17 +1,7 @@
 -- Rows of a table, each a key with a value. The keys may be of any type: `meant` converts them to
 -- keys of the definitions.
-use Rattle.std.proofs.Common.{◌≡◌, List, [], ◌∷◌, refl, sym, ◌∙◌, subst, Contains, Option, Some, None, arith, rules}
-use Rattle.std.proofs.lemmas.Grind.{common_steps}
-use Rattle.std.specs.Prelude.{find}
-use Rattle.std.specs.List.{AllByRecursion}
-use Rattle.std.specs.Option.{option_map}
-use Rattle.std.specs.declared.cmp.Ordering.{Ordering}
-use Rattle.std.specs.declared.cmp.Ordering.TheVariants.{Less, Equal, Greater}
-use Rattle.std.specs.Ordering.{is_eq}
-use Rattle.std.specs.Cmp.{IsTotalOrder, on_total}
-use Rattle.docker_model.specs.file.Change.{Key}
-use Rattle.docker_model.specs.state.Op.{key_cmp}
-use Rattle.docker_model.specs.state.Order.{IsStrictlyAscending}
+use Rattle.cif_laws.proofs.Common.{◌≡◌, List, [], ◌∷◌, refl, sym, ◌∙◌, subst, Contains, Option, Some, None, arith, rules, common_steps, find, AllByRecursion}
+use Rattle.cif_laws.proofs.Common.{option_map, Ordering, Less, Equal, Greater, is_eq, IsTotalOrder, on_total, Key, key_cmp, IsStrictlyAscending}
 use Rattle.cif_laws.proofs.orders.Orders.{key_total, exact_key}
 use Rattle.cif_laws.proofs.orders.Ascending.{same_list}
 use Rattle.cif_laws.proofs.lists.Membership.{cons-Contains, cons-Contains-first, nil-Contains, below_by_recursion}

@@ -1,7 +1,6 @@
 -- The laws of a function that joins two values, derived from the laws of a relation between two
 -- values and their join.
-use Rattle.std.specs.Prelude.{◌≡◌}
-use Rattle.std.proofs.Common.{rules}
+use Rattle.cif_laws.proofs.Common.{◌≡◌, rules}
 
 -- The laws of a function that joins two values: it is commutative, associative and idempotent, and
 -- the result is valid.

@@ -1,17 +1,12 @@
 -- Setting a horizon that isn't greater than the state's horizon leaves a valid state unchanged. A
 -- horizon may be set after a join instead of before the join. If the horizon is 0, no entry lapses.
-use Rattle.std.proofs.Common.{◌≡◌, ℕ, ◌≤◌, List, Contains, subst, ap, sym, ◌∙◌, rules}
-use Rattle.std.specs.Prelude.{Option, ◌↔◌, max}
-use Rattle.std.proofs.Math.Nat.{le-max_left, max-eq_left, max-zero, zero-max}
-use Rattle.std.proofs.lemmas.List.Elements.{recursion_from_All}
-use Rattle.docker_model.specs.file.Change.{Key}
-use Rattle.docker_model.specs.state.Order.{IsStrictlyAscending}
-use Rattle.docker_model.specs.state.Stamp.{FileStamp, LedgerItem, ledger_item_cmp, ledger_item_of}
-use Rattle.docker_model.specs.state.Op.{Op, Entry}
-use Rattle.docker_model.specs.state.Lapse.{lapse_entry, HasNotToLapse}
-use Rattle.docker_model.specs.state.State.{State, AreAscending, HaveLapsed, IsValid, IsJoin, lapse_state, raise_horizon}
+use Rattle.cif_laws.proofs.Common.{◌≡◌, ℕ, ◌≤◌, List, Contains, subst, ap, sym, ◌∙◌, rules, Option, ◌↔◌, max, le-max_left, max-eq_left, max-zero}
+use Rattle.cif_laws.proofs.Common.{recursion_from_All, Key, IsStrictlyAscending, FileStamp, LedgerItem, ledger_item_cmp, ledger_item_of, Op, Entry, lapse_entry}
+use Rattle.cif_laws.proofs.Common.{HasNotToLapse, State, AreAscending, HaveLapsed, IsValid, IsJoin, lapse_state, raise_horizon, IsKeptFile, IsSummary}
+use Rattle.cif_laws.proofs.Common.{IsGreatestEntryOf}
+use Rattle.std.proofs.Math.Nat.{zero-max}
 use Rattle.state_laws.specs.LawTerms.{without_horizon}
-use Rattle.docker_model.specs.state.Summary.{IsFloorOf, IsKeptFile, IsSummary, IsGreatestEntryOf}
+use Rattle.docker_model.specs.state.Summary.{IsFloorOf}
 use Rattle.state_laws.proofs.states.PlainTable.{Keyed}
 use Rattle.state_laws.proofs.states.Lapse.{entry_twice, lapse_none}
 use Rattle.state_laws.proofs.states.LapsedGreatest.{lapsed_from, lapsed_to}

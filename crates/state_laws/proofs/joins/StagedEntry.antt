@@ -1,14 +1,8 @@
 -- When one more entry is offered for staging, it is staged or left out. The first lemmas are about
 -- the entry that a state has at a key.
-use Rattle.std.proofs.Common.{◌≡◌, List, [], ◌∷◌, ◌++◌, refl, ap, sym, ◌∙◌, subst, inl, inr, Some, None, Contains, arith, rules}
-use Rattle.std.specs.Prelude.{Option, ◌↔◌, option_and_then}
-use Rattle.std.specs.declared.cmp.Ordering.TheVariants.{Less}
-use Rattle.std.proofs.lemmas.List.Elements.{Contains-append_left, Contains-append_right, Contains-append_cases}
-use Rattle.docker_model.specs.file.Change.{Key}
-use Rattle.docker_model.specs.state.Order.{IsBelow}
-use Rattle.docker_model.specs.state.Stamp.{FileStamp, IsFloor, IsKept}
-use Rattle.docker_model.specs.state.Op.{Entry, entry_cmp, key_cmp}
-use Rattle.docker_model.specs.state.State.{State, AreAscending, IsValid, IsJoin, raise_horizon, entry_at}
+use Rattle.cif_laws.proofs.Common.{◌≡◌, List, [], ◌∷◌, ◌++◌, refl, ap, sym, ◌∙◌, subst, inl, inr, Some, None, Contains, arith, rules, Option, ◌↔◌}
+use Rattle.cif_laws.proofs.Common.{option_and_then, Less, Contains-append_left, Contains-append_right, Contains-append_cases, Key, IsBelow, FileStamp, IsFloor}
+use Rattle.cif_laws.proofs.Common.{IsKept, Entry, entry_cmp, key_cmp, State, AreAscending, IsValid, IsJoin, raise_horizon, entry_at}
 use Rattle.state_laws.specs.LawTerms.{without_horizon}
 use Rattle.state_laws.specs.Staging.{IsGreaterThan, IsToStage, IsStaged, IsCommit}
 use Rattle.cif_laws.proofs.lists.BoolsAndOptions.{none_some}

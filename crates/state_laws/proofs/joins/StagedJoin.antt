@@ -1,36 +1,18 @@
 -- All entries of a received state are passed to an office for staging, and the office commits the
 -- staged entries. The result is the join of the office's state with the received state without the
 -- received horizon.
-use Rattle.std.proofs.Common.{◌≡◌, ℕ, List, ◌++◌, ap, sym, ◌∙◌, subst, inl, inr, Some, None, Contains, rules}
-use Rattle.std.specs.Prelude.{Option}
-use Rattle.std.specs.declared.cmp.Ordering.TheVariants.{Equal}
-use Rattle.std.specs.Ordering.{ordering_reverse, ordering_then, nat_cmp}
-use Rattle.std.specs.Cmp.{on_total}
-use Rattle.std.proofs.Math.Nat.{max-zero}
-use Rattle.std.proofs.lemmas.List.Elements.{All-contains, Contains-append_left, Contains-append_right, Contains-append_cases}
-use Rattle.docker_model.specs.file.Change.{Key}
-use Rattle.docker_model.specs.state.Order.{IsAtMost, IsBelow}
-use Rattle.docker_model.specs.state.Stamp.{FileStamp, LedgerItem, file_stamp_cmp, IsKept}
-use Rattle.docker_model.specs.state.Op.{Entry, entry_cmp, op_cmp}
-use Rattle.docker_model.specs.state.Lapse.{lapse_entry}
-use Rattle.docker_model.specs.state.State.{State, IsJoin, IsValid, IsGoodEntry, IsGreatestAmong}
+use Rattle.cif_laws.proofs.Common.{◌≡◌, ℕ, List, ◌++◌, ap, sym, ◌∙◌, subst, inl, inr, Contains, rules, Option, Equal, ordering_reverse, on_total, max-zero}
+use Rattle.cif_laws.proofs.Common.{All-contains, Contains-append_left, Contains-append_right, Contains-append_cases, Key, IsAtMost, IsBelow, FileStamp}
+use Rattle.cif_laws.proofs.Common.{LedgerItem, IsKept, Entry, entry_cmp, lapse_entry, State, IsJoin, IsValid, IsGoodEntry, IsGreatestAmong}
 use Rattle.state_laws.specs.LawTerms.{without_horizon}
 use Rattle.state_laws.specs.Staging.{HasNoEntryOf, IsStaged, IsPutIn, IsCommit}
-use Rattle.cif_laws.proofs.orders.Orders.{entry_total, file_stamp_total, key_total, ledger_item_total}
+use Rattle.cif_laws.proofs.orders.Orders.{entry_total, key_total, ledger_item_total}
 use Rattle.cif_laws.proofs.orders.Ascending.{same_list}
 use Rattle.state_laws.proofs.states.PlainTable.{find_in, one_per_key}
-use Rattle.cif_laws.proofs.orders.AtMost.{at_most_trans, at_most_itself, at_most_below, at_most_or, level}
+use Rattle.cif_laws.proofs.orders.AtMost.{at_most_itself, at_most_below, at_most_or, level}
 use Rattle.state_laws.proofs.states.OneJoin.{floor_unique}
 use Rattle.state_laws.proofs.states.ExactEntries.{exact_entry}
-
--- if an entry is at most another entry, its file stamp is at most the other entry's file stamp
-stamp_up : (low high : Entry) → IsAtMost entry_cmp low high → IsAtMost file_stamp_cmp low.stamp.file high.stamp.file
-stamp_up low high up greater = up (λ i. ordering_then (ordering_then (greater i) (nat_cmp low.stamp.number high.stamp.number)) (op_cmp low.op high.op))
-
--- if the lower of two entries isn't below the floor, the greater entry isn't below the floor either
-pub kept_up : (floor : Option FileStamp) (low high : Entry) → IsAtMost entry_cmp low high → IsKept floor low.stamp.file → IsKept floor high.stamp.file
-kept_up None low high up kept = tt
-kept_up (Some floor) low high up kept = at_most_trans file_stamp_total floor low.stamp.file high.stamp.file kept (stamp_up low high up)
+use Rattle.state_laws.proofs.states.KeptEntries.{kept_up}
 
 module _ (own received : State) (valid : IsValid own) (valid_too : IsValid received) (staged : List (Key × Entry)) (after : State)
     (commit : IsCommit own received.ledger staged after)
@@ -168,11 +150,10 @@ one_commit own items staged a b one two =
     )) in
     λ i. record { horizon = horizons i; ledger = ledgers i; entries = entries i }
   where
-    Told : Key → Entry → Option FileStamp → ℕ → Type 0
-    Told key entry floor horizon = (before : Entry) × IsPutIn own staged floor key before × (lapse_entry horizon before ≡ entry)
-
-    moved : (key : Key) (entry : Entry) (f g : Option FileStamp) (m n : ℕ) → f ≡ g → m ≡ n → Told key entry f m → Told key entry g n
-    moved key entry f g m n floors horizons told = subst (λ h. Told key entry g h) horizons (subst (λ floor. Told key entry floor m) floors told)
+    moved : (key : Key) (entry : Entry) (f g : Option FileStamp) (m n : ℕ) → f ≡ g → m ≡ n
+        → (before : Entry) × IsPutIn own staged f key before × (lapse_entry m before ≡ entry)
+        → (before : Entry) × IsPutIn own staged g key before × (lapse_entry n before ≡ entry)
+    moved key entry f g m n floors horizons told = search rules
 
 -- the offered entries uniquely determine the staged entries
 pub one_staged : (own : State) (floor : Option FileStamp) (offered a b : List (Key × Entry)) → IsStaged own floor offered a → IsStaged own floor offered b

@@ -1,15 +1,8 @@
 -- A state with only the received ledger items and the staged entries is valid. The join of an
 -- office's own state with this state equals the state after the commit.
-use Rattle.std.proofs.Common.{◌≡◌, List, ◌++◌, ◌∙◌, ap, subst, arith, inl, inr, Contains}
-use Rattle.std.specs.Prelude.{Option}
-use Rattle.std.specs.Ordering.{ordering_reverse}
-use Rattle.std.proofs.Math.Nat.{max-zero}
-use Rattle.std.proofs.lemmas.List.Elements.{All-contains, Contains-append_left, Contains-append_right, Contains-append_cases}
-use Rattle.docker_model.specs.file.Change.{Key}
-use Rattle.docker_model.specs.state.Order.{IsAtMost}
-use Rattle.docker_model.specs.state.Stamp.{FileStamp, IsFloor, IsKept}
-use Rattle.docker_model.specs.state.Op.{Entry, entry_cmp}
-use Rattle.docker_model.specs.state.State.{State, AreAscending, IsValid, IsGoodEntry, IsJoin, IsGreatestAmong}
+use Rattle.cif_laws.proofs.Common.{◌≡◌, List, ◌++◌, ◌∙◌, ap, subst, arith, inl, inr, Contains, Option, ordering_reverse, max-zero, All-contains}
+use Rattle.cif_laws.proofs.Common.{Contains-append_left, Contains-append_right, Contains-append_cases, Key, IsAtMost, FileStamp, IsFloor, IsKept, Entry}
+use Rattle.cif_laws.proofs.Common.{entry_cmp, State, AreAscending, IsValid, IsGoodEntry, IsJoin, IsGreatestAmong}
 use Rattle.state_laws.specs.Staging.{IsStaged, IsPutIn, IsCommit, staged_state}
 use Rattle.cif_laws.proofs.lists.Membership.{all_members}
 use Rattle.cif_laws.proofs.orders.Orders.{entry_total}

@@ -1,16 +1,8 @@
 -- If two well-formed entries for the same key tie in the order of entries, they are equal.
-use Rattle.std.proofs.Common.{◌≡◌, ℕ, List, [], ◌∷◌, length, All, refl, ap, sym, ◌∙◌, arith, length-append, rules}
-use Rattle.std.specs.List.{concat}
-use Rattle.std.specs.declared.cmp.Ordering.TheVariants.{Equal}
-use Rattle.std.specs.Ordering.{nat_cmp}
-use Rattle.std.proofs.lemmas.List.Elements.{All-head, All-tail}
-use Rattle.std.proofs.lemmas.Map.Lookups.{exact_bytes}
-use Rattle.docker_model.specs.records.Record.{IsRecord}
-use Rattle.docker_model.specs.file.Change.{Key, tiploc_key, association_key, schedule_key, Body, tiploc_body, association_body, schedule_body}
-use Rattle.docker_model.specs.state.Order.{bytes_cmp}
-use Rattle.docker_model.specs.state.Stamp.{stamp_cmp}
-use Rattle.docker_model.specs.state.Op.{Op, deleted, lapsed, put_with, Entry, entry_cmp, op_cmp, body_end, body_bytes, body_tag}
-use Rattle.docker_model.specs.state.State.{IsBodyOf, IsOpOf}
+use Rattle.cif_laws.proofs.Common.{◌≡◌, ℕ, List, ◌∷◌, length, All, refl, ap, sym, ◌∙◌, arith, length-append, rules, [], concat, Equal, nat_cmp, All-head}
+use Rattle.cif_laws.proofs.Common.{All-tail, exact_bytes, IsRecord, Key, tiploc_key, association_key, schedule_key, Body, tiploc_body, association_body}
+use Rattle.cif_laws.proofs.Common.{schedule_body, bytes_cmp, stamp_cmp, Op, deleted, lapsed, put_with, Entry, entry_cmp, op_cmp, body_end, IsBodyOf, IsOpOf}
+use Rattle.docker_model.specs.state.Op.{body_bytes, body_tag}
 use Rattle.cif_laws.proofs.orders.Orders.{then_equal, exact_stamp}
 use Rattle.cif_laws.proofs.lists.Fronts.{same_front}
 
@@ -31,34 +23,18 @@ same_lines (x ∷ xs) (y ∷ ys) good_x good_y same =
 -- if two well-formed bodies of one key have the same bytes, they are equal
 same_body : (key : Key) (a b : Body) → IsBodyOf key a → IsBodyOf key b → body_bytes a ≡ body_bytes b → a ≡ b
 same_body (tiploc_key code) (tiploc_body a) (tiploc_body b) good_a good_b same = ap tiploc_body same
-same_body (tiploc_key code) (tiploc_body a) (association_body b) good_a good_b same = absurd good_b
-same_body (tiploc_key code) (tiploc_body a) (schedule_body b) good_a good_b same = absurd good_b
-same_body (tiploc_key code) (association_body a) b good_a good_b same = absurd good_a
-same_body (tiploc_key code) (schedule_body a) b good_a good_b same = absurd good_a
 same_body (association_key key) (association_body a) (association_body b) good_a good_b same = ap association_body same
-same_body (association_key key) (association_body a) (tiploc_body b) good_a good_b same = absurd good_b
-same_body (association_key key) (association_body a) (schedule_body b) good_a good_b same = absurd good_b
-same_body (association_key key) (tiploc_body a) b good_a good_b same = absurd good_a
-same_body (association_key key) (schedule_body a) b good_a good_b same = absurd good_a
 same_body (schedule_key key) (schedule_body a) (schedule_body b) good_a good_b same = search (rules, same_lines)
-same_body (schedule_key key) (schedule_body a) (tiploc_body b) good_a good_b same = absurd good_b
-same_body (schedule_key key) (schedule_body a) (association_body b) good_a good_b same = absurd good_b
-same_body (schedule_key key) (tiploc_body a) b good_a good_b same = absurd good_a
-same_body (schedule_key key) (association_body a) b good_a good_b same = absurd good_a
+same_body key a b good_a good_b same = search rules
 
 same_op : (key : Key) (a b : Op) → IsOpOf key a → IsOpOf key b → op_cmp a b ≡ Equal → a ≡ b
-same_op key deleted deleted good_a good_b tied = refl
-same_op key deleted lapsed good_a good_b tied = cc
-same_op key deleted (put_with b) good_a good_b tied = cc
-same_op key lapsed deleted good_a good_b tied = cc
-same_op key lapsed lapsed good_a good_b tied = refl
-same_op key lapsed (put_with b) good_a good_b tied = cc
-same_op key (put_with a) deleted good_a good_b tied = cc
-same_op key (put_with a) lapsed good_a good_b tied = cc
+same_op key deleted b good_a good_b tied = search rules
+same_op key lapsed b good_a good_b tied = search rules
 same_op key (put_with a) (put_with b) good_a good_b tied =
     let behind = then_equal (nat_cmp (body_end a) (body_end b)) _ tied in
     let parts = then_equal (bytes_cmp (body_bytes a) (body_bytes b)) (nat_cmp (body_tag a) (body_tag b)) behind.1 in
     ap put_with (same_body key a b good_a good_b (exact_bytes (body_bytes a) (body_bytes b) parts.0))
+same_op key (put_with a) b good_a good_b tied = cc
 
 -- if two well-formed entries for the same key tie in the order of entries, they are equal
 pub exact_entry : (key : Key) (a b : Entry) → IsOpOf key a.op → IsOpOf key b.op → entry_cmp a b ≡ Equal → a ≡ b

@@ -1,11 +1,7 @@
 -- The bodies in the live table of a valid state are well formed. Each of these bodies belongs to an
 -- entry of the state.
-use Rattle.std.proofs.Common.{◌≡◌, refl, ap, sym, ◌∙◌, subst, Some, None, Contains, rules}
-use Rattle.std.specs.Prelude.{Option, find}
-use Rattle.std.specs.Ordering.{is_eq}
-use Rattle.docker_model.specs.file.Change.{Key, Body}
-use Rattle.docker_model.specs.state.Op.{Op, deleted, lapsed, put_with, Entry, body_of, key_cmp}
-use Rattle.docker_model.specs.state.State.{State, IsValid, live_table, HasGoodBodies}
+use Rattle.cif_laws.proofs.Common.{◌≡◌, refl, ap, sym, ◌∙◌, subst, Some, None, Contains, rules, Option, find, is_eq, Key, Body, Op, deleted, lapsed, put_with}
+use Rattle.cif_laws.proofs.Common.{Entry, body_of, key_cmp, State, IsValid, live_table, HasGoodBodies}
 use Rattle.state_laws.proofs.states.PlainTable.{Keyed, live_at, live_none}
 use Rattle.cif_laws.proofs.orders.Orders.{same_key}
 use Rattle.cif_laws.proofs.lists.FilteredMembers.{find_some}

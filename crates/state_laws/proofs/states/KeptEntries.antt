@@ -1,20 +1,12 @@
 -- Lemmas on how a floor and a horizon affect entries. If an entry isn't below the floor, no greater
 -- entry is below the floor. Lapsing preserves the key order of entries.
-use Rattle.std.proofs.Common.{◌≡◌, ℕ, List, [], ◌∷◌, subst, inl, inr, ◌⊎◌, refl, sym, ◌∙◌, Some, None, rules}
-use Rattle.std.specs.Prelude.{Option}
-use Rattle.std.specs.List.{AllByRecursion}
-use Rattle.std.specs.declared.cmp.Ordering.{Ordering}
-use Rattle.std.specs.declared.cmp.Ordering.TheVariants.{Less, Equal, Greater}
-use Rattle.std.specs.Ordering.{ordering_then, on}
-use Rattle.docker_model.specs.state.Order.{IsBelow, IsAtMost}
-use Rattle.docker_model.specs.state.Stamp.{FileStamp, stamp_cmp, IsKept}
-use Rattle.docker_model.specs.state.Op.{key_cmp, Op, deleted, lapsed, put_with, op_cmp, Entry, entry_cmp}
-use Rattle.docker_model.specs.state.Lapse.{lapse, lapse_entry, lapse_keyed, lapse_entries, HasNotToLapse}
-use Rattle.docker_model.specs.state.State.{AreAscending}
+use Rattle.cif_laws.proofs.Common.{◌≡◌, ℕ, List, ◌∷◌, subst, inl, inr, ◌⊎◌, refl, sym, ◌∙◌, Some, None, rules, [], Option, AllByRecursion, Equal, on, IsBelow}
+use Rattle.cif_laws.proofs.Common.{IsAtMost, FileStamp, stamp_cmp, IsKept, key_cmp, Op, deleted, lapsed, put_with, op_cmp, Entry, entry_cmp, lapse, lapse_entry}
+use Rattle.cif_laws.proofs.Common.{lapse_keyed, lapse_entries, HasNotToLapse, AreAscending}
 use Rattle.cif_laws.proofs.orders.Orders.{file_stamp_total, exact_stamp, then_equal, op_total, entry_total}
 use Rattle.cif_laws.proofs.orders.AtMost.{at_most_trans, level, at_most_itself}
 use Rattle.state_laws.proofs.states.PlainTable.{Keyed}
-use Rattle.state_laws.proofs.states.Lapse.{below_or, put_lapses, entry_stays}
+use Rattle.state_laws.proofs.states.Lapse.{below_or, put_lapses, entry_stays, then_at_most}
 
 -- if the lower of two entries isn't below the floor, the greater entry isn't below the floor either
 pub kept_up : (floor : Option FileStamp) (low high : Entry) → IsAtMost entry_cmp low high → IsKept floor low.stamp.file → IsKept floor high.stamp.file
@@ -29,18 +21,12 @@ op_lapse_below horizon (put_with body) = search (rules, op_total)
 
 -- an entry is never greater after lapsing than before
 pub lapse_below : (horizon : ℕ) (entry : Entry) → IsAtMost entry_cmp (lapse_entry horizon entry) entry
-lapse_below horizon entry = by (stamp_cmp entry.stamp entry.stamp) (at_most_itself entry_total entry)
-  where
-    by : (o : Ordering) → ¬ (ordering_then o (op_cmp entry.op entry.op) ≡ Greater) → ¬ (ordering_then o (op_cmp (lapse horizon entry.op) entry.op) ≡ Greater)
-    by Less told = told
-    by Equal told = op_lapse_below horizon entry.op
-    by Greater told = told
+lapse_below horizon entry =
+    then_at_most (stamp_cmp entry.stamp entry.stamp) (op_cmp entry.op entry.op) _ (λ told. op_lapse_below horizon entry.op) (at_most_itself entry_total entry)
 
 -- an op that ties with `lapsed` is `lapsed`
 tied_lapsed : (op : Op) → op_cmp op lapsed ≡ Equal → op ≡ lapsed
-tied_lapsed deleted tied = cc
-tied_lapsed lapsed tied = refl
-tied_lapsed (put_with body) tied = cc
+tied_lapsed = search rules
 
 -- if two entries tie in the order of entries, and one of them has lapsed, they are equal
 pub level_lapsed : (first second : Entry) → second.op ≡ lapsed → IsAtMost entry_cmp first second → IsAtMost entry_cmp second first → first ≡ second

@@ -1,18 +1,8 @@
 -- Lapsing is monotone: it preserves the order of ops and entries. Lapsing is idempotent. Lapsing
 -- with one horizon and then with another equals lapsing with the greater of the two horizons.
-use Rattle.std.proofs.Common.{◌≡◌, ℕ, ◌<◌, ◌≤◌, ◌⊎◌, cond, arith, rules}
-use Rattle.std.proofs.lemmas.Grind.{common_steps}
-use Rattle.std.specs.Prelude.{max}
-use Rattle.std.specs.declared.cmp.Ordering.{Ordering}
-use Rattle.std.specs.declared.cmp.Ordering.TheVariants.{Less, Equal, Greater}
-use Rattle.std.specs.Ordering.{ordering_then}
-use Rattle.std.proofs.lemmas.Bool.{lt-ltb, le-ltb, ltb-true, ltb-false}
-use Rattle.std.proofs.Math.Nat.{le-max_left, le-max_right}
-use Rattle.docker_model.specs.file.Change.{Body}
-use Rattle.docker_model.specs.state.Order.{IsAtMost}
-use Rattle.docker_model.specs.state.Stamp.{stamp_cmp}
-use Rattle.docker_model.specs.state.Op.{body_end, Op, lapsed, put_with, op_cmp, Entry, entry_cmp}
-use Rattle.docker_model.specs.state.Lapse.{lapse, HasNotToLapse, lapse_entry}
+use Rattle.cif_laws.proofs.Common.{◌≡◌, ℕ, ◌<◌, ◌≤◌, ◌⊎◌, cond, arith, rules, common_steps, max, Ordering, Greater, ordering_then, lt-ltb, le-ltb, ltb-true}
+use Rattle.cif_laws.proofs.Common.{ltb-false, le-max_left, le-max_right, Body, IsAtMost, stamp_cmp, body_end, Op, lapsed, put_with, op_cmp, Entry, entry_cmp}
+use Rattle.cif_laws.proofs.Common.{lapse, HasNotToLapse, lapse_entry}
 
 -- ---- a put lapses or stays
 
@@ -57,14 +47,13 @@ lapse_twice = grind (common_steps, arith, below_or, le-max_right, put_lapses, le
 pub lapse_keeps_order : (horizon : ℕ) (a b : Op) → IsAtMost op_cmp a b → IsAtMost op_cmp (lapse horizon a) (lapse horizon b)
 lapse_keeps_order = search (rules, below_or, put_lapses, put_stays)
 
+-- if `q` isn't `Greater` unless `p` is, the same is true after another comparison
+pub then_at_most : (first p q : Ordering) → (¬ (p ≡ Greater) → ¬ (q ≡ Greater)) → ¬ (ordering_then first p ≡ Greater) → ¬ (ordering_then first q ≡ Greater)
+then_at_most = search rules
+
 -- lapsing preserves the order of entries
 pub lapse_entry_keeps_order : (horizon : ℕ) (a b : Entry) → IsAtMost entry_cmp a b → IsAtMost entry_cmp (lapse_entry horizon a) (lapse_entry horizon b)
-lapse_entry_keeps_order horizon a b most = by (stamp_cmp a.stamp b.stamp) most
-  where
-    by : (o : Ordering) → ¬ (ordering_then o (op_cmp a.op b.op) ≡ Greater) → ¬ (ordering_then o (op_cmp (lapse horizon a.op) (lapse horizon b.op)) ≡ Greater)
-    by Less told = told
-    by Equal told = lapse_keeps_order horizon a.op b.op told
-    by Greater told = told
+lapse_entry_keeps_order horizon a b most = then_at_most (stamp_cmp a.stamp b.stamp) _ _ (lapse_keeps_order horizon a.op b.op) most
 
 -- ---- the laws for lapsing an op also hold for lapsing an entry
 

@@ -1,11 +1,7 @@
 -- Lapsing commutes with taking the greatest entry: after lapsing, the greatest entry for a key is
 -- still the greatest of the key's entries.
-use Rattle.std.proofs.Common.{◌≡◌, ℕ, List, map, Contains, subst, ap}
-use Rattle.docker_model.specs.file.Change.{Key}
-use Rattle.docker_model.specs.state.Order.{IsAtMost}
-use Rattle.docker_model.specs.state.Op.{Op, op_cmp, Entry, entry_cmp}
-use Rattle.docker_model.specs.state.Lapse.{lapse, lapse_entry, lapse_keyed, lapse_entries}
-use Rattle.docker_model.specs.state.State.{IsGreatestAmong}
+use Rattle.cif_laws.proofs.Common.{◌≡◌, ℕ, List, map, Contains, subst, ap, Key, IsAtMost, Op, op_cmp, Entry, entry_cmp, lapse, lapse_entry, lapse_keyed}
+use Rattle.cif_laws.proofs.Common.{lapse_entries, IsGreatestAmong}
 use Rattle.cif_laws.proofs.lists.Membership.{Contains-map, map-Contains}
 use Rattle.state_laws.proofs.states.Lapse.{lapse_keeps_order, lapse_entry_keeps_order}
 

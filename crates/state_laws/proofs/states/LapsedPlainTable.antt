@@ -1,16 +1,10 @@
 -- Suppose that the files of a set have distinct moments, and that the bodies which ended before a
 -- horizon are dropped from their plain table. The result is the live table of the files' summary
 -- under this horizon.
-use Rattle.std.proofs.Common.{◌≡◌, ℕ, List, Contains, inl, inr, ◌⊎◌, ap, sym, ◌∙◌, rules}
-use Rattle.std.specs.Prelude.{fold, option_and_then}
-use Rattle.docker_model.specs.file.Change.{Key}
-use Rattle.docker_model.specs.state.Order.{IsBelow, IsAtMost}
-use Rattle.docker_model.specs.state.Stamp.{stamp_cmp}
-use Rattle.docker_model.specs.state.Op.{Entry, entry_cmp, body_of}
-use Rattle.docker_model.specs.state.Table.{Table, empty_table, from_last_full, IsPlainTable}
-use Rattle.docker_model.specs.state.Lapse.{lapse_entry, unlapsed, lapse_table}
-use Rattle.docker_model.specs.state.State.{State, live_table}
-use Rattle.docker_model.specs.state.Summary.{IsSummary, IsGreatestEntryOf}
+use Rattle.cif_laws.proofs.Common.{◌≡◌, ℕ, List, Contains, inl, inr, ◌⊎◌, ap, sym, ◌∙◌, rules, fold, option_and_then, Key, IsBelow, IsAtMost, stamp_cmp, Entry}
+use Rattle.cif_laws.proofs.Common.{entry_cmp, body_of, Table, empty_table, from_last_full, IsPlainTable, lapse_entry, lapse_table, State, live_table, IsSummary}
+use Rattle.cif_laws.proofs.Common.{IsGreatestEntryOf}
+use Rattle.docker_model.specs.state.Lapse.{unlapsed}
 use Rattle.cif_laws.proofs.orders.Orders.{entry_total}
 use Rattle.state_laws.proofs.states.PlainTable.{Keyed, Found, NotFound, find_in, one_per_key, entries_along, step, NoneThere, LastThere}
 use Rattle.state_laws.proofs.states.PlainTable.{last_there, after_files_is, entries_ascend, suffix_ascends, in_entries, out_entries}

@@ -1,14 +1,8 @@
 -- A set of files with distinct moments can be put in the order of moments, so it has a plain table.
 -- Without a horizon, the plain table is the live table of the set's summary.
-use Rattle.std.proofs.Common.{◌≡◌, ℕ, List, [], ◌∷◌, Contains, subst, inl, inr, ◌⊎◌, refl, ap, sym, ◌∙◌, arith, rules}
-use Rattle.std.specs.List.{AllByRecursion}
-use Rattle.std.specs.declared.cmp.Ordering.{Ordering}
-use Rattle.std.specs.declared.cmp.Ordering.TheVariants.{Less, Equal, Greater}
-use Rattle.std.specs.Ordering.{on, ordering_reverse}
-use Rattle.docker_model.specs.state.Order.{IsBelow, IsStrictlyAscending}
-use Rattle.docker_model.specs.state.Stamp.{moment_of, moment_cmp}
+use Rattle.cif_laws.proofs.Common.{◌≡◌, ℕ, List, ◌∷◌, Contains, subst, inl, inr, ◌⊎◌, refl, ap, sym, ◌∙◌, arith, rules, [], AllByRecursion, Ordering, Less}
+use Rattle.cif_laws.proofs.Common.{Equal, Greater, on, ordering_reverse, IsBelow, IsStrictlyAscending, moment_of, moment_cmp, HaveDistinctMoments}
 use Rattle.docker_model.specs.state.Table.{IsInMomentOrder}
-use Rattle.docker_model.specs.state.Summary.{HaveDistinctMoments}
 use Rattle.cif_laws.proofs.orders.Orders.{moment_total, exact_moment}
 use Rattle.cif_laws.proofs.lists.Membership.{Contains-cons, cons-Contains, cons-Contains-first, nil-Contains}
 
@@ -88,10 +82,8 @@ insert_puts file (first ∷ rest) distinct =
 -- files with distinct moments can be put in moment order
 pub moment_order : (files : List File) → HaveDistinctMoments files → (ordered : List File) × IsInMomentOrder files ordered
 moment_order [] distinct = ([], record { same = λ file. (λ among. among, λ among. among); ascending = tt })
-moment_order (file ∷ files) distinct = put_in (moment_order files (search (rules, cons-Contains)))
-  where
-    put_in : (ordered : List File) × IsInMomentOrder files ordered → (ordered : List File) × IsInMomentOrder (file ∷ files) ordered
-    put_in told = (
+moment_order (file ∷ files) distinct =
+    let told = moment_order files (search (rules, cons-Contains)) in (
       insert_file file told.0,
       record {
         same = λ other. (

@@ -1,10 +1,7 @@
 -- A set of files has at most one summary, two states have at most one join, and a place has at most
 -- one docker on a day.
-use Rattle.std.proofs.Common.{◌≡◌, List, refl, ap, subst, Contains, Some, None}
-use Rattle.std.specs.Prelude.{◌↔◌, Option}
-use Rattle.docker_model.specs.state.Order.{IsAtMost}
-use Rattle.docker_model.specs.state.Stamp.{FileStamp, LedgerItem, file_stamp_cmp, IsFloor}
-use Rattle.docker_model.specs.docker.DockerLine.{DockerLine}
+use Rattle.cif_laws.proofs.Common.{◌≡◌, List, refl, ap, subst, Contains, Some, None, ◌↔◌, Option, IsAtMost, FileStamp, LedgerItem, file_stamp_cmp, IsFloor}
+use Rattle.cif_laws.proofs.Common.{DockerLine}
 use Rattle.docker_model.specs.docker.DockerList.{Lists}
 use Rattle.cif_laws.proofs.orders.Orders.{file_stamp_total, exact_file_stamp, docker_line_total}
 use Rattle.cif_laws.proofs.orders.Ascending.{same_list}

@@ -1,10 +1,7 @@
 -- A set of files with distinct moments has exactly one plain table.
+use Rattle.cif_laws.proofs.Common.{◌≡◌, ℕ, List, sym, ◌∙◌, refl, on_total, moment_of, Table, IsPlainTable, after_files, empty_table, from_last_full}
+use Rattle.cif_laws.proofs.Common.{HaveDistinctMoments}
 use mathlib.Core.Path.{fun_ext}
-use Rattle.std.proofs.Common.{◌≡◌, ℕ, List, sym, ◌∙◌, refl}
-use Rattle.std.specs.Cmp.{on_total}
-use Rattle.docker_model.specs.state.Stamp.{moment_of}
-use Rattle.docker_model.specs.state.Table.{Table, IsPlainTable, after_files, empty_table, from_last_full}
-use Rattle.docker_model.specs.state.Summary.{HaveDistinctMoments}
 use Rattle.cif_laws.proofs.orders.Ascending.{same_list}
 use Rattle.state_laws.proofs.states.MomentOrder.{moment_order}
 use Rattle.cif_laws.proofs.orders.Orders.{moment_total}

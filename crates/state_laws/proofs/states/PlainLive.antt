@@ -1,11 +1,7 @@
 -- If the files of a set have distinct moments, lapsing their plain table with a horizon gives the
 -- live table of their summary with this horizon.
-use Rattle.std.proofs.Common.{◌≡◌, ℕ, List, refl, ◌∙◌, rules}
-use Rattle.docker_model.specs.file.Change.{Key}
-use Rattle.docker_model.specs.state.Table.{Table, empty_table, after_files, from_last_full, IsPlainTable}
-use Rattle.docker_model.specs.state.Lapse.{lapse_table}
-use Rattle.docker_model.specs.state.State.{State, live_table}
-use Rattle.docker_model.specs.state.Summary.{HaveDistinctMoments, IsSummary}
+use Rattle.cif_laws.proofs.Common.{◌≡◌, ℕ, List, refl, ◌∙◌, rules, Key, Table, empty_table, after_files, from_last_full, IsPlainTable, lapse_table, State}
+use Rattle.cif_laws.proofs.Common.{live_table, HaveDistinctMoments, IsSummary}
 use Rattle.state_laws.proofs.states.MomentOrder.{moment_order}
 use Rattle.state_laws.proofs.states.TableLapsed.{body_stays}
 use Rattle.state_laws.proofs.states.LapsedPlainTable.{live_is_plain}

@@ -1,24 +1,13 @@
 -- Lemmas on the plain table of a set of files with distinct moments. At each key, the table has the
 -- body of the last entry that the files' changes make. Only the last full extract and the files
 -- after it count.
-use Rattle.std.proofs.Common.{cond, ◌≡◌, List, Contains, ◌⊎◌, ◌∷◌, subst, inl, inr, ap, sym, ◌∙◌, Bool, true, false, [], refl, ℕ, map, ◌++◌, ◌<◌, Some, None}
-use Rattle.std.proofs.lemmas.Grind.{common_steps}
-use Rattle.std.proofs.Common.{arith, rules}
-use Rattle.std.specs.Prelude.{fold, ◌==◌, ◌||◌, Option, ◌↔◌, find, option_and_then}
-use Rattle.std.specs.List.{AllByRecursion, flat_map, list_any}
-use Rattle.std.specs.declared.cmp.Ordering.{Ordering}
-use Rattle.std.specs.declared.cmp.Ordering.TheVariants.{Less, Equal, Greater}
-use Rattle.std.specs.Ordering.{is_eq, nat_cmp, ordering_then, on, ordering_reverse}
-use Rattle.std.specs.Cmp.{tied_itself}
-use Rattle.std.proofs.lemmas.Bool.{lt-ltb, eqb-true, eq-eqb}
-use Rattle.docker_model.specs.file.Change.{Key, Change, changes}
-use Rattle.docker_model.specs.state.Order.{IsBelow, bytes_cmp, IsStrictlyAscending, IsAtMost}
-use Rattle.docker_model.specs.state.Stamp.{stamp_cmp, file_stamp_of, moment_of, moment_cmp, file_stamp_cmp}
-use Rattle.docker_model.specs.state.Stamp.{ledger_item_of, IsFull, FileStamp, LedgerItem, IsFloor, IsKept}
-use Rattle.docker_model.specs.state.Op.{Entry, key_cmp, body_of}
-use Rattle.docker_model.specs.state.Table.{Table, after_change, after_file, after_files, is_full, from_last_full, IsInMomentOrder}
-use Rattle.docker_model.specs.state.State.{State, live_table}
-use Rattle.docker_model.specs.state.Summary.{entry_of, IsEntryOf}
+use Rattle.cif_laws.proofs.Common.{cond, ◌≡◌, List, Contains, ◌⊎◌, ◌∷◌, subst, inl, inr, ap, sym, ◌∙◌, Bool, true, false, refl, ℕ, map, ◌++◌, ◌<◌, Some, None}
+use Rattle.cif_laws.proofs.Common.{common_steps, arith, rules, [], fold, ◌==◌, ◌||◌, Option, ◌↔◌, find, option_and_then, AllByRecursion, flat_map, list_any}
+use Rattle.cif_laws.proofs.Common.{Ordering, Less, Equal, Greater, is_eq, nat_cmp, ordering_then, on, ordering_reverse, tied_itself, lt-ltb, eqb-true, eq-eqb}
+use Rattle.cif_laws.proofs.Common.{Key, Change, changes, IsBelow, bytes_cmp, IsStrictlyAscending, IsAtMost, stamp_cmp, file_stamp_of, moment_of, moment_cmp}
+use Rattle.cif_laws.proofs.Common.{file_stamp_cmp, ledger_item_of, IsFull, FileStamp, LedgerItem, IsFloor, IsKept, Entry, key_cmp, body_of, Table, after_change}
+use Rattle.cif_laws.proofs.Common.{after_files, from_last_full, State, live_table, entry_of, IsEntryOf}
+use Rattle.docker_model.specs.state.Table.{after_file, is_full, IsInMomentOrder}
 use Rattle.cif_laws.proofs.orders.Orders.{same_key, other_key, file_stamp_total, key_total}
 use Rattle.cif_laws.proofs.lists.Membership.{Contains-cons, cons-Contains-first, cons-Contains, below_by_recursion}
 use Rattle.cif_laws.proofs.lists.Membership.{nil-Contains, Contains-map, map-Contains, flat_map-Contains, Contains-flat_map}
@@ -27,6 +16,7 @@ use Rattle.cif_laws.proofs.lists.Later.{AllLater, later_append_all, later_map_we
 use Rattle.cif_laws.proofs.lists.AllOf.{all_append, all_map, all_weaker}
 use Rattle.cif_laws.proofs.files.ChangeOrder.{Apart, changes_apart}
 use Rattle.cif_laws.proofs.orders.AtMost.{less_not_greater, at_most_trans}
+use Rattle.state_laws.proofs.indexes.CallsTest.{any_back}
 
 -- ---- after the entries of a list are applied, the table has the body of each key's last entry
 
@@ -144,9 +134,6 @@ later_along : (file : List (List ℕ)) (files : List (List (List ℕ))) → AllB
 later_along file [] all = tt
 later_along file (later ∷ files) all = grind (arith, all_append, later_entries, (later_along file files all.1))
 
-across_files : (file : List (List ℕ)) (change : Change) (second : Keyed) → IsLaterThan file second → Ascends (entry_of_change file change) second
-across_files = search rules
-
 -- if files are in moment order, then of two entries for the same key, the later entry has the
 -- greater stamp
 pub entries_ascend : (files : List (List (List ℕ))) → IsStrictlyAscending (on moment_of moment_cmp) files → AllLater Ascends (entries_along files)
@@ -173,10 +160,6 @@ CmpStamps first second = file_stamp_cmp (file_stamp_of first) (file_stamp_of sec
 -- of two files, the file with the earlier moment has the lower file stamp
 stamp_below : (first second : List (List ℕ)) → IsBelow (on moment_of moment_cmp) first second → CmpStamps first second ≡ Less
 stamp_below first second below = λ i. ordering_then (below i) (bytes_cmp (file_stamp_of first).reference (file_stamp_of second).reference)
-
-any_is : (files : List (List (List ℕ))) → list_any is_full files ≡ true → (file : List (List ℕ)) × Contains files file × (is_full file ≡ true)
-any_is [] h = cc
-any_is (file ∷ files) h = grind (arith, cons-Contains-first, cons-Contains, (any_is files))
 
 or_false : (a b : Bool) → (a || b) ≡ false → (a ≡ false) × (b ≡ false)
 or_false = search rules
@@ -244,7 +227,7 @@ kept_or_dropped (first ∷ files) up file among = by (list_any is_full files) re
         (first ∷ files) file
     by false h rest where_ = inl (subst (λ v. Contains (cond v (from_last_full files) (first ∷ files)) file) (sym h) among)
     by true h rest (inl same) =
-        let full = any_is files h in
+        let full = any_back is_full files h in
         let below = stamp_below first full.0 (below_by_recursion (IsBelow (on moment_of moment_cmp) first) files full.0 up.0 full.1) in
         inr (full.0, cons-Contains first files full.0 full.1, full.2, subst (λ f. CmpStamps f full.0 ≡ Less) same below)
     by true h rest (inr inside) = search (rules, cons-Contains)

@@ -3,16 +3,10 @@
 -- below the floor. Each entry whose body ended before the horizon has lapsed. A reduction in two
 -- steps equals the reduction in one step, if the horizon of the first step is at most the horizon
 -- of the second step.
-use Rattle.std.proofs.Common.{◌≡◌, ℕ, ◌≤◌, List, ◌++◌, Contains, subst, inl, inr, ◌⊎◌, ap, sym, ◌∙◌, Some, None, rules}
-use Rattle.std.specs.Prelude.{Option, ◌↔◌}
-use Rattle.std.proofs.Math.Nat.{max-eq_left}
-use Rattle.std.proofs.lemmas.List.Elements.{Contains-append_left, Contains-append_right, Contains-append_cases}
-use Rattle.docker_model.specs.file.Change.{Key}
-use Rattle.docker_model.specs.state.Order.{IsAtMost, IsStrictlyAscending}
-use Rattle.docker_model.specs.state.Stamp.{FileStamp, LedgerItem, file_stamp_cmp, ledger_item_cmp, IsFull, IsFloor, IsKept}
-use Rattle.docker_model.specs.state.Op.{lapsed, Entry, entry_cmp}
-use Rattle.docker_model.specs.state.Lapse.{lapse, lapse_entry}
-use Rattle.docker_model.specs.state.State.{State, AreAscending, IsGreatestAmong}
+use Rattle.cif_laws.proofs.Common.{◌≡◌, ℕ, ◌≤◌, List, ◌++◌, Contains, subst, inl, inr, ◌⊎◌, ap, sym, ◌∙◌, Some, None, rules, Option, ◌↔◌, max-eq_left}
+use Rattle.cif_laws.proofs.Common.{Contains-append_left, Contains-append_right, Contains-append_cases, Key, IsAtMost, IsStrictlyAscending, FileStamp}
+use Rattle.cif_laws.proofs.Common.{LedgerItem, file_stamp_cmp, ledger_item_cmp, IsFull, IsFloor, IsKept, lapsed, Entry, entry_cmp, lapse, lapse_entry, State}
+use Rattle.cif_laws.proofs.Common.{AreAscending, IsGreatestAmong}
 use Rattle.cif_laws.proofs.orders.Orders.{file_stamp_total, entry_total}
 use Rattle.cif_laws.proofs.orders.AtMost.{at_most_trans, at_most_itself}
 use Rattle.state_laws.proofs.states.PlainTable.{Keyed, one_per_key}
@@ -97,9 +91,6 @@ module _ (items more : List LedgerItem) (entries others : List Keyed) (once twic
 
   -- ---- reducing entries in two steps gives the same entries as reducing them in one step
   module _ (key : Key) where
-    Whole : Type 0
-    Whole = (best : Entry) × IsGreatestAmong (entries ++ others) key best
-
     -- each entry for a key in the second step of the reduction is at most the greatest of all
     -- entries for the key
     under_best : (best : Entry) → IsGreatestAmong (entries ++ others) key best → (other : Entry) → Contains (once.entries ++ others) (key, other)

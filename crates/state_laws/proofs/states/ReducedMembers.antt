@@ -1,28 +1,22 @@
 -- A reduction depends only on the members of the lists of items and entries, not on their order.
 -- For a given horizon there is at most one reduction.
-use Rattle.std.proofs.Common.{List, Some, None, ◌≡◌, subst, sym, rules}
-use Rattle.std.specs.Prelude.{Option}
-use Rattle.std.specs.Cmp.{on_total}
-use Rattle.docker_model.specs.file.Change.{Key}
-use Rattle.docker_model.specs.state.Stamp.{FileStamp, LedgerItem, IsFloor, IsKept}
-use Rattle.docker_model.specs.state.Op.{Entry}
-use Rattle.docker_model.specs.state.State.{IsGreatestAmong, State}
-use Rattle.cif_laws.proofs.orders.Orders.{key_total, ledger_item_total}
+use Rattle.cif_laws.proofs.Common.{List, Some, None, ◌≡◌, subst, sym, rules, Contains, Option, on_total, Key, FileStamp, LedgerItem, IsFloor, IsKept, Entry}
+use Rattle.cif_laws.proofs.Common.{IsGreatestAmong, State}
+use Rattle.cif_laws.proofs.orders.Orders.{key_total, ledger_item_total, file_stamp_total}
+use Rattle.cif_laws.proofs.orders.AtMost.{at_most_itself}
 use Rattle.cif_laws.proofs.orders.Ascending.{same_list}
 use Rattle.state_laws.proofs.states.OneJoin.{floor_unique}
 use Rattle.state_laws.proofs.states.PlainTable.{Keyed}
 use Rattle.state_laws.proofs.states.ReducedEntries.{KeptOf, IsReduced}
 use Rattle.cif_laws.proofs.lists.Membership.{SameMembers, same_members_back}
 
-floor_along : (items more : List LedgerItem) → SameMembers items more → (floor : Option FileStamp) → IsFloor items floor → IsFloor more floor
-floor_along items more same None none = λ item among. none item ((same item).1 among)
-floor_along items more same (Some stamp) greatest = record {
-  full = greatest.full;
-  among = (same greatest.full).0 greatest.among;
-  is_full = greatest.is_full;
-  stamped = greatest.stamped;
-  greatest = λ item among. greatest.greatest item ((same item).1 among);
-}
+-- leaving out items below the floor leaves the floor unchanged
+pub kept_floor : (items ledger : List LedgerItem) (floor : Option FileStamp) → IsFloor items floor
+    → ((item : LedgerItem) → Contains ledger item → Contains items item) → ((item : LedgerItem) → Contains items item → IsKept floor item.stamp
+    → Contains ledger item)
+    → IsFloor ledger floor
+kept_floor items ledger None none from to = λ item among. none item (from item among)
+kept_floor items ledger (Some stamp) greatest from to = search (rules, at_most_itself, file_stamp_total)
 
 -- the greatest entry for a key depends only on the members of the list
 pub greatest_along : (entries others : List Keyed) → SameMembers entries others → (key : Key) (entry : Entry) → IsGreatestAmong entries key entry
@@ -42,7 +36,7 @@ pub reduced_along : (items more : List LedgerItem) (entries others : List Keyed)
     → (state : State) → IsReduced items entries state → IsReduced more others state
 reduced_along items more entries others same same_entries state is = record {
   floor = is.floor;
-  is_floor = floor_along _ _ same _ is.is_floor;
+  is_floor = kept_floor items more is.floor is.is_floor (λ item among. (same item).1 among) (λ item among kept. (same item).0 among);
   ledger_ascends = is.ledger_ascends;
   ledger = λ item. (
     λ among. let told = (is.ledger item).0 among in ((same item).0 told.0, told.1),

@@ -1,18 +1,10 @@
 -- A set of files has at most one summary for each horizon. The join of two summaries is the summary
 -- of both sets of files together, with the greater of their two horizons. Setting a horizon on a
 -- summary gives the summary with the greater of the two horizons.
-use Rattle.std.proofs.Common.{◌≡◌, ℕ, ◌≤◌, List, ◌++◌, map, Contains, subst, inl, inr, ap, sym, ◌∙◌, rules}
-use Rattle.std.specs.Prelude.{max}
-use Rattle.std.specs.List.{flat_map}
-use Rattle.std.proofs.Math.Nat.{le-max_left, max-eq_left}
-use Rattle.std.proofs.lemmas.List.Elements.{Contains-append_left, Contains-append_right, Contains-append_cases}
-use Rattle.docker_model.specs.state.Stamp.{ledger_item_of}
-use Rattle.docker_model.specs.state.Op.{Entry}
-use Rattle.docker_model.specs.state.Lapse.{lapse_entry}
-use Rattle.docker_model.specs.state.State.{State, IsJoin, lapse_state, raise_horizon}
-use Rattle.docker_model.specs.state.Summary.{IsSummary}
+use Rattle.cif_laws.proofs.Common.{◌≡◌, ℕ, ◌≤◌, List, ◌++◌, map, Contains, subst, ap, sym, ◌∙◌, rules, max, flat_map, le-max_left, max-eq_left, map-append}
+use Rattle.cif_laws.proofs.Common.{flat_map-append, ledger_item_of, Entry, lapse_entry, State, IsJoin, lapse_state, raise_horizon, IsSummary}
 use Rattle.cif_laws.proofs.lists.Membership.{Contains-flat_map, flat_map-Contains, Contains-map, map-Contains, SameMembers, same_members_turned}
-use Rattle.state_laws.proofs.states.PlainTable.{entries_along}
+use Rattle.state_laws.proofs.states.PlainTable.{entries_along, entries_of}
 use Rattle.state_laws.proofs.states.Lapse.{entry_twice}
 use Rattle.state_laws.proofs.states.LapsedGreatest.{lapsed_from, lapsed_to}
 use Rattle.state_laws.proofs.states.KeptEntries.{lapse_ascends}
@@ -41,35 +33,15 @@ same_items files others same item = (members_of_map _ _ _ (λ file. (same file).
 same_entries : (files others : List File) → SameMembers files others → SameMembers (entries_along files) (entries_along others)
 same_entries files others same entry = (members_of_flat_map _ _ _ (λ file. (same file).0) _, members_of_flat_map _ _ _ (λ file. (same file).1) _)
 
-members_of_append : {A : Type 0} (xs ys zs : List A) → ((x : A) → Contains xs x → Contains zs x) → ((x : A) → Contains ys x → Contains zs x) → (x : A)
-    → Contains (xs ++ ys) x → Contains zs x
-members_of_append xs ys zs left right x among = elim (Contains-append_cases xs ys x among) [ inl here ↦ left x here | inr here ↦ right x here ]
-
 -- the ledger items of two sets of files, taken together, are the ledger items of the union of the
 -- sets
 items_of_union : (files others : List File) → SameMembers (map ledger_item_of others ++ map ledger_item_of files) (map ledger_item_of (files ++ others))
-items_of_union files others item = (
-  members_of_append _ _ _ (members_of_map _ _ _ (λ file here. Contains-append_right files others file here))
-      (members_of_map _ _ _ (λ file here. Contains-append_left files others file here)) _,
-  λ among.
-      let found = Contains-map _ _ _ among in
-      subst (Contains (map ledger_item_of others ++ map ledger_item_of files)) found.2 (elim (Contains-append_cases files others found.0 found.1) [
-        | inl here ↦ Contains-append_right (map ledger_item_of others) (map ledger_item_of files) (ledger_item_of found.0) (map-Contains _ _ _ here)
-        | inr here ↦ Contains-append_left (map ledger_item_of others) (map ledger_item_of files) (ledger_item_of found.0) (map-Contains _ _ _ here)
-      ]),
-)
+items_of_union files others = subst (SameMembers (map ledger_item_of others ++ map ledger_item_of files)) (sym (map-append ledger_item_of files others))
+    (same_members_turned (map ledger_item_of others) (map ledger_item_of files))
 
 entries_of_union : (files others : List File) → SameMembers (entries_along others ++ entries_along files) (entries_along (files ++ others))
-entries_of_union files others entry = (
-  members_of_append _ _ _ (members_of_flat_map _ _ _ (λ file here. Contains-append_right files others file here))
-      (members_of_flat_map _ _ _ (λ file here. Contains-append_left files others file here)) _,
-  λ among.
-      let found = Contains-flat_map _ _ _ among in
-      elim (Contains-append_cases files others found.0 found.1) [
-        | inl here ↦ Contains-append_right (entries_along others) (entries_along files) entry (flat_map-Contains _ _ _ _ here found.2)
-        | inr here ↦ Contains-append_left (entries_along others) (entries_along files) entry (flat_map-Contains _ _ _ _ here found.2)
-      ],
-)
+entries_of_union files others = subst (SameMembers (entries_along others ++ entries_along files)) (sym (flat_map-append entries_of files others))
+    (same_members_turned (entries_along others) (entries_along files))
 
 -- ---- the laws of summaries
 

@@ -1,19 +1,13 @@
 -- A summary is the result of reducing its files' ledger items and the entries that the files'
 -- changes make.
-use Rattle.std.proofs.Common.{◌≡◌, ℕ, List, map, Contains, subst, inl, ◌⊎◌, ap, sym, Some, None, rules}
-use Rattle.std.specs.Prelude.{Option}
-use Rattle.docker_model.specs.file.Change.{Key, changes}
-use Rattle.docker_model.specs.state.Order.{IsAtMost}
-use Rattle.docker_model.specs.state.Stamp.{FileStamp, LedgerItem, ledger_item_of, IsKept}
-use Rattle.docker_model.specs.state.Op.{Entry, entry_cmp}
-use Rattle.docker_model.specs.state.Lapse.{lapse_entry}
-use Rattle.docker_model.specs.state.State.{State, IsGreatestAmong}
-use Rattle.docker_model.specs.state.Summary.{IsSummary, IsEntryOf, IsGreatestEntryOf, entry_of}
+use Rattle.cif_laws.proofs.Common.{◌≡◌, ℕ, List, map, Contains, subst, inl, ◌⊎◌, ap, sym, Some, None, rules, Option, ◌↔◌, Key, changes, IsAtMost, FileStamp}
+use Rattle.cif_laws.proofs.Common.{LedgerItem, ledger_item_of, IsKept, Entry, entry_cmp, lapse_entry, State, IsGreatestAmong, IsSummary, IsEntryOf}
+use Rattle.cif_laws.proofs.Common.{IsGreatestEntryOf, entry_of, IsKeptFile}
 use Rattle.cif_laws.proofs.orders.Orders.{file_stamp_total}
 use Rattle.cif_laws.proofs.orders.AtMost.{at_most_trans, at_most_below, at_most_or}
 use Rattle.cif_laws.proofs.lists.Membership.{Contains-flat_map, flat_map-Contains, Contains-map, map-Contains}
 use Rattle.state_laws.proofs.states.PlainTable.{Keyed, entry_of_change, entries_of, entries_along}
-use Rattle.state_laws.proofs.states.ReducedEntries.{IsReduced}
+use Rattle.state_laws.proofs.states.ReducedEntries.{IsReduced, KeptOf}
 
 -- a file, as the list of its records
 abbrev pub File : Type 0
@@ -58,6 +52,29 @@ module _ (files : List File) (floor : Option FileStamp) (key : Key) where
       → IsGreatestEntryOf files floor key entry
   greatest_back = search (rules, entry_out, entry_in)
 
+  -- an entry is a key's greatest entry from the files that aren't below the floor, lapsed with the
+  -- horizon, if and only if a reduction keeps it
+  pub kept_iff : (horizon : ℕ) (entry : Entry) → ((greatest : Entry) × IsGreatestEntryOf files floor key greatest × (lapse_entry horizon greatest ≡ entry))
+      ↔ KeptOf (entries_along files) floor horizon key entry
+  kept_iff horizon entry = (
+    λ told. let best = greatest_forth told.0 told.1 in (told.0, best.0, best.1, told.2),
+    λ told. (told.0, greatest_back told.0 told.1 told.2, told.3),
+  )
+
+-- an item is the item of a file that isn't below the floor if and only if it is among the items of
+-- all files and isn't below the floor
+item_iff : (files : List File) (floor : Option FileStamp) (item : LedgerItem) → ((file : File) × IsKeptFile files floor file × (ledger_item_of file ≡ item))
+    ↔ (Contains (map ledger_item_of files) item × IsKept floor item.stamp)
+item_iff files floor item = (
+  λ found. (
+    subst (Contains (map ledger_item_of files)) found.2 (map-Contains _ _ _ found.1.among),
+    subst (λ (i : LedgerItem). IsKept floor i.stamp) found.2 found.1.kept,
+  ),
+  λ told.
+      let found = Contains-map _ _ _ told.0 in
+      (found.0, record { among = found.1; kept = subst (λ (i : LedgerItem). IsKept floor i.stamp) (sym found.2) told.1 }, found.2),
+)
+
 -- a summary satisfies `IsReduced` for the ledger items and the entries of its files
 pub summary_reduced : (files : List File) (horizon : ℕ) (state : State) → IsSummary files horizon state → IsReduced (map ledger_item_of files)
     (entries_along files) state
@@ -66,30 +83,15 @@ summary_reduced files horizon state summary = record {
   is_floor = summary.is_floor;
   ledger_ascends = summary.ledger_ascends;
   ledger = λ item. (
-    λ among.
-        let found = (summary.ledger item).0 among in (
-          subst (Contains (map ledger_item_of files)) found.2 (map-Contains _ _ _ found.1.among),
-          subst (λ (i : LedgerItem). IsKept summary.floor i.stamp) found.2 found.1.kept,
-        ),
-    λ told.
-        let found = Contains-map _ _ _ told.0 in
-        (summary.ledger item).1 (
-          found.0,
-          record { among = found.1; kept = subst (λ (i : LedgerItem). IsKept summary.floor i.stamp) (sym found.2) told.1 },
-          found.2,
-        ),
+    λ among. (item_iff files _ item).0 ((summary.ledger item).0 among),
+    λ told. (summary.ledger item).1 ((item_iff files _ item).1 told),
   );
   entries_ascend = summary.entries_ascend;
   of_keys = λ key entry. (
-    λ among.
-        let told = (summary.entries key entry).0 among in
-        let best = greatest_forth _ summary.floor key told.0 told.1 in
-        (told.0, best.0, best.1, subst (λ h. lapse_entry h told.0 ≡ entry) (sym summary.horizon_is) told.2),
-    λ told. (summary.entries key entry).1 (
-      told.0,
-      greatest_back _ summary.floor key told.0 told.1 told.2,
-      subst (λ h. lapse_entry h told.0 ≡ entry) summary.horizon_is told.3,
-    ),
+    λ among. subst (λ h. KeptOf (entries_along files) summary.floor h key entry) (sym summary.horizon_is)
+        ((kept_iff files summary.floor key horizon entry).0 ((summary.entries key entry).0 among)),
+    λ told. (summary.entries key entry).1 ((kept_iff files summary.floor key horizon entry).1
+        (subst (λ h. KeptOf (entries_along files) summary.floor h key entry) summary.horizon_is told)),
   );
 }
 
@@ -97,28 +99,18 @@ summary_reduced files horizon state summary = record {
 -- of these files
 pub reduced_summary : (files : List File) (horizon : ℕ) (state : State) → state.horizon ≡ horizon → IsReduced (map ledger_item_of files)
     (entries_along files) state → IsSummary files horizon state
-reduced_summary files horizon state horizon_is is = record {
-  horizon_is = horizon_is;
+reduced_summary files horizon state horizon_is is = subst (λ h. IsSummary files h state) horizon_is (record {
+  horizon_is = λ i. state.horizon;
   floor = is.floor;
   is_floor = is.is_floor;
   ledger_ascends = is.ledger_ascends;
   ledger = λ item. (
-    λ among.
-        let told = (is.ledger item).0 among in
-        let found = Contains-map _ _ _ told.0 in
-        (found.0, record { among = found.1; kept = subst (λ (i : LedgerItem). IsKept is.floor i.stamp) (sym found.2) told.1 }, found.2),
-    λ found. (is.ledger item).1 (
-      subst (Contains (map ledger_item_of files)) found.2 (map-Contains _ _ _ found.1.among),
-      subst (λ (i : LedgerItem). IsKept is.floor i.stamp) found.2 found.1.kept,
-    ),
+    λ among. (item_iff files _ item).1 ((is.ledger item).0 among),
+    λ found. (is.ledger item).1 ((item_iff files _ item).0 found),
   );
   entries_ascend = is.entries_ascend;
   entries = λ key entry. (
-    λ among.
-        let told = (is.of_keys key entry).0 among in
-        (told.0, greatest_back _ is.floor key told.0 told.1 told.2, subst (λ h. lapse_entry h told.0 ≡ entry) horizon_is told.3),
-    λ told.
-        let best = greatest_forth _ is.floor key told.0 told.1 in
-        (is.of_keys key entry).1 (told.0, best.0, best.1, subst (λ h. lapse_entry h told.0 ≡ entry) (sym horizon_is) told.2),
+    λ among. (kept_iff files is.floor key state.horizon entry).1 ((is.of_keys key entry).0 among),
+    λ told. (is.of_keys key entry).1 ((kept_iff files is.floor key state.horizon entry).0 told),
   );
-}
+})

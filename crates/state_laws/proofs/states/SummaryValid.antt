@@ -1,22 +1,14 @@
 -- If each file of a set has at most `most_records` records, the summary of the set is a valid
 -- state.
-use Rattle.std.proofs.Common.{ℕ, ◌≤◌, List, map, length, All, Contains, subst, ap, sym, ◌∙◌, refl, arith, rules}
-use Rattle.std.specs.Prelude.{◌==◌, ◌||◌}
-use Rattle.std.proofs.lemmas.List.Elements.{All-contains}
-use Rattle.docker_model.specs.records.Record.{header, columns, column}
-use Rattle.docker_model.specs.records.Date.{IsDay}
-use Rattle.docker_model.specs.file.File.{IsFile, most_records}
-use Rattle.docker_model.specs.file.Change.{Key}
-use Rattle.docker_model.specs.state.Stamp.{LedgerItem, ledger_item_of, IsKept}
-use Rattle.docker_model.specs.state.Op.{Entry}
-use Rattle.docker_model.specs.state.Lapse.{HasNotToLapse}
-use Rattle.docker_model.specs.state.State.{State, IsValid, IsGoodItem, IsGoodEntry}
-use Rattle.docker_model.specs.state.Summary.{IsSummary, IsEntryOf}
-use Rattle.cif_laws.proofs.lists.Membership.{map-Contains, Contains-map, all_members}
+use Rattle.cif_laws.proofs.Common.{ℕ, ◌≤◌, List, map, length, All, subst, ap, sym, ◌∙◌, arith, ◌==◌, ◌||◌, All-contains, header, columns, column, IsDay, IsFile}
+use Rattle.cif_laws.proofs.Common.{most_records, Key, LedgerItem, ledger_item_of, Entry, State, IsValid, IsGoodItem, IsGoodEntry, IsSummary, IsEntryOf}
+use Rattle.cif_laws.proofs.lists.Membership.{map-Contains, Contains-map}
 use Rattle.cif_laws.proofs.records.Columns.{good_fields, one_column, text_in}
 use Rattle.cif_laws.proofs.records.GoodFields.{date_day_first_is_day, clock_minute, update_letter}
-use Rattle.state_laws.proofs.joins.JoinValid.{kept_floor, good_lapses}
-use Rattle.state_laws.proofs.states.Lapse.{has_lapsed}
+use Rattle.state_laws.proofs.joins.JoinValid.{reduced_is_valid}
+use Rattle.state_laws.proofs.states.PlainTable.{entries_along}
+use Rattle.state_laws.proofs.states.ReducedEntries.{IsReduced}
+use Rattle.state_laws.proofs.states.SummaryReduced.{summary_reduced, entry_out}
 use Rattle.cif_laws.proofs.files.FileChanges.{file_change}
 
 -- ---- the ledger item of a CIF file is well formed
@@ -41,49 +33,22 @@ item_good file is =
 pub summary_is_valid : (files : List (List (List ℕ))) (horizon : ℕ) (state : State) → IsDay horizon → All IsFile files
     → All (λ file. length file ≤ most_records) files
     → IsSummary files horizon state → IsValid state
-summary_is_valid files horizon state day each few summary = record {
-  horizon = subst IsDay (sym summary.horizon_is) day;
-  ledger = record {
-    each = all_members IsGoodItem state.ledger (λ item among.
-        let found = (summary.ledger item).0 among in
-        subst IsGoodItem found.2 (item_good found.0 (All-contains IsFile files found.0 each found.1.among)));
-    ascending = summary.ledger_ascends;
-    floor = summary.floor;
-    is_floor = kept_floor (map ledger_item_of files) state.ledger summary.floor summary.is_floor from to;
-    kept = all_members (λ item. IsKept summary.floor item.stamp) state.ledger (λ item among.
-        let found = (summary.ledger item).0 among in
-        subst (λ (i : LedgerItem). IsKept summary.floor i.stamp) found.2 found.1.kept);
-  };
-  entries = (
-    all_members (IsGoodEntry state.ledger) state.entries (λ entry among.
-        let told = (summary.entries entry.0 entry.1).0 among in
-        subst (λ e. IsGoodEntry state.ledger (entry.0, e)) told.2 (good_lapses horizon state.ledger entry.0 told.0 (entry_good entry.0 told.0 told.1.is))),
-    summary.entries_ascend,
-  );
-  have_lapsed = all_members (λ (entry : Key × Entry). HasNotToLapse state.horizon entry.1.op) state.entries (λ entry among.
-      let told = (summary.entries entry.0 entry.1).0 among in
-      subst (λ h. HasNotToLapse h entry.1.op) (sym summary.horizon_is) (search (rules, has_lapsed)));
-}
+summary_is_valid files horizon state day each few summary =
+    reduced_is_valid (map ledger_item_of files) (entries_along files) state reduced
+    (subst IsDay (sym summary.horizon_is) day)
+    (λ item among. let found = Contains-map ledger_item_of files item among in
+    subst IsGoodItem found.2 (item_good found.0 (All-contains IsFile files found.0 each found.1)))
+    (λ key entry among kept. entry_good key entry (entry_out files reduced.floor key entry among kept))
   where
-    from : (item : LedgerItem) → Contains state.ledger item → Contains (map ledger_item_of files) item
-    from item among =
-        let found = (summary.ledger item).0 among in
-        subst (Contains (map ledger_item_of files)) found.2 (map-Contains ledger_item_of files found.0 found.1.among)
+    reduced : IsReduced (map ledger_item_of files) (entries_along files) state
+    reduced = summary_reduced files horizon state summary
 
-    to : (item : LedgerItem) → Contains (map ledger_item_of files) item → IsKept summary.floor item.stamp → Contains state.ledger item
-    to item among kept =
-        let found = Contains-map ledger_item_of files item among in
-        (summary.ledger item).1 (
-          found.0,
-          record { among = found.1; kept = subst (λ (i : LedgerItem). IsKept summary.floor i.stamp) (sym found.2) kept },
-          found.2,
-        )
-
-    entry_good : (key : Key) (entry : Entry) → IsEntryOf files summary.floor key entry → IsGoodEntry state.ledger (key, entry)
+    entry_good : (key : Key) (entry : Entry) → IsEntryOf files reduced.floor key entry → IsGoodEntry state.ledger (key, entry)
     entry_good key entry made =
         let told = file_change made.file (All-contains IsFile files made.file each made.kept.among)
         (All-contains (λ file. length file ≤ most_records) files made.file few made.kept.among) made.change made.among in
-        let there = (summary.ledger (ledger_item_of made.file)).1 (made.file, made.kept, refl) in
+        let there = (reduced.ledger (ledger_item_of made.file)).1
+        (map-Contains ledger_item_of files made.file made.kept.among, made.kept.kept) in
         subst (λ k. IsGoodEntry state.ledger (k, entry)) made.key_is
         (subst (λ e. IsGoodEntry state.ledger (made.change.key, e)) made.entry_is (record {
           key = told.good.0;

@@ -1,15 +1,9 @@
 -- Lapsing a table with a horizon keeps exactly the bodies that didn't end before the horizon.
 -- Lapsing a state lapses its live table.
-use Rattle.std.proofs.Common.{◌≡◌, ℕ, ◌<◌, ◌≤◌, List, [], ◌∷◌, refl, ap, ◌∙◌, cond, Some, None, arith}
-use Rattle.std.proofs.Common.{rules}
-use Rattle.std.specs.Prelude.{Option, find, option_and_then}
-use Rattle.std.specs.Ordering.{is_eq}
-use Rattle.std.proofs.lemmas.Bool.{lt-ltb, le-ltb}
-use Rattle.docker_model.specs.file.Change.{Key, Body}
-use Rattle.docker_model.specs.state.Op.{key_cmp, body_end, Op, body_of, Entry}
-use Rattle.docker_model.specs.state.Table.{Table}
-use Rattle.docker_model.specs.state.Lapse.{lapse, lapse_entries, unlapsed, lapse_table}
-use Rattle.docker_model.specs.state.State.{State, live_table, lapse_state}
+use Rattle.cif_laws.proofs.Common.{◌≡◌, ℕ, ◌<◌, ◌≤◌, List, [], ◌∷◌, refl, ap, ◌∙◌, cond, Some, None, arith, rules, Option, find, option_and_then, is_eq, lt-ltb}
+use Rattle.cif_laws.proofs.Common.{le-ltb, Key, Body, key_cmp, body_end, Op, body_of, Entry, Table, lapse, lapse_entries, lapse_table, State, live_table}
+use Rattle.cif_laws.proofs.Common.{lapse_state}
+use Rattle.docker_model.specs.state.Lapse.{unlapsed}
 use Rattle.state_laws.proofs.states.Lapse.{below_or, put_lapses, put_stays}
 use Rattle.state_laws.proofs.states.PlainTable.{Keyed}
 

@@ -1,25 +1,20 @@
 -- A good part of a state's text leads a reader to the next stage.
-use Rattle.std.proofs.Common.{refl, arith, ◌≡◌, ℕ, ap, sym, subst, [], ◌++◌, ◌∙◌, append-nil, ◌<◌, rules}
-use Rattle.std.proofs.Common.{◌^◌, List, ◌∷◌, length, append_assoc, length-append, ◌≤◌}
-use Rattle.std.specs.List.{concat}
-use Rattle.std.specs.Int.{w16, to_be_bytes, from_be_bytes, w64, w32}
-use Rattle.std.proofs.lemmas.Grind.{flat_map-append}
-use Rattle.docker_model.specs.records.Record.{IsTextOfLength}
-use Rattle.docker_model.specs.records.Date.{IsDay}
-use Rattle.docker_model.specs.file.Change.{Key, tiploc_key, association_key, schedule_key, Body, tiploc_body, association_body, ScheduleKey}
-use Rattle.docker_model.specs.state.Stamp.{LedgerItem, Stamp}
-use Rattle.docker_model.specs.state.Op.{key_tag, lapsed, deleted, put_with, body_end}
-use Rattle.docker_model.specs.state.State.{IsGoodItem, State, IsGoodKey, IsLedger, IsStampIn, IsAssociationOf}
-use Rattle.docker_model.specs.state.StateText.{dks_1, mark, dks_2, Format, item_bytes, entries_text}
-use Rattle.docker_model.specs.state.StateText.{key_bytes, stamp_bytes, put_bytes, IsHorizonOf, IsOpByte, TellsOp}
-use Rattle.docker_model.specs.state.StatePart.{before_mark, before_ledger_count, before_horizon, AreGood, text_before, before_item, IsAboveItems}
-use Rattle.docker_model.specs.state.StatePart.{RaisesFloor, before_entry_count, before_tag, before_key, IsTag, in_entry, IsAboveEntries, key_width}
-use Rattle.docker_model.specs.state.StatePart.{before_stamp, before_op, key_text, before_body, IsLineCount, before_line, AreLinesUpTo, HaveNotToLapse}
-use Rattle.docker_model.specs.state.StateFault.{StateCause, IsBadItem, IsBadKey}
+use Rattle.cif_laws.proofs.Common.{refl, arith, ◌≡◌, ℕ, ap, sym, subst, [], ◌++◌, ◌∙◌, append-nil, ◌<◌, rules, ◌^◌, List, ◌∷◌, length, append_assoc}
+use Rattle.cif_laws.proofs.Common.{length-append, ◌≤◌, concat, w16, to_be_bytes, from_be_bytes, w64, w32, flat_map-append, IsTextOfLength, IsDay, Key}
+use Rattle.cif_laws.proofs.Common.{tiploc_key, association_key, schedule_key, Body, tiploc_body, association_body, ScheduleKey, LedgerItem, Stamp, key_tag}
+use Rattle.cif_laws.proofs.Common.{lapsed, deleted, put_with, body_end, IsGoodItem, State, IsGoodKey, IsLedger, IsStampIn, IsAssociationOf, dks_1, dks_2}
+use Rattle.cif_laws.proofs.Common.{Format, item_bytes, entries_text, key_bytes, stamp_bytes, IsHorizonOf, IsOpByte, TellsOp, before_mark, before_ledger_count}
+use Rattle.cif_laws.proofs.Common.{before_horizon, AreGood, text_before, before_item, IsAboveItems, RaisesFloor, before_entry_count, before_tag, before_key}
+use Rattle.cif_laws.proofs.Common.{IsTag, in_entry, IsAboveEntries, key_width, before_stamp, before_op, key_text, before_body, IsLineCount, before_line}
+use Rattle.cif_laws.proofs.Common.{AreLinesUpTo, HaveNotToLapse, StateCause}
+use Rattle.std.proofs.lemmas.Nat.{from_be_bytes-to_be_bytes_8}
+use Rattle.docker_model.specs.state.StateText.{mark}
+use Rattle.docker_model.specs.state.StateText.{put_bytes}
+use Rattle.docker_model.specs.state.StateFault.{IsBadItem, IsBadKey}
 use Rattle.state_laws.specs.TextStage.{after_items, after_entries, with_entry, after_lines}
 use Rattle.state_laws.proofs.texts.StateReadBack.{read_16, item_read, item_width, key_read, key_width_is, stamp_read, stamp_width}
 use Rattle.state_laws.proofs.texts.TextStages.{Leads, one_step, then_leads}
-use Rattle.state_laws.proofs.texts.TextsBefore.{after_items_text, read_64, entry_done_text, after_lines_text, read_32}
+use Rattle.state_laws.proofs.texts.TextsBefore.{after_items_text, entry_done_text, after_lines_text, read_32}
 
 -- after the mark, in the format DKS1 the next part is the number of items; in the format DKS2 it is
 -- the horizon
@@ -54,7 +49,7 @@ count_of_ledger = search (rules, after_items_text, append-nil)
 -- no items
 pub step_ledger_count : (format : Format) (horizon : ℕ) (count : ℕ) → count < 2 ^ 64 → Leads format (before_ledger_count horizon) (after_items horizon count [])
 step_ledger_count format horizon count fits = one_step _ _ _ _ refl (omega arith) (λ cause bad. bad)
-    (ap (λ n. after_items horizon n []) (read_64 _ fits)) (count_of_ledger _ _ _)
+    (ap (λ n. after_items horizon n []) (from_be_bytes-to_be_bytes_8 _ fits)) (count_of_ledger _ _ _)
 
 -- the text up to and including an item ends with the bytes of the item
 pub item_text : (format : Format) (horizon : ℕ) → (count : ℕ) (ledger : List LedgerItem) (item : LedgerItem) → length ledger < count
@@ -81,7 +76,7 @@ pub step_entry_count : (format : Format) (horizon : ℕ) → (count : ℕ) (ledg
 step_entry_count format horizon count ledger fits =
     one_step format (before_entry_count horizon ledger) (after_entries count (record { horizon = horizon; ledger = ledger; entries = [] }))
     (to_be_bytes w64 count) refl (omega arith) (λ cause bad. bad)
-    (ap (λ n. after_entries n (record { horizon = horizon; ledger = ledger; entries = [] })) (read_64 _ fits)) (search rules)
+    (ap (λ n. after_entries n (record { horizon = horizon; ledger = ledger; entries = [] })) (from_be_bytes-to_be_bytes_8 _ fits)) (search rules)
 
 -- the text up to and including one more part of an entry is the text before this part, followed by
 -- the part

@@ -1,13 +1,9 @@
 -- A ledger with a good item appended is still a ledger. An item is good if it is well formed, is
 -- above all items of the ledger, and doesn't raise the floor.
-use Rattle.std.proofs.Common.{subst, List, [], ◌∷◌, ◌++◌, refl, sym, inl, inr, arith, All, Contains, Some, None, rules}
-use Rattle.std.specs.Prelude.{Option}
-use Rattle.std.specs.List.{AllByRecursion}
-use Rattle.std.proofs.lemmas.List.Elements.{All-from_recursion, recursion_from_All, Contains-append_cases, Contains-append_left, Contains-append_right}
-use Rattle.docker_model.specs.state.Order.{IsBelow, IsAtMost, IsStrictlyAscending}
-use Rattle.docker_model.specs.state.Stamp.{LedgerItem, file_stamp_cmp, ledger_item_cmp, FileStamp, IsFloor, IsKept, IsFull}
-use Rattle.docker_model.specs.state.State.{IsGoodItem, IsLedger}
-use Rattle.docker_model.specs.state.StatePart.{IsAboveItems, RaisesFloor}
+use Rattle.cif_laws.proofs.Common.{subst, List, [], ◌∷◌, ◌++◌, refl, sym, inl, inr, arith, All, Contains, Some, None, rules, Option, AllByRecursion}
+use Rattle.cif_laws.proofs.Common.{All-from_recursion, recursion_from_All, Contains-append_cases, Contains-append_left, Contains-append_right, IsBelow}
+use Rattle.cif_laws.proofs.Common.{IsAtMost, IsStrictlyAscending, LedgerItem, file_stamp_cmp, ledger_item_cmp, FileStamp, IsFloor, IsKept, IsFull, IsGoodItem}
+use Rattle.cif_laws.proofs.Common.{IsLedger, IsAboveItems, RaisesFloor}
 use Rattle.cif_laws.proofs.orders.Orders.{file_stamp_total}
 use Rattle.cif_laws.proofs.lists.Membership.{below_by_recursion, Contains-single as in_single, nil-Contains}
 use Rattle.cif_laws.proofs.orders.AtMost.{at_most_itself, at_most_trans, at_most_or}

@@ -1,12 +1,9 @@
 -- A text has at most one fault. If a state's text is within the limit, it has no fault.
-use Rattle.std.proofs.Common.{◌≡◌, ℕ, ◌+◌, ◌≤◌, List, ◌∷◌, ◌++◌, length, ap, sym, ◌∙◌, rules}
-use Rattle.std.proofs.Common.{subst, inl, inr, arith, append_assoc, append-nil, length-append}
-use Rattle.docker_model.specs.state.State.{State}
-use Rattle.docker_model.specs.state.StateText.{Format, state_text}
-use Rattle.docker_model.specs.state.StatePart.{Before}
-use Rattle.docker_model.specs.state.StatePart.{at_end, items_before, text_before, width}
-use Rattle.docker_model.specs.state.StateFault.{StateCause, StateFault}
-use Rattle.docker_model.specs.state.StateFault.{IsBadPart, HasBadPart, IsLong, IsShort, HasTail, IsStateFault, IsStateText}
+use Rattle.cif_laws.proofs.Common.{◌≡◌, ℕ, ◌+◌, ◌≤◌, List, ◌∷◌, ◌++◌, length, ap, sym, ◌∙◌, rules, subst, inl, inr, arith, append_assoc, append-nil}
+use Rattle.cif_laws.proofs.Common.{length-append, State, Format, state_text, Before, at_end, text_before, width, StateCause, StateFault, IsBadPart, HasBadPart}
+use Rattle.cif_laws.proofs.Common.{IsLong, IsStateFault, IsStateText}
+use Rattle.docker_model.specs.state.StatePart.{items_before}
+use Rattle.docker_model.specs.state.StateFault.{IsShort, HasTail}
 use Rattle.cif_laws.proofs.lists.Fronts.{same_front}
 use Rattle.state_laws.proofs.texts.TextsApart.{same_end, IsStopped, one_stop, stop_of_bad, stop_of_long, stop_of_short, stop_at_end}
 

@@ -1,18 +1,11 @@
 -- It is decidable whether a part of a state's text is good.
-use Rattle.std.proofs.Common.{◌≡◌, ℕ, ◌-◌, ◌^◌, List, [], ◌∷◌, subst, inl, inr, Contains, rules}
-use Rattle.std.specs.Prelude.{slice_index}
-use Rattle.std.specs.Int.{w32, from_be_bytes}
-use Rattle.docker_model.specs.records.Record.{association, is_printable, column, IsTextOfLength}
-use Rattle.docker_model.specs.records.Date.{last_day}
-use Rattle.docker_model.specs.records.Field.{is_stp_letter, IsTiploc}
-use Rattle.docker_model.specs.file.Change.{Key, tiploc_key, association_key, schedule_key, AssociationKey, ScheduleKey}
-use Rattle.docker_model.specs.file.Change.{association_named, schedule_body}
-use Rattle.docker_model.specs.state.Order.{IsBelow}
-use Rattle.docker_model.specs.state.Stamp.{FileStamp, Stamp, LedgerItem, file_stamp_cmp, ledger_item_cmp}
-use Rattle.docker_model.specs.state.Op.{key_cmp, body_end}
-use Rattle.docker_model.specs.state.State.{State, IsGoodItem, IsGoodKey, IsGoodAssociationKey, IsGoodScheduleKey, IsAssociationOf, IsStampIn}
-use Rattle.docker_model.specs.state.StateText.{Format, dks_1, dks_2, IsOpByte}
-use Rattle.docker_model.specs.state.StatePart.{IsTag, IsLineCount, IsAboveItems, IsAboveEntries, RaisesFloor, AreLinesUpTo, HaveNotToLapse}
+use Rattle.cif_laws.proofs.Common.{◌≡◌, ℕ, ◌-◌, ◌^◌, List, [], ◌∷◌, subst, inl, inr, Contains, rules, slice_index, w32, from_be_bytes, association}
+use Rattle.cif_laws.proofs.Common.{is_printable, column, IsTextOfLength, last_day, is_stp_letter, IsTiploc, Key, tiploc_key, association_key, schedule_key}
+use Rattle.cif_laws.proofs.Common.{AssociationKey, ScheduleKey, schedule_body, IsBelow, FileStamp, Stamp, LedgerItem, file_stamp_cmp, ledger_item_cmp, key_cmp}
+use Rattle.cif_laws.proofs.Common.{body_end, State, IsGoodItem, IsGoodKey, IsGoodScheduleKey, IsAssociationOf, IsStampIn, Format, dks_1, dks_2, IsOpByte, IsTag}
+use Rattle.cif_laws.proofs.Common.{IsLineCount, IsAboveItems, IsAboveEntries, RaisesFloor, AreLinesUpTo, HaveNotToLapse}
+use Rattle.docker_model.specs.file.Change.{association_named}
+use Rattle.docker_model.specs.state.State.{IsGoodAssociationKey}
 use Rattle.docker_model.specs.state.StateFault.{IsBodyPart}
 use Rattle.cif_laws.proofs.orders.Orders.{file_stamp_total, exact_file_stamp, key_total, exact_key}
 use Rattle.cif_laws.proofs.lists.Membership.{Contains-cons, cons-Contains, cons-Contains-first, nil-Contains}

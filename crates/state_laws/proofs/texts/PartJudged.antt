@@ -1,25 +1,18 @@
 -- A part of a state's text that has the right number of bytes either is bad for some cause or is
 -- good.
-use Rattle.std.proofs.Common.{◌≡◌, ℕ, ◌<◌, ◌≤◌, ◌^◌, List, [], ◌∷◌, ◌++◌, length, refl, ap, sym, ◌∙◌, rules}
-use Rattle.std.proofs.Common.{inl, inr, ◌⊎◌, arith, true, false, nat_le, append-nil, length-append}
-use Rattle.std.specs.Int.{w16, to_be_bytes, from_be_bytes}
+use Rattle.cif_laws.proofs.Common.{◌≡◌, ℕ, ◌<◌, ◌≤◌, ◌^◌, List, ◌∷◌, ◌++◌, length, refl, ap, sym, ◌∙◌, rules, [], inl, inr, ◌⊎◌, arith, nat_le, append-nil}
+use Rattle.cif_laws.proofs.Common.{length-append, w16, to_be_bytes, from_be_bytes, leb_tells, nat_list_cmp_total, exact_bytes, Key, tiploc_key, association_key}
+use Rattle.cif_laws.proofs.Common.{schedule_key, ScheduleKey, Stamp, LedgerItem, Op, lapsed, HasNotToLapse, IsGoodItem, IsGoodKey, State, IsOpOf, item_in}
+use Rattle.cif_laws.proofs.Common.{key_in, Format, dks_1, dks_2, entries_text, IsOpByte, TellsOp, IsToldState, EntryPart, before_tag, before_key, before_stamp}
+use Rattle.cif_laws.proofs.Common.{before_op, before_body, before_line, key_width, IsTag, IsLineCount, IsAboveItems, RaisesFloor, AreLinesUpTo, Before}
+use Rattle.cif_laws.proofs.Common.{before_mark, before_horizon, before_ledger_count, before_item, before_entry_count, in_entry, at_end, text_before, width}
+use Rattle.cif_laws.proofs.Common.{HaveNotToLapse, IsAboveEntries, IsStampHere, IsPartHere, AreGood, StateCause, bad_mark, bad_body, IsBadPart}
 use Rattle.std.proofs.lemmas.Nat.{be_bytes_2}
-use Rattle.std.proofs.lemmas.Bool.Decides.{leb_tells}
-use Rattle.std.specs.Cmp.Lexicographic.{nat_list_cmp_total}
-use Rattle.std.proofs.lemmas.Map.Lookups.{exact_bytes}
-use Rattle.docker_model.specs.file.Change.{Key, tiploc_key, association_key, schedule_key, ScheduleKey, schedule_body}
-use Rattle.docker_model.specs.state.Stamp.{Stamp, LedgerItem}
-use Rattle.docker_model.specs.state.Op.{Op, lapsed, put_with}
-use Rattle.docker_model.specs.state.Lapse.{HasNotToLapse}
-use Rattle.docker_model.specs.state.State.{IsGoodItem, IsGoodKey, State, IsOpOf}
-use Rattle.docker_model.specs.state.StateText.{item_in, key_in, Format, dks_1, dks_2}
-use Rattle.docker_model.specs.state.StateText.{mark, entries_text, IsOpByte, TellsOp, IsToldState}
-use Rattle.docker_model.specs.state.StatePart.{EntryPart, before_tag, before_key, before_stamp, before_op, before_body, before_line, part_width}
-use Rattle.docker_model.specs.state.StatePart.{key_width, IsTag, IsLineCount, IsAboveItems, RaisesFloor, AreLinesUpTo, Before, before_mark}
-use Rattle.docker_model.specs.state.StatePart.{before_horizon, before_ledger_count, before_item, before_entry_count, in_entry, at_end}
-use Rattle.docker_model.specs.state.StatePart.{text_before, width, HaveNotToLapse, IsAboveEntries, IsKeyHere, IsStampHere, IsPartHere, AreGood}
-use Rattle.docker_model.specs.state.StateFault.{StateCause, bad_mark, bad_item, bad_order, bad_floor, bad_tag}
-use Rattle.docker_model.specs.state.StateFault.{bad_stamp, bad_body, IsBadPart, IsBodyPart}
+use Rattle.docker_model.specs.state.StateText.{mark}
+use Rattle.docker_model.specs.state.StatePart.{part_width}
+use Rattle.docker_model.specs.state.StatePart.{IsKeyHere}
+use Rattle.docker_model.specs.state.StateFault.{bad_item, bad_order, bad_floor, bad_tag}
+use Rattle.docker_model.specs.state.StateFault.{bad_stamp, IsBodyPart}
 use Rattle.state_laws.specs.TextStage.{after_entries, with_entry, after_lines, advance}
 use Rattle.state_laws.proofs.texts.TextsBefore.{after_entries_text, entry_done_text}
 use Rattle.state_laws.proofs.texts.GoodPartLeads.{count_of_ledger, item_text, body_text, count_text, line_text, part_more}
@@ -97,15 +90,7 @@ pub good_after_lines : (format : Format) → (count : ℕ) (state : State) (key 
     → StateHere format count state → IsStampHere state (schedule_key key) stamp
     → IsLineCount n → length lines ≤ n → (lines ≡ []) ⊎ (AreLinesUpTo key n lines × HaveNotToLapse state lines)
     → AreGood format (after_lines count state key stamp n lines)
-good_after_lines format count state key stamp n lines told here counted within are =
-    let done : Before = after_entries count (with_entry state (schedule_key key) stamp (put_with (schedule_body lines))) in
-    by (leb_tells n (length lines)) are
-  where
-    by : ((nat_le n (length lines) ≡ true) × (n ≤ length lines)) ⊎ ((nat_le n (length lines) ≡ false) × (length lines < n))
-        → (lines ≡ []) ⊎ (AreLinesUpTo key n lines × HaveNotToLapse state lines) → AreGood format (after_lines count state key stamp n lines)
-    by (inl all) (inl none) = let some = counted.0 in let size = ap length none in let enough = all.1 in absurd (omega arith)
-    by (inl all) (inr up) = search (rules, entry_done)
-    by (inr more) up = search rules
+good_after_lines = grind (arith, leb_tells, nat_le, entry_done)
 
 judge_tag : (format : Format) → (count : ℕ) (state : State) (bytes : List ℕ) → StateHere format count state → length bytes ≡ 1
     → Judged format (in_entry count state before_tag) bytes
@@ -149,10 +134,6 @@ op_of_byte = search rules
 judge_op : (format : Format) → (count : ℕ) (state : State) (key : Key) (stamp : Stamp) (bytes : List ℕ) → StateHere format count state
     → IsStampHere state key stamp → length bytes ≡ 1 → Judged format (in_entry count state (before_op key stamp)) bytes
 judge_op = grind (arith, op_byte_decided, single, op_of_byte, entry_done, tells_deleted, entry_done_text, part_more)
-
--- a TIPLOC doesn't lapse
-tiploc_stays : {format : Format} (state : State) → IsToldState format state → state.horizon ≤ 65535
-tiploc_stays state told = let day = told.valid.horizon in omega arith
 
 judge_body : (format : Format) → (count : ℕ) (state : State) (key : Key) (stamp : Stamp) (bytes : List ℕ) → StateHere format count state
     → IsStampHere state key stamp → length bytes ≡ width (in_entry count state (before_body key stamp)) → AreBytes bytes

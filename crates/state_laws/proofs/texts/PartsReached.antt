@@ -1,25 +1,14 @@
 -- If all parts before a stage of a state's text are good, a reader gets to this stage part by part.
-use Rattle.std.proofs.Common.{List, ◌∷◌, ◌++◌, ◌≡◌, [], refl, ap, sym, ◌∙◌, subst, Contains, Some, None, ℕ, ◌<◌, rules}
-use Rattle.std.proofs.Common.{◌≤◌, length, arith, append_assoc, append-nil, length-append, inl, inr, ◌^◌}
-use Rattle.std.specs.Prelude.{Option}
-use Rattle.std.specs.List.{AllByRecursion}
-use Rattle.std.specs.Ordering.{on}
-use Rattle.std.specs.declared.cmp.Ordering.{Ordering}
-use Rattle.std.specs.declared.cmp.Ordering.TheVariants.{Less, Equal, Greater}
-use Rattle.std.proofs.lemmas.List.Elements.{recursion_from_All, All-from_recursion, Contains-append_right}
-use Rattle.docker_model.specs.records.Record.{columns, IsRecord}
-use Rattle.docker_model.specs.file.File.{IsSchedule, BeginsSchedule, first_record}
-use Rattle.docker_model.specs.file.Change.{schedule_key, ScheduleKey, Key, tiploc_key}
-use Rattle.docker_model.specs.file.Change.{association_key, Body, tiploc_body, association_body, schedule_body}
-use Rattle.docker_model.specs.state.Order.{IsBelow}
-use Rattle.docker_model.specs.state.Stamp.{LedgerItem, ledger_item_cmp, FileStamp, file_stamp_cmp, IsFloor, IsKept, Stamp}
-use Rattle.docker_model.specs.state.Op.{readable_end, key_tag, put_with, body_end, Entry, Op, deleted, lapsed, key_cmp}
-use Rattle.docker_model.specs.state.Lapse.{HasNotToLapse}
-use Rattle.docker_model.specs.state.State.{IsGoodItem, IsLedger, State, IsScheduleOf, IsBodyOf, IsGoodEntry, AreAscending}
-use Rattle.docker_model.specs.state.StateText.{Format, TellsOp, IsHorizonOf, IsToldState}
-use Rattle.docker_model.specs.state.StatePart.{IsAboveItems, RaisesFloor, AreLinesUpTo, HaveNotToLapse, IsTag, before_key, in_entry, before_stamp, IsKeyHere}
-use Rattle.docker_model.specs.state.StatePart.{before_op, IsStampHere, before_body, IsAboveEntries, before_mark, before_entry_count, EntryPart, before_tag}
-use Rattle.docker_model.specs.state.StatePart.{before_line, IsPartHere, Before, before_horizon, before_ledger_count, before_item, at_end, AreGood}
+use Rattle.cif_laws.proofs.Common.{List, ◌∷◌, ◌++◌, ◌≡◌, [], refl, ap, sym, ◌∙◌, subst, Contains, Some, None, ℕ, ◌<◌, rules, ◌≤◌, length, arith, append_assoc}
+use Rattle.cif_laws.proofs.Common.{append-nil, length-append, inl, inr, ◌^◌, Option, AllByRecursion, on, Ordering, Less, Equal, Greater, recursion_from_All}
+use Rattle.cif_laws.proofs.Common.{All-from_recursion, Contains-append_right, columns, IsRecord, IsSchedule, BeginsSchedule, first_record, schedule_key}
+use Rattle.cif_laws.proofs.Common.{ScheduleKey, Key, tiploc_key, association_key, Body, tiploc_body, association_body, schedule_body, IsBelow, LedgerItem}
+use Rattle.cif_laws.proofs.Common.{ledger_item_cmp, FileStamp, file_stamp_cmp, IsFloor, IsKept, Stamp, readable_end, key_tag, put_with, body_end, Entry, Op}
+use Rattle.cif_laws.proofs.Common.{deleted, lapsed, key_cmp, HasNotToLapse, IsGoodItem, IsLedger, State, IsScheduleOf, IsBodyOf, IsGoodEntry, AreAscending}
+use Rattle.cif_laws.proofs.Common.{Format, TellsOp, IsHorizonOf, IsToldState, IsAboveItems, RaisesFloor, AreLinesUpTo, HaveNotToLapse, IsTag, before_key}
+use Rattle.cif_laws.proofs.Common.{in_entry, before_stamp, before_op, IsStampHere, before_body, IsAboveEntries, before_mark, before_entry_count, EntryPart}
+use Rattle.cif_laws.proofs.Common.{before_tag, before_line, IsPartHere, Before, before_horizon, before_ledger_count, before_item, at_end, AreGood}
+use Rattle.docker_model.specs.state.StatePart.{IsKeyHere}
 use Rattle.state_laws.specs.TextStage.{after_items, after_lines, after_entries, with_entry}
 use Rattle.cif_laws.proofs.orders.Orders.{file_stamp_total}
 use Rattle.cif_laws.proofs.lists.Membership.{cons-Contains-first}

@@ -1,15 +1,10 @@
 -- Decoding bytes as a number, a ledger item, a stamp or a key, and encoding the result again, gives
 -- the same bytes. The number of bytes must be the number that such a value has.
-use Rattle.std.proofs.Common.{◌≡◌, ℕ, zero, suc, ◌<◌, ◌^◌, List, [], ◌∷◌, length, get_or, refl, ap, subst, arith}
-use Rattle.std.proofs.lemmas.Grind.{common_steps}
-use Rattle.std.proofs.Common.{rules}
-use Rattle.std.specs.Prelude.{slice_index}
-use Rattle.std.specs.List.{AllByRecursion}
-use Rattle.std.specs.Int.{w16, w32, w64, to_be_bytes, from_be_bytes}
+use Rattle.cif_laws.proofs.Common.{◌≡◌, ℕ, zero, suc, ◌<◌, ◌^◌, List, [], ◌∷◌, length, get_or, refl, ap, subst, arith, common_steps, rules, slice_index}
+use Rattle.cif_laws.proofs.Common.{AllByRecursion, w16, w32, w64, to_be_bytes, from_be_bytes, key_tag, item_bytes, key_bytes, stamp_bytes, item_in, key_in}
+use Rattle.cif_laws.proofs.Common.{stamp_in, key_width, IsTag}
 use Rattle.std.proofs.lemmas.Nat.{be_bytes_2, be_bytes_4, be_bytes_8}
-use Rattle.docker_model.specs.state.Op.{key_tag}
-use Rattle.docker_model.specs.state.StateText.{item_bytes, key_bytes, stamp_bytes, item_in, key_in, stamp_in, schedule_key_in}
-use Rattle.docker_model.specs.state.StatePart.{key_width, IsTag}
+use Rattle.docker_model.specs.state.StateText.{schedule_key_in}
 
 -- each number in the list is a byte, from 0 to 255
 abbrev pub AreBytes : List ℕ → Type 0

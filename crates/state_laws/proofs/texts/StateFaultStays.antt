@@ -1,7 +1,5 @@
 -- Appending bytes to a text preserves three kinds of fault: a bad part, `too_long` and `has_tail`.
-use Rattle.std.proofs.Common.{ℕ, List, ◌++◌, append_assoc, length-append, rules}
-use Rattle.docker_model.specs.state.StateText.{Format}
-use Rattle.docker_model.specs.state.StateFault.{StateFault, HasBadPart, IsLong}
+use Rattle.cif_laws.proofs.Common.{ℕ, List, ◌++◌, append_assoc, length-append, rules, Format, StateFault, HasBadPart, IsLong}
 
 -- appending bytes to a text preserves the fault of a bad part
 pub bad_part_stays : (format : Format) → (limit : ℕ) (text more : List ℕ) (fault : StateFault) → HasBadPart format limit text fault

@@ -1,17 +1,7 @@
 -- If a state can be written in a format, so can the state after a good entry is appended.
-use Rattle.std.proofs.Common.{ℕ, arith, List, [], ◌∷◌, ◌++◌, All, ◌<◌, ◌≤◌, ◌^◌, length, nat_le}
-use Rattle.std.proofs.lemmas.Grind.{common_steps}
-use Rattle.std.proofs.Common.{rules}
-use Rattle.std.proofs.lemmas.List.Elements.{recursion_from_All}
-use Rattle.std.proofs.lemmas.Bool.Decides.{leb_tells}
-use Rattle.docker_model.specs.records.Date.{IsDay}
-use Rattle.docker_model.specs.file.Change.{Body, Key}
-use Rattle.docker_model.specs.state.Stamp.{LedgerItem, Stamp}
-use Rattle.docker_model.specs.state.Op.{deleted, put_with, Entry, Op}
-use Rattle.docker_model.specs.state.Lapse.{HasNotToLapse}
-use Rattle.docker_model.specs.state.State.{IsLedger, IsValid, State, IsOpOf}
-use Rattle.docker_model.specs.state.StateText.{Format, IsHorizonOf, TellsOp, IsToldState}
-use Rattle.docker_model.specs.state.StatePart.{IsStampHere, AreGood}
+use Rattle.cif_laws.proofs.Common.{ℕ, arith, List, [], ◌∷◌, ◌++◌, All, ◌<◌, ◌≤◌, ◌^◌, length, nat_le, common_steps, rules, recursion_from_All, leb_tells, IsDay}
+use Rattle.cif_laws.proofs.Common.{Key, LedgerItem, Stamp, deleted, Entry, Op, HasNotToLapse, IsLedger, IsValid, State, IsOpOf, Format, IsHorizonOf, TellsOp}
+use Rattle.cif_laws.proofs.Common.{IsToldState, IsStampHere, AreGood}
 use Rattle.state_laws.specs.TextStage.{with_entry, after_items, after_entries}
 use Rattle.cif_laws.proofs.lists.AllOf.{all_append}
 use Rattle.cif_laws.proofs.orders.Ascending.{ascending_last}
@@ -23,10 +13,6 @@ horizon_day = search rules
 -- a deletion can be written in each format
 pub tells_deleted : (format : Format) → TellsOp format deleted
 tells_deleted = search rules
-
--- a put can be written in each format
-pub tells_put : (format : Format) (body : Body) → TellsOp format (put_with body)
-tells_put = search rules
 
 -- a state without entries is valid, if its horizon is a day number and its ledger is well formed
 pub valid_without : (horizon : ℕ) (ledger : List LedgerItem) → IsDay horizon → IsLedger ledger

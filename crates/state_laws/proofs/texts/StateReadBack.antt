@@ -1,19 +1,14 @@
 -- Decoding is the inverse of encoding, for ledger items, keys and stamps. The lemmas also say how
 -- many bytes an item, a key and a stamp have.
-use Rattle.std.proofs.Common.{◌≡◌, ℕ, suc, ◌+◌, ◌-◌, ◌<◌, ◌^◌, List, [], ◌∷◌, ◌++◌, length, take, drop, rules}
-use Rattle.std.proofs.lemmas.Grind.{common_steps}
-use Rattle.std.proofs.Common.{ap, ◌∙◌, subst, arith, append_assoc, length-append}
-use Rattle.std.specs.Prelude.{slice_index, slice_range}
-use Rattle.std.specs.Int.{w16, w32, to_be_bytes, from_be_bytes}
+use Rattle.cif_laws.proofs.Common.{◌≡◌, ℕ, suc, ◌+◌, ◌-◌, ◌<◌, ◌^◌, List, [], ◌∷◌, ◌++◌, length, take, drop, rules, common_steps, ap, ◌∙◌, subst, arith}
+use Rattle.cif_laws.proofs.Common.{append_assoc, length-append, slice_index, slice_range, w16, w32, to_be_bytes, from_be_bytes, take_all, Key, association_key}
+use Rattle.cif_laws.proofs.Common.{schedule_key, AssociationKey, ScheduleKey, FileStamp, Stamp, LedgerItem, key_tag, IsGoodItem, IsGoodKey, IsGoodScheduleKey}
+use Rattle.cif_laws.proofs.Common.{IsLedger, IsStampIn, item_bytes, key_bytes, stamp_bytes, item_in, key_in, stamp_in, key_width}
 use Rattle.std.proofs.lemmas.Nat.{from_be_bytes-to_be_bytes_2}
-use Rattle.std.proofs.lemmas.List.{take_at, take_all, get_or-append_right}
-use Rattle.docker_model.specs.file.Change.{Key, association_key, schedule_key, AssociationKey, ScheduleKey}
-use Rattle.docker_model.specs.state.Stamp.{FileStamp, Stamp, LedgerItem}
-use Rattle.docker_model.specs.state.Op.{key_tag}
-use Rattle.docker_model.specs.state.State.{IsGoodItem, IsGoodKey, IsGoodAssociationKey, IsGoodScheduleKey, IsLedger, IsStampIn}
-use Rattle.docker_model.specs.state.StateText.{file_stamp_bytes, item_bytes, key_bytes, stamp_bytes, file_stamp_in}
-use Rattle.docker_model.specs.state.StateText.{item_in, key_in, stamp_in, association_key_in, schedule_key_in}
-use Rattle.docker_model.specs.state.StatePart.{key_width}
+use Rattle.std.proofs.lemmas.List.{take_at, get_or-append_right}
+use Rattle.docker_model.specs.state.State.{IsGoodAssociationKey}
+use Rattle.docker_model.specs.state.StateText.{file_stamp_bytes, file_stamp_in}
+use Rattle.docker_model.specs.state.StateText.{association_key_in, schedule_key_in}
 use Rattle.cif_laws.proofs.lists.Membership.{Contains-map}
 
 -- if a list has `n` elements, dropping `n + k` elements of its concatenation with another list

@@ -1,14 +1,11 @@
 -- Each text either has a fault, or is within the limit and is the text of a state. The proof walks
 -- over the parts of the text.
-use Rattle.std.proofs.Common.{◌≡◌, ℕ, zero, suc, ◌+◌, ◌<◌, ◌≤◌, List, [], ◌∷◌, ◌++◌, length, take, drop, refl, ap, rules}
-use Rattle.std.proofs.Common.{sym, ◌∙◌, subst, inl, inr, ◌⊎◌, arith, append_assoc, append-nil, length-append, All}
-use Rattle.std.proofs.lemmas.List.{take-append-drop, length-take-le}
-use Rattle.std.proofs.lemmas.List.Elements.{recursion_from_All}
-use Rattle.docker_model.specs.state.State.{State}
-use Rattle.docker_model.specs.state.StateText.{Format, state_text}
-use Rattle.docker_model.specs.state.StatePart.{Before, before_mark}
-use Rattle.docker_model.specs.state.StatePart.{at_end, items_before, text_before, width, AreGood}
-use Rattle.docker_model.specs.state.StateFault.{too_short, has_tail, too_long, StateFault, IsStateFault, IsStateText}
+use Rattle.cif_laws.proofs.Common.{◌≡◌, ℕ, zero, suc, ◌+◌, ◌<◌, ◌≤◌, List, ◌∷◌, ◌++◌, length, take, drop, refl, ap, rules, [], sym, ◌∙◌, subst, inl, inr, ◌⊎◌}
+use Rattle.cif_laws.proofs.Common.{arith, append_assoc, append-nil, length-append, All, take-append-drop, length-take-le, recursion_from_All, State, Format}
+use Rattle.cif_laws.proofs.Common.{state_text, Before, before_mark, at_end, text_before, width, AreGood, too_short, has_tail, StateFault, IsStateFault}
+use Rattle.cif_laws.proofs.Common.{IsStateText}
+use Rattle.docker_model.specs.state.StatePart.{items_before}
+use Rattle.docker_model.specs.state.StateFault.{too_long}
 use Rattle.state_laws.specs.TextStage.{advance}
 use Rattle.cif_laws.proofs.lists.AllOf.{all_front, all_behind}
 use Rattle.cif_laws.proofs.lists.Decisions.{le_decided}
@@ -59,6 +56,24 @@ at_the_end format limit text state (byte ∷ rest) told =
       }))),
     )
 
+-- a part that goes past the limit is at fault, if the text goes past the limit too
+too_far : (format : Format) → (limit : ℕ) (text : List ℕ) (before : Before) (rest : List ℕ) → Walked format limit text before rest
+    → limit < length (text_before format before) + width before → limit < length text → Answer format limit text
+too_far format limit text before rest told needs there = inr (
+  record { at = limit; cause = too_long },
+  inr (inl (record {
+    before = before;
+    good = told.good;
+    rest = rest;
+    whole = told.whole;
+    reaches = told.within;
+    needs = needs;
+    there = there;
+    cause = refl;
+    limit_at = refl;
+  })),
+)
+
 not_whole : (format : Format) → (limit : ℕ) (text : List ℕ) (before : Before) (rest : List ℕ) → Walked format limit text before rest
     → length rest < width before → Answer format limit text
 not_whole format limit text before rest told ends = elim (le_decided (length text) limit) [
@@ -79,20 +94,7 @@ not_whole format limit text before rest told ends = elim (le_decided (length tex
   | inr above ↦
       let sizes = ap length told.whole ∙ length-append (text_before format before) rest in
       let there : limit < length text = omega arith in
-      inr (
-        record { at = limit; cause = too_long },
-        inr (inl (record {
-          before = before;
-          good = told.good;
-          rest = rest;
-          whole = told.whole;
-          reaches = told.within;
-          needs = omega arith;
-          there = there;
-          cause = refl;
-          limit_at = refl;
-        })),
-      )
+      too_far format limit text before rest told (omega arith) there
 ]
 
 one_part : (format : Format) → (limit : ℕ) (text : List ℕ) (before : Before) (rest : List ℕ) → Walked format limit text before rest → 0 < width before
@@ -126,20 +128,7 @@ one_part format limit text before rest told some enough go_on = elim (le_decided
   | inr above ↦
       let sizes = ap length told.whole ∙ length-append (text_before format before) rest in
       let needs : limit < length (text_before format before) + width before = omega arith in
-      inr (
-        record { at = limit; cause = too_long },
-        inr (inl (record {
-          before = before;
-          good = told.good;
-          rest = rest;
-          whole = told.whole;
-          reaches = told.within;
-          needs = needs;
-          there = omega arith;
-          cause = refl;
-          limit_at = refl;
-        })),
-      )
+      too_far format limit text before rest told needs (omega arith)
 ]
   where
     part : List ℕ

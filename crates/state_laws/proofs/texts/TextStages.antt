@@ -1,12 +1,8 @@
 -- A reader reads a text part by part. The text read is the concatenation of the parts read. Of two
 -- different stages of one text, one is later than the other.
-use Rattle.std.proofs.Common.{◌≡◌, ℕ, ◌<◌, List, ◌++◌, length, [], ◌∷◌, ap, ◌∙◌, sym, subst, append_assoc, append-nil, ◌⊎◌, refl, inl, inr, rules}
-use Rattle.std.specs.Prelude.{⊤}
-use Rattle.std.specs.List.{concat}
+use Rattle.cif_laws.proofs.Common.{◌≡◌, ℕ, ◌<◌, List, ◌++◌, length, [], ◌∷◌, ap, ◌∙◌, sym, subst, append_assoc, append-nil, ◌⊎◌, refl, inl, inr, rules, ⊤}
+use Rattle.cif_laws.proofs.Common.{concat, Format, Before, text_before, width, StateCause, IsBadPart}
 use Rattle.std.proofs.lemmas.List.{append_cancel_left}
-use Rattle.docker_model.specs.state.StateText.{Format}
-use Rattle.docker_model.specs.state.StatePart.{Before, text_before, width}
-use Rattle.docker_model.specs.state.StateFault.{StateCause, IsBadPart}
 use Rattle.state_laws.specs.TextStage.{advance}
 use Rattle.cif_laws.proofs.lists.Fronts.{same_front}
 

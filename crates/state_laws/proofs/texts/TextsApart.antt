@@ -1,13 +1,10 @@
 -- States with the same text are equal. A reader with a limit stops at no more than one stage of a
 -- text.
-use Rattle.std.proofs.Common.{◌≡◌, ℕ, ◌+◌, ◌≤◌, List, [], ◌++◌, length, ap, sym, ◌∙◌, subst, inl, inr, arith, append_assoc, append-nil, length-append}
-use Rattle.std.proofs.lemmas.Grind.{common_steps}
-use Rattle.std.proofs.Common.{rules}
+use Rattle.cif_laws.proofs.Common.{◌≡◌, ℕ, ◌+◌, ◌≤◌, List, [], ◌++◌, length, ap, sym, ◌∙◌, subst, inl, inr, arith, append_assoc, append-nil, length-append}
+use Rattle.cif_laws.proofs.Common.{common_steps, rules, State, Format, state_text, Before, at_end, text_before, width, AreGood, StateCause, StateFault}
+use Rattle.cif_laws.proofs.Common.{IsBadPart, HasBadPart, IsLong}
 use Rattle.std.proofs.lemmas.List.{append_cancel_left}
-use Rattle.docker_model.specs.state.State.{State}
-use Rattle.docker_model.specs.state.StateText.{Format, state_text}
-use Rattle.docker_model.specs.state.StatePart.{Before, at_end, text_before, width, AreGood}
-use Rattle.docker_model.specs.state.StateFault.{StateCause, StateFault, IsBadPart, HasBadPart, IsLong, IsShort}
+use Rattle.docker_model.specs.state.StateFault.{IsShort}
 use Rattle.cif_laws.proofs.lists.Fronts.{same_front}
 use Rattle.state_laws.proofs.texts.TextStages.{IsLater, AreInLine, in_line}
 use Rattle.state_laws.proofs.texts.PartsReached.{reach}

@@ -1,27 +1,17 @@
 -- Lemmas on the stage after the first items, entries or lines, and on the text that has been read
 -- at this stage.
-use Rattle.std.proofs.Common.{◌≡◌, ℕ, ◌<◌, ◌≤◌, ◌^◌, List, ◌++◌, length, rules}
-use Rattle.std.proofs.Common.{append_assoc, append-nil, length-append, nat_le, cond}
-use Rattle.std.specs.Int.{w32, w64, to_be_bytes, from_be_bytes}
-use Rattle.std.proofs.lemmas.Nat.{from_be_bytes-to_be_bytes_4, from_be_bytes-to_be_bytes_8}
-use Rattle.std.proofs.lemmas.Bool.{lt-leb, le-leb}
-use Rattle.std.proofs.lemmas.Bool.Decides.{leb_tells}
-use Rattle.std.proofs.lemmas.Grind.{flat_map-append}
-use Rattle.docker_model.specs.file.Change.{Key, schedule_key, ScheduleKey, schedule_body}
-use Rattle.docker_model.specs.state.Stamp.{Stamp, LedgerItem}
-use Rattle.docker_model.specs.state.Op.{Op, put_with}
-use Rattle.docker_model.specs.state.State.{State}
-use Rattle.docker_model.specs.state.StateText.{stamp_bytes, Format, op_bytes, ledger_text, entries_text}
-use Rattle.docker_model.specs.state.StatePart.{before_tag, before_line, part_text, key_text, before_item, before_entry_count, in_entry, at_end, text_before}
+use Rattle.cif_laws.proofs.Common.{◌≡◌, ℕ, ◌<◌, ◌≤◌, ◌^◌, List, ◌++◌, length, rules, append_assoc, append-nil, length-append, nat_le, cond, w32, to_be_bytes}
+use Rattle.cif_laws.proofs.Common.{from_be_bytes, lt-leb, le-leb, leb_tells, flat_map-append, Key, schedule_key, ScheduleKey, schedule_body, Stamp, LedgerItem}
+use Rattle.cif_laws.proofs.Common.{Op, put_with, State, stamp_bytes, Format, entries_text, before_tag, before_line, key_text, before_item, before_entry_count}
+use Rattle.cif_laws.proofs.Common.{in_entry, at_end, text_before}
+use Rattle.std.proofs.lemmas.Nat.{from_be_bytes-to_be_bytes_4}
+use Rattle.docker_model.specs.state.StateText.{op_bytes, ledger_text}
+use Rattle.docker_model.specs.state.StatePart.{part_text}
 use Rattle.state_laws.specs.TextStage.{after_items, after_entries, with_entry, after_lines}
 
 -- a number below 2^32 can be decoded from its four bytes
 pub read_32 : (n : ℕ) → n < 2 ^ 32 → from_be_bytes w32 (to_be_bytes w32 n) ≡ n
 read_32 = from_be_bytes-to_be_bytes_4
-
--- a number below 2^64 can be decoded from its eight bytes
-pub read_64 : (n : ℕ) → n < 2 ^ 64 → from_be_bytes w64 (to_be_bytes w64 n) ≡ n
-read_64 = from_be_bytes-to_be_bytes_8
 
 -- if fewer than `count` items have been read, the next part is another item
 pub more_items : (horizon : ℕ) → (count : ℕ) (ledger : List LedgerItem) → length ledger < count

@@ -1,7 +1,5 @@
 -- An intermediate location has up to three times: its arrival, its pass and its departure.
-use Rattle.std.proofs.Common.{ap, ◌∙◌}
-use Rattle.docker_model.specs.records.Record.{columns}
-use Rattle.docker_model.specs.records.Clock.{scheduled_time}
+use Rattle.cif_laws.proofs.Common.{ap, ◌∙◌, columns, scheduled_time}
 use Rattle.cif_line.specs.CallRead.{number_meant}
 use Rattle.cif_change.proofs.JourneyLemmas.{call_times}
 use Rattle.cif_change.proofs.journey_times.call_times.Goals as goal

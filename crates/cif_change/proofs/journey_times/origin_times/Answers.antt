@@ -1,7 +1,5 @@
 -- An origin has one time, its departure.
-use Rattle.std.proofs.Common.{[], ◌∷◌, sym, ap, ◌∙◌, refl}
-use Rattle.docker_model.specs.records.Record.{columns}
-use Rattle.docker_model.specs.records.Clock.{half_minutes}
+use Rattle.cif_laws.proofs.Common.{[], ◌∷◌, sym, ap, ◌∙◌, refl, columns, half_minutes}
 use Rattle.cif_change.proofs.JourneyLemmas.{origin_time}
 use Rattle.cif_change.proofs.journey_times.origin_times.Goals as goal
 

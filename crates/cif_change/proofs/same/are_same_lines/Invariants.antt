@@ -1,5 +1,4 @@
-use Rattle.std.proofs.Common.{◌≡◌, length}
-use Rattle.std.specs.Prelude.{◌↔◌}
+use Rattle.cif_laws.proofs.Common.{◌≡◌, length, ◌↔◌}
 use Rattle.cif_change.proofs.same.are_same_lines.Given as goal
 
 abbrev pub invariant-loop-one : goal.invariant-loop-one

@@ -1,4 +1,4 @@
-use Rattle.std.proofs.Common.{◌∙◌}
+use Rattle.cif_laws.proofs.Common.{◌∙◌}
 use Rattle.cif_change.proofs.JoinedLines.{after_first_record}
 use Rattle.cif_change.proofs.same.compare_lines.Goals as goal
 

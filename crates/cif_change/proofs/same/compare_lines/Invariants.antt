@@ -1,6 +1,4 @@
-use Rattle.std.proofs.Common.{◌≡◌, length}
-use Rattle.std.specs.List.{concat}
-use Rattle.docker_model.specs.state.Order.{bytes_cmp}
+use Rattle.cif_laws.proofs.Common.{◌≡◌, length, concat, bytes_cmp}
 use Rattle.cif_change.proofs.same.compare_lines.Given as goal
 
 abbrev pub invariant-loop-one : goal.invariant-loop-one

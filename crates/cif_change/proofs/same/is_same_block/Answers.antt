@@ -1,6 +1,4 @@
-use Rattle.std.proofs.Common.{◌∙◌, sym, arith}
-use Rattle.std.proofs.lemmas.Simd.{length-chunk}
-use lib.Lanes.{chunk}
+use Rattle.cif_laws.proofs.Common.{◌∙◌, sym, arith, length-chunk, chunk}
 use Rattle.cif_change.proofs.SameLines.{no_lane_differs, no_lane_of_same}
 use Rattle.cif_change.proofs.same.is_same_block.Goals as goal
 

@@ -1,4 +1,4 @@
-use Rattle.std.proofs.Common.{sym, ◌∙◌, arith}
+use Rattle.cif_laws.proofs.Common.{sym, ◌∙◌, arith}
 use Rattle.cif_change.proofs.SameLines.{line_told}
 use Rattle.cif_change.proofs.same.is_same_line.Goals as goal
 

@@ -1,7 +1,6 @@
 -- After a basic schedule, the reader remembers the stage, whether the schedule is a deletion, and whether it may end without a journey. It remembers no time
 -- yet.
-use Rattle.std.proofs.Common.{◌≡◌, refl, ap, sym, ◌∙◌, Bool}
-use Rattle.std.specs.Prelude.{◌||◌}
+use Rattle.cif_laws.proofs.Common.{◌≡◌, refl, ap, sym, ◌∙◌, Bool, ◌||◌}
 use Rattle.cif_change.proofs.JourneyLemmas.{basic_read}
 use Rattle.cif_change.proofs.steps.progress_after_basic.Goals as goal
 use Rattle.cif_change.proofs.steps.progress_after_basic.Goals.{then-deletion, else-deletion}

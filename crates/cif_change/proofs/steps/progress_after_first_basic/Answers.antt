@@ -1,5 +1,5 @@
 -- A basic schedule with good fields can be the first line of a schedule.
-use Rattle.std.proofs.Common.{◌≡◌, refl, true, subst, sym}
+use Rattle.cif_laws.proofs.Common.{◌≡◌, refl, true, subst, sym}
 use Rattle.cif_laws.specs.ScheduleStage.{is_first_line}
 use Rattle.cif_change.proofs.JourneyLemmas.{first_line_is}
 use Rattle.cif_change.proofs.steps.progress_after_first_basic.Goals as goal

@@ -1,10 +1,9 @@
 -- The taker takes the pieces in the order in which they were read.
-use Rattle.std.proofs.Common.{◌≡◌, ◌+◌, ◌<◌, ◌++◌, length, take, refl, ap, arith, ◌∙◌, subst}
+use Rattle.std.proofs.Common.{◌≡◌, ◌<◌, ◌++◌, length, take, refl, arith, ◌∙◌, subst, rules}
 use Rattle.std.proofs.lemmas.List.{length-take-le}
 use Rattle.cif_device.specs.Device.{IsEnd}
-use Rattle.cif_device.proofs.FeedLemmas.{at_once, at_start, count_told, end_stays, ended_by, going_on, not_passed_by, still_going}
-use Rattle.cif_device.proofs.FeedLemmas.{still_not_passed, fed_where_failed, fits_still, next_turn, no_more, none_failed, nothing_more}
-use Rattle.cif_device.proofs.FeedLemmas.{nothing_read, one_more, memory_answer, refusal_told, refused_behind, same_front}
+use Rattle.cif_device.proofs.FeedLemmas.{at_once, at_start, end_stays, going_on, fed_where_failed, fits_still, next_turn, no_more, none_failed, nothing_more}
+use Rattle.cif_device.proofs.FeedLemmas.{nothing_read, one_more, refused_behind, same_front}
 use Rattle.cif_device.proofs.feed.feed_all.Goals as goal
 
 pub returns-in_default-clause-ends : goal.returns-in_default-clause-ends
@@ -14,46 +13,30 @@ pub returns-in_default-clause-no_further : goal.returns-in_default-clause-no_fur
 returns-in_default-clause-no_further g c = λ settings text taken. nothing_read _ _ _ _ _ taken
 
 pub returns-in_default-clause-failures : goal.returns-in_default-clause-failures
-returns-in_default-clause-failures g c = (
-  none_failed _ _ _ _ memory_answer refl refl,
-  λ other. refl,
-)
+returns-in_default-clause-failures g c = search (rules, none_failed)
 
 pub pieces-init : goal.pieces-init
-pieces-init g c = record {
-  turn = λ settings text taken. at_start g.T.Taker.takes settings text (g.S.Source.left c.args.source.now) c.args.taker.now taken;
-  no_failure = refl;
-  room = c.in-Ok.ensures.len;
-  not_ended = λ was. was;
-  not_passed = λ was. refl;
-}
+pieces-init g c = search (rules, at_start, c.in-Ok.ensures.len)
 
 pub returns-in_default-read-clause-ends : goal.returns-in_default-read-clause-ends
-returns-in_default-read-clause-ends g c = λ settings text taken. fed_where_failed _ _ _ _ _ _
-    _ _ (c.pieces.invariant.turn settings text taken) c.in_default-read.ensures.unmoved
+returns-in_default-read-clause-ends g c = search (rules, fed_where_failed, c.pieces.invariant.turn, c.in_default-read.ensures.unmoved)
 
 pub returns-in_default-read-clause-no_further : goal.returns-in_default-read-clause-no_further
-returns-in_default-read-clause-no_further g c = λ settings text taken. no_more _ _ _ _ _ _
-    _ _ (c.pieces.invariant.turn settings text taken) c.in_default-read.ensures.unmoved
+returns-in_default-read-clause-no_further g c = search (rules, no_more, c.pieces.invariant.turn, c.in_default-read.ensures.unmoved)
 
 pub returns-in_default-read-clause-failures : goal.returns-in_default-read-clause-failures
-returns-in_default-read-clause-failures g c =
-    ((λ is. c.in_default-read.ensures.counted ∙ ap (λ n. n + 1) c.pieces.invariant.no_failure, λ more. refl), λ other. absurd (other refl))
+returns-in_default-read-clause-failures g c = search rules
 
 pub returns-then-n-eq0-clause-ends : goal.returns-then-n-eq0-clause-ends
 returns-then-n-eq0-clause-ends g c =
     let room : 0 < length c.read.new.into = omega (arith, c.pieces.invariant.room, c.as_mut_slice.ensures.len, c.read.auto.into) in
     let end : IsEnd (g.S.Source.left c.pieces.source) = c.in-Ok-read.ensures.end c.if-n-eq0.true room in (
-      λ settings text taken. nothing_more _ _ _ _ _ _ _
-          _ _ _ (c.pieces.invariant.turn settings text taken) c.if-n-eq0.true c.in-Ok-read.ensures.moved,
+      λ settings text taken. search (rules, nothing_more, c.pieces.invariant.turn, c.if-n-eq0.true, c.in-Ok-read.ensures.moved),
       end_stays _ _ _ c.in-Ok-read.ensures.moved end,
     )
 
 pub returns-then-n-eq0-clause-failures : goal.returns-then-n-eq0-clause-failures
-returns-then-n-eq0-clause-failures g c = (
-  none_failed _ _ _ _ (count_told _) c.in-Ok-read.ensures.no_failure c.pieces.invariant.no_failure,
-  λ other. c.in-Ok-read.ensures.no_failure ∙ c.pieces.invariant.no_failure,
-)
+returns-then-n-eq0-clause-failures g c = search (rules, none_failed)
 
 pub returns-then-n-eq0-clause-no_further : goal.returns-then-n-eq0-clause-no_further
 returns-then-n-eq0-clause-no_further g c = λ settings text taken. one_more _ _ _ _ _ _ _ _ _ (c.pieces.invariant.turn settings text taken)
@@ -63,20 +46,14 @@ pub returns-in-Err-clause-ends : goal.returns-in-Err-clause-ends
 returns-in-Err-clause-ends g c = λ settings text taken.
     let at = c.pieces.invariant.turn settings text taken in
     let long : length c.read.new.into ≡ c.pieces.piece.len = c.read.auto.into ∙ c.as_mut_slice.ensures.len in
-    let same : take c.in-Ok-read.n c.deref.result.now ≡ take c.in-Ok-read.n c.read.new.into =
-    same_front c.in-Ok-read.n c.pieces.piece.len c.deref.result.now c.read.new.into c.pieces.piece.items c.deref.ensures.value long
-    c.in-Ok-read.ensures.within in
+    let same : take c.in-Ok-read.n c.deref.result.now ≡ take c.in-Ok-read.n c.read.new.into = search (rules, same_front) in
     refused_behind g.T.Taker.takes g.T.Taker.refuses c.pieces.fed settings text (g.S.Source.left c.args.source.now) (g.S.Source.left c.pieces.source)
     (g.S.Source.left c.read.new.self) c.pieces.taker c.take.new.self (take c.in-Ok-read.n c.read.new.into) c.in-Err.fault at c.in-Ok-read.ensures.moved
     (at_once c.in-Ok-read.n c.pieces.piece.len c.read.new.into long c.pieces.invariant.room c.in-Ok-read.ensures.within)
-    (subst (λ piece. g.T.Taker.refuses c.take.new.self settings (text ++ at.bytes) piece c.in-Err.fault) same
-    (c.in-Err.ensures.refused settings (text ++ at.bytes) at.taken))
+    (search rules)
 
 pub returns-in-Err-clause-failures : goal.returns-in-Err-clause-failures
-returns-in-Err-clause-failures g c = (
-  none_failed _ _ _ _ (refusal_told _) c.in-Ok-read.ensures.no_failure c.pieces.invariant.no_failure,
-  λ other. c.in-Ok-read.ensures.no_failure ∙ c.pieces.invariant.no_failure,
-)
+returns-in-Err-clause-failures g c = search (rules, none_failed)
 
 pub returns-in-Err-clause-no_further : goal.returns-in-Err-clause-no_further
 returns-in-Err-clause-no_further g c = λ settings text taken. one_more _ _ _ _ _ _ _ _ _ (c.pieces.invariant.turn settings text taken)
@@ -87,8 +64,7 @@ overflow_add-fed g c =
     let asked = c.requires.taking in
     let at = c.pieces.invariant.turn asked.settings asked.text asked.taken in
     let long : length c.read.new.into ≡ c.pieces.piece.len = c.read.auto.into ∙ c.as_mut_slice.ensures.len in
-    let same : take c.in-Ok-read.n c.deref.result.now ≡ take c.in-Ok-read.n c.read.new.into = same_front _ _ _ _ _ c.deref.ensures.value long
-    c.in-Ok-read.ensures.within in
+    let same : take c.in-Ok-read.n c.deref.result.now ≡ take c.in-Ok-read.n c.read.new.into = search (rules, same_front) in
     let taken = subst (λ piece. g.T.Taker.takes c.take.new.self asked.settings ((asked.text ++ at.bytes) ++ piece)) same
     (c.in_default-take.ensures.taken asked.settings (asked.text ++ at.bytes) at.taken) in
     fits_still _ _ _ _ _ at.size (length-take-le c.in-Ok-read.n c.read.new.into c.in-Ok-read.ensures.within)
@@ -97,45 +73,34 @@ overflow_add-fed g c =
 pub pieces-preserved : goal.pieces-preserved
 pieces-preserved g c =
     let long : length c.read.new.into ≡ c.pieces.piece.len = c.read.auto.into ∙ c.as_mut_slice.ensures.len in
-    let same : take c.in-Ok-read.n c.deref.result.now ≡ take c.in-Ok-read.n c.read.new.into =
-    same_front c.in-Ok-read.n c.pieces.piece.len c.deref.result.now c.read.new.into c.pieces.piece.items c.deref.ensures.value long
-    c.in-Ok-read.ensures.within in
+    let same : take c.in-Ok-read.n c.deref.result.now ≡ take c.in-Ok-read.n c.read.new.into = search (rules, same_front) in
     record {
       turn = λ settings text taken.
           let at = c.pieces.invariant.turn settings text taken in
           next_turn g.T.Taker.takes c.pieces.fed c.in-Ok-read.n settings text (g.S.Source.left c.args.source.now) (g.S.Source.left c.pieces.source)
           (g.S.Source.left c.read.new.self) c.pieces.taker c.take.new.self (take c.in-Ok-read.n c.read.new.into) at
           (length-take-le c.in-Ok-read.n c.read.new.into c.in-Ok-read.ensures.within) c.in-Ok-read.ensures.moved
-          (subst (λ piece. g.T.Taker.takes c.take.new.self settings ((text ++ at.bytes) ++ piece)) same
-          (c.in_default-take.ensures.taken settings (text ++ at.bytes) at.taken));
+          (search rules);
       no_failure = c.in-Ok-read.ensures.no_failure ∙ c.pieces.invariant.no_failure;
       room = c.pieces.invariant.room;
-      not_ended = λ was. going_on c.in-Ok-read.n (length c.read.new.into) (g.S.Source.ended c.pieces.source) (g.S.Source.ended c.read.new.self)
-          (g.S.Source.passed c.pieces.source) (g.S.Source.passed c.read.new.self)
-          c.in-Ok-read.ensures.ending c.if-n-eq0.false (c.pieces.invariant.not_ended was);
-      not_passed = λ was. not_passed_by c.in-Ok-read.n (length c.read.new.into) (g.S.Source.ended c.pieces.source) (g.S.Source.ended c.read.new.self)
-          (g.S.Source.passed c.pieces.source) (g.S.Source.passed c.read.new.self) c.in-Ok-read.ensures.ending (c.pieces.invariant.not_ended was)
-          ∙ c.pieces.invariant.not_passed was;
+      not_ended = λ was. going_on _ _ _ _ _ _ c.in-Ok-read.ensures.ending c.if-n-eq0.false (c.pieces.invariant.not_ended was);
+      not_passed = λ was. c.in-Ok-read.ensures.ending.3 (c.pieces.invariant.not_ended was) ∙ c.pieces.invariant.not_passed was;
     }
 
 pub returns-in_default-read-clause-not_ended : goal.returns-in_default-read-clause-not_ended
-returns-in_default-read-clause-not_ended g c = λ was. still_going _ _ _ _ c.in_default-read.ensures.still ∙ c.pieces.invariant.not_ended was
+returns-in_default-read-clause-not_ended g c = λ was. c.in_default-read.ensures.still.0 ∙ c.pieces.invariant.not_ended was
 
 pub returns-in_default-read-clause-not_passed : goal.returns-in_default-read-clause-not_passed
-returns-in_default-read-clause-not_passed g c = λ was. still_not_passed _ _ _ _ c.in_default-read.ensures.still ∙ c.pieces.invariant.not_passed was
+returns-in_default-read-clause-not_passed g c = λ was. c.in_default-read.ensures.still.1 ∙ c.pieces.invariant.not_passed was
 
 pub returns-then-n-eq0-clause-ended : goal.returns-then-n-eq0-clause-ended
-returns-then-n-eq0-clause-ended g c =
-    let room : 0 < length c.read.new.into = omega (arith, c.pieces.invariant.room, c.as_mut_slice.ensures.len, c.read.auto.into) in
-    ended_by _ _ _ _ _ _ c.in-Ok-read.ensures.ending c.if-n-eq0.true room
+returns-then-n-eq0-clause-ended g c = search rules
 
 pub returns-then-n-eq0-clause-not_passed : goal.returns-then-n-eq0-clause-not_passed
-returns-then-n-eq0-clause-not_passed g c = λ was. not_passed_by _ _ _ _ _ _ c.in-Ok-read.ensures.ending (c.pieces.invariant.not_ended was)
-    ∙ c.pieces.invariant.not_passed was
+returns-then-n-eq0-clause-not_passed g c = λ was. c.in-Ok-read.ensures.ending.3 (c.pieces.invariant.not_ended was) ∙ c.pieces.invariant.not_passed was
 
 pub returns-in-Err-clause-not_ended : goal.returns-in-Err-clause-not_ended
 returns-in-Err-clause-not_ended g c = λ was. going_on _ _ _ _ _ _ c.in-Ok-read.ensures.ending c.if-n-eq0.false (c.pieces.invariant.not_ended was)
 
 pub returns-in-Err-clause-not_passed : goal.returns-in-Err-clause-not_passed
-returns-in-Err-clause-not_passed g c = λ was. not_passed_by _ _ _ _ _ _ c.in-Ok-read.ensures.ending (c.pieces.invariant.not_ended was)
-    ∙ c.pieces.invariant.not_passed was
+returns-in-Err-clause-not_passed g c = λ was. c.in-Ok-read.ensures.ending.3 (c.pieces.invariant.not_ended was) ∙ c.pieces.invariant.not_passed was

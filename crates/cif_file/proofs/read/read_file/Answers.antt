@@ -1,5 +1,5 @@
 -- The result is the file that was read, with all its changes.
-use Rattle.std.proofs.Common.{sym, subst}
+use Rattle.cif_laws.proofs.Common.{sym, subst}
 use Rattle.cif_file.specs.SourceRead.{ReadsText}
 use Rattle.cif_file.proofs.EndedLemmas.{reads_text, reads_parts}
 use Rattle.cif_file.proofs.ReadLemmas.{wants_any}

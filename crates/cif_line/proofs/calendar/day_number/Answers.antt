@@ -1,5 +1,4 @@
-use Rattle.std.proofs.Common.{rules, arith, ◌≡◌, ◌≤◌, ◌+◌, ◌*◌, ◌/◌, ◌∙◌}
-use Rattle.docker_model.specs.records.Date.{day_number, full_year, last_day}
+use Rattle.cif_laws.proofs.Common.{rules, arith, ◌≡◌, ◌≤◌, ◌+◌, ◌*◌, ◌/◌, ◌∙◌, day_number, full_year, last_day}
 use Rattle.cif_line.proofs.Dates.{numbered, number_bound, days_before, leap_before}
 use Rattle.cif_line.proofs.calendar.day_number.Goals as goal
 

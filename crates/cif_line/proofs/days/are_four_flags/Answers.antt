@@ -1,14 +1,6 @@
-use Rattle.std.proofs.Common.{ℕ, w8, nat_lt, cond, refl, arith}
-use Rattle.std.specs.Prelude.{◌==◌, ◌||◌}
-use Rattle.std.proofs.lemmas.Simd.{length-chunk, chunk-fits}
-use lib.Lanes.{chunk}
-use Rattle.cif_line.proofs.Lanes.{no_lane_set}
+use Rattle.cif_laws.proofs.Common.{w8, refl, arith, ◌==◌, ◌||◌, length-chunk, chunk-fits, chunk}
+use Rattle.cif_line.proofs.Lanes.{above, no_lane_set}
 use Rattle.cif_line.proofs.days.are_four_flags.Goals as goal
-
--- the lane of a byte `x`: all bits of the lane are set if the byte is above the limit, and
--- otherwise the lane is 0
-above : ℕ → ℕ → ℕ
-above limit x = cond (nat_lt limit x) 255 0
 
 pub returns : goal.returns
 unfolding above

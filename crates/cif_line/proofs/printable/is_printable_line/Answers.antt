@@ -1,7 +1,5 @@
-use Rattle.std.proofs.Common.{◌≡◌, ◌&&◌, length, sym, ◌∙◌, arith}
-use Rattle.std.proofs.lemmas.List.Sums.{AllPass-from_list_all, list_all-from_AllPass}
-use Rattle.std.specs.List.{list_all}
-use Rattle.docker_model.specs.records.Record.{is_printable}
+use Rattle.cif_laws.proofs.Common.{◌≡◌, ◌&&◌, length, sym, ◌∙◌, arith, AllPass-from_list_all, list_all, is_printable}
+use Rattle.std.proofs.lemmas.List.Sums.{list_all-from_AllPass}
 use Rattle.cif_line.proofs.Lanes.{five_blocks}
 use Rattle.cif_line.proofs.printable.is_printable_line.Goals as goal
 

@@ -1,4 +1,4 @@
-use Rattle.std.proofs.Common.{rules}
+use Rattle.cif_laws.proofs.Common.{rules}
 use Rattle.cif_line.proofs.JoinedTests.{call_last_bad}
 use Rattle.cif_line.proofs.read.call_fault.Goals as goal
 

@@ -1,4 +1,4 @@
-use Rattle.std.proofs.Common.{rules}
+use Rattle.cif_laws.proofs.Common.{rules}
 use Rattle.cif_line.proofs.JoinedTests.{end_tests}
 use Rattle.cif_line.proofs.Times.{present_read}
 use Rattle.cif_line.proofs.read.good_end_time.Goals as goal

@@ -1,5 +1,5 @@
-use Rattle.std.proofs.Common.{subst}
-use Rattle.std.specs.Prelude.{IfErr, ⊤}
+use Rattle.std.proofs.Common.{subst, IfErr}
+use Rattle.std.specs.Prelude.{⊤}
 use Rattle.docker_bytes.specs.StateReading.{IsUnended, JoinsText}
 use Rattle.docker_bytes.proofs.ReadLemmas.{ended_for}
 use Rattle.docker_bytes.proofs.join.join.Goals as goal

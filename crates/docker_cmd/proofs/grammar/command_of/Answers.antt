@@ -1,5 +1,5 @@
-use Rattle.std.proofs.Common.{◌≡◌, ◌∙◌, ◌<◌, ◌+◌, ◌||◌, ℕ, List, [], ◌∷◌, ◌++◌, Bor, length, slice_index_or, take, map, sym, ap, ap₂}
-use Rattle.std.proofs.lemmas.List.{map-append, take_more}
+use Rattle.cif_laws.proofs.Common.{◌≡◌, ◌∙◌, ◌<◌, ◌+◌, ◌||◌, ℕ, List, [], ◌∷◌, ◌++◌, Bor, length, slice_index_or, take, map, sym, ap, ap₂, map-append}
+use Rattle.cif_laws.proofs.Common.{take_more}
 use Rattle.clap.specs.Words.{App, Text, with_rule}
 use Rattle.docker_cmd.specs.Grammar.{required_rule, words_shape}
 use Rattle.docker_cmd.specs.Tasks.{name_of}

@@ -1,4 +1,4 @@
-use Rattle.std.proofs.Common.{◌≡◌, [], false, map, take}
+use Rattle.cif_laws.proofs.Common.{◌≡◌, [], false, map, take}
 use Rattle.clap.specs.Words.{app_of}
 use Rattle.clap.specs.declared.builder.Command.TheViews.{out-Command as fields_of}
 use Rattle.docker_cmd.specs.Grammar.{words_shape}

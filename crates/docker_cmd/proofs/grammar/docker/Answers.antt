@@ -1,6 +1,4 @@
-use Rattle.std.proofs.Common.{◌≡◌, ◌∙◌, List, [], ◌∷◌, ◌++◌, slice_index_or, take, map, refl, sym, ap, ap₂}
-use Rattle.std.specs.List.{fold}
-use Rattle.std.proofs.lemmas.List.{take_more}
+use Rattle.cif_laws.proofs.Common.{◌≡◌, ◌∙◌, List, [], ◌∷◌, ◌++◌, slice_index_or, take, map, refl, sym, ap, ap₂, fold, take_more}
 use Rattle.clap.specs.Words.{App, with_subcommand}
 use Rattle.docker_cmd.specs.Grammar.{docker_shape, shape_of}
 use Rattle.docker_cmd.specs.declared.tasks.Subcommand.{Subcommand}

@@ -1,5 +1,4 @@
-use Rattle.std.proofs.Common.{◌≡◌, [], map, take}
-use Rattle.std.specs.List.{fold}
+use Rattle.cif_laws.proofs.Common.{◌≡◌, [], map, take, fold}
 use Rattle.clap.specs.Words.{app_of, with_subcommand}
 use Rattle.docker_cmd.specs.Grammar.{docker_shape, shape_of}
 use Rattle.docker_cmd.specs.Tasks.{subcommands}

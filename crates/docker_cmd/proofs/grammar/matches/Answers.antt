@@ -1,4 +1,4 @@
-use Rattle.std.proofs.Common.{map}
+use Rattle.cif_laws.proofs.Common.{map}
 use Rattle.docker_cmd.proofs.GrammarLemmas.{fails_by, rows_are}
 use Rattle.docker_cmd.proofs.grammar.matches.Goals as goal
 

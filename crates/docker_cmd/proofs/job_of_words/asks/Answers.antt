@@ -1,4 +1,4 @@
-use Rattle.std.proofs.Common.{refl}
+use Rattle.cif_laws.proofs.Common.{refl}
 use Rattle.docker_cmd.proofs.JobOfWordsLemmas.{miscounted}
 use Rattle.docker_cmd.proofs.job_of_words.asks.Goals as goal
 

@@ -1,5 +1,4 @@
-use Rattle.std.proofs.Common.{◌≡◌, Err, ap, subst}
-use Rattle.std.proofs.lemmas.Result.{err_from_is_err_and}
+use Rattle.cif_laws.proofs.Common.{◌≡◌, Err, ap, subst, err_from_is_err_and}
 use Rattle.docker_cmd.specs.Words.{texts}
 use Rattle.docker_cmd.specs.Job.{AskNothing}
 use Rattle.docker_cmd.specs.declared.job_fault.JobFault.TheVariants.{Usage}

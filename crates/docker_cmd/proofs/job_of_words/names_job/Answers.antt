@@ -1,4 +1,4 @@
-use Rattle.std.proofs.Common.{refl}
+use Rattle.cif_laws.proofs.Common.{refl}
 use Rattle.docker_cmd.specs.Words.{texts}
 use Rattle.docker_cmd.proofs.JobOfWordsLemmas.{behind_asks, no_plain_job, unnamed_job}
 use Rattle.docker_cmd.proofs.WordsLemmas.{plain_texts}

@@ -1,4 +1,4 @@
-use Rattle.std.proofs.Common.{◌≡◌, map, take, string_bytes}
+use Rattle.cif_laws.proofs.Common.{◌≡◌, map, take, string_bytes}
 use Rattle.docker_cmd.specs.Words.{texts}
 use Rattle.docker_cmd.proofs.job_of_words.owned_words.Given as goal
 

@@ -1,5 +1,4 @@
-use Rattle.std.proofs.Common.{ℕ, List, subst, sym}
-use Rattle.std.proofs.lemmas.Result.{IfOk-weaker}
+use Rattle.cif_laws.proofs.Common.{ℕ, List, subst, sym, IfOk-weaker}
 use Rattle.docker_cmd.specs.Job.{IsJobOf, NameNoJob}
 use Rattle.docker_cmd.specs.JobLine.{words_in}
 use Rattle.docker_cmd.proofs.LineOfJobLemmas.{no_job_on_line, job_on_line}

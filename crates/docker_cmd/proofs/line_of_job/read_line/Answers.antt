@@ -1,4 +1,4 @@
-use Rattle.std.proofs.Common.{◌≡◌, ◌≢◌, length, refl, arith, rules}
+use Rattle.cif_laws.proofs.Common.{◌≡◌, ◌≢◌, length, refl, arith, rules}
 use Rattle.docker_cmd.proofs.LineOfJobLemmas.{no_line_at_end, no_line_at, no_line_full, no_line_behind, reads_few, reads_one_more}
 use Rattle.docker_cmd.proofs.line_of_job.read_line.Goals as goal
 use Rattle.docker_cmd.proofs.line_of_job.read_line.Goals.{then-is_full-via-then-is_full, then-is_full-via-else-is_full+then-not-is_printable}

@@ -1,4 +1,4 @@
-use Rattle.std.proofs.Common.{◌≡◌, length}
+use Rattle.cif_laws.proofs.Common.{◌≡◌, length}
 use Rattle.cif_device.specs.Device.{IsNotPassed}
 use Rattle.cif_device.specs.Device.{Reads}
 use Rattle.docker_cmd.proofs.LineOfJobLemmas.{ArePrintable}

@@ -1,4 +1,4 @@
-use Rattle.std.proofs.Common.{◌≡◌, ◌++◌, ap, ◌∙◌, sym, append_assoc, rules, arith}
+use Rattle.cif_laws.proofs.Common.{◌≡◌, ◌++◌, ap, ◌∙◌, sym, append_assoc, rules, arith}
 use Rattle.docker_cmd.specs.JobLine.{word_or_none, words_in}
 use Rattle.docker_cmd.specs.Words.{texts}
 use Rattle.docker_cmd.proofs.LineWords.{words_at_space}

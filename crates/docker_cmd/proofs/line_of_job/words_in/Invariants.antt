@@ -1,4 +1,4 @@
-use Rattle.std.proofs.Common.{◌≡◌, ◌≤◌, ◌+◌, ◌*◌, ◌++◌, length}
+use Rattle.cif_laws.proofs.Common.{◌≡◌, ◌≤◌, ◌+◌, ◌*◌, ◌++◌, length}
 use Rattle.std.specs.Prelude.{IsUtf8}
 use Rattle.arrayvec.specs.ArrayVec.{array_vec_len}
 use Rattle.docker_cmd.specs.JobLine.{words_in}

@@ -1,4 +1,4 @@
-use Rattle.std.proofs.lemmas.Result.{err_from_is_err_and}
+use Rattle.cif_laws.proofs.Common.{err_from_is_err_and}
 use Rattle.docker_cmd.proofs.SourcesLemmas.{prepared_read, read_one_file}
 use Rattle.docker_cmd.proofs.prepared_job.prepare.Goals as goal
 

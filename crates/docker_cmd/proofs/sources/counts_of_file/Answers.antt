@@ -1,5 +1,4 @@
-use Rattle.std.proofs.Common.{refl}
-use Rattle.std.proofs.lemmas.Result.{err_from_is_err_and}
+use Rattle.cif_laws.proofs.Common.{refl, err_from_is_err_and}
 use Rattle.docker_cmd.proofs.ReadingLemmas.{check_failed, check_refused}
 use Rattle.docker_cmd.proofs.sources.counts_of_file.Goals as goal
 

@@ -1,8 +1,4 @@
-use Rattle.std.proofs.Common.{inl, inr, refl}
-use Rattle.std.specs.Prelude.{⊤}
-use Rattle.std.proofs.lemmas.Result.{err_from_is_err_and}
-use Rattle.docker_model.specs.file.File.{most_records}
-use Rattle.docker_model.specs.state.StateText.{dks_2}
+use Rattle.cif_laws.proofs.Common.{inl, inr, refl, ⊤, err_from_is_err_and, most_records, dks_2}
 use Rattle.docker_office.specs.Office.{TakesFile}
 use Rattle.docker_cmd.proofs.ReadingLemmas.{file_failed, file_refused, file_unread, state_failed_alone, state_refused_alone}
 use Rattle.docker_cmd.proofs.sources.office_of_state_and_file.Goals as goal
@@ -10,16 +6,11 @@ use Rattle.docker_cmd.proofs.sources.office_of_state_and_file.Goals as goal
 pub returns-in_err-taker-clause-reads : goal.returns-in_err-taker-clause-reads
 returns-in_err-taker-clause-reads g c =
     let same = err_from_is_err_and c.from_residual.result c.from_residual.ensures.1 in
-    let first = g.S.Source.left c.args.first.now in
-    let left = g.S.Source.left c.read.new.source in
-    let second = g.T.Source.left c.args.second.now in
-    let failed = g.S.Source.failures c.args.first.now in
-    let failed_now = g.S.Source.failures c.read.new.source in
     rw (same.1, same.2) (record {
-      outcome = file_unread first left second _ (state_refused_alone dks_2 first left second failed failed_now _ c.in_err-taker.ensures.reads);
+      outcome = file_unread _ _ _ _ (state_refused_alone dks_2 _ _ _ _ _ _ c.in_err-taker.ensures.reads);
       none = λ none. let never : ⊥ = cc in absurd never;
       order = inl refl;
-      counted = state_failed_alone failed failed_now (g.T.Source.failures c.args.second.now) _ c.in_err-taker.ensures.reads.failures;
+      counted = state_failed_alone _ _ _ _ c.in_err-taker.ensures.reads.failures;
     })
 
 pub returns-in_err-take-clause-reads : goal.returns-in_err-take-clause-reads

@@ -1,22 +1,15 @@
-use Rattle.std.proofs.Common.{inl, inr, refl}
-use Rattle.std.proofs.lemmas.Result.{err_from_is_err_and}
-use Rattle.docker_model.specs.state.StateText.{dks_2}
+use Rattle.cif_laws.proofs.Common.{inl, inr, refl, err_from_is_err_and, dks_2}
 use Rattle.docker_cmd.proofs.ReadingLemmas.{state_failed, state_failed_alone, state_refused, state_refused_alone, state_unread}
 use Rattle.docker_cmd.proofs.sources.office_of_two_states.Goals as goal
 
 pub returns-in_err-receiver-clause-reads : goal.returns-in_err-receiver-clause-reads
 returns-in_err-receiver-clause-reads g c =
     let same = err_from_is_err_and c.from_residual.result c.from_residual.ensures.1 in
-    let first = g.S.Source.left c.args.first.now in
-    let left = g.S.Source.left c.read.new.source in
-    let second = g.T.Source.left c.args.second.now in
-    let failed = g.S.Source.failures c.args.first.now in
-    let failed_now = g.S.Source.failures c.read.new.source in
     rw (same.1, same.2) (record {
-      outcome = state_unread first left second _ (state_refused_alone dks_2 first left second failed failed_now _ c.in_err-receiver.ensures.reads);
+      outcome = state_unread _ _ _ _ (state_refused_alone dks_2 _ _ _ _ _ _ c.in_err-receiver.ensures.reads);
       none = λ none. let never : ⊥ = cc in absurd never;
       order = inl refl;
-      counted = state_failed_alone failed failed_now (g.T.Source.failures c.args.second.now) _ c.in_err-receiver.ensures.reads.failures;
+      counted = state_failed_alone _ _ _ _ c.in_err-receiver.ensures.reads.failures;
     })
 
 pub returns-in_err-receive-clause-reads : goal.returns-in_err-receive-clause-reads
@@ -24,8 +17,6 @@ returns-in_err-receive-clause-reads g c =
     let same = err_from_is_err_and c.from_residual-in_err-receive.result c.from_residual-in_err-receive.ensures.1 in
     let first = c.in_ok-receiver.ensures.reads in
     let received = c.in_err-receive.ensures.reads in
-    let failed = g.T.Source.failures c.args.second.now in
-    let failed_now = g.T.Source.failures c.receive.new.source in
     rw (same.1, same.2) (record {
       outcome = state_refused _ _ _ _ _ _ _ (_, first.outcome) first.few received;
       none = λ none. let never : ⊥ = cc in absurd never;

@@ -1,4 +1,4 @@
-use Rattle.std.proofs.lemmas.Result.{err_from_is_err_and}
+use Rattle.cif_laws.proofs.Common.{err_from_is_err_and}
 use Rattle.docker_cmd.proofs.sources.office_raised.Goals as goal
 
 pub returns-clause-reads : goal.returns-clause-reads

@@ -1,4 +1,4 @@
-use Rattle.std.proofs.Common.{◌≡◌, ◌∙◌, ◌⊎◌, ap, subst, sym}
+use Rattle.cif_laws.proofs.Common.{◌≡◌, ◌∙◌, ◌⊎◌, ap, subst, sym}
 use Rattle.clap.specs.Faults.{fault_of}
 use Rattle.clap.specs.Kinds.{IsAmong}
 use Rattle.clap.specs.declared.error.ErrorKind.TheVariants.{OutOfMemory}

@@ -1,5 +1,4 @@
-use Rattle.std.proofs.Common.{◌∙◌, ap, subst, sym, rules}
-use Rattle.std.specs.Prelude.{option_map}
+use Rattle.cif_laws.proofs.Common.{◌∙◌, ap, subst, sym, rules, option_map}
 use Rattle.clap.specs.Words.{found_of, rows_of}
 use Rattle.docker_cmd.specs.Words.{texts}
 use Rattle.docker_cmd.proofs.FoundWords.{HasFound, none_here, none_yet}

@@ -1,4 +1,4 @@
-use Rattle.std.proofs.Common.{◌≡◌, length}
+use Rattle.cif_laws.proofs.Common.{◌≡◌, length}
 use Rattle.clap.specs.Words.{found_of, rows_of}
 use Rattle.docker_cmd.specs.Words.{texts}
 use Rattle.docker_cmd.proofs.FoundWords.{HasFound}

@@ -1,4 +1,4 @@
-use Rattle.std.proofs.Common.{sym, ◌∙◌}
+use Rattle.cif_laws.proofs.Common.{sym, ◌∙◌}
 use Rattle.docker_day.proofs.FirstCalls.{there_before, first_of_suffix}
 use Rattle.docker_day.proofs.base_calls.add_call.Goals as goal
 

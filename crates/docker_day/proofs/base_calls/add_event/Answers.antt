@@ -1,5 +1,4 @@
-use Rattle.std.proofs.Common.{sym, subst, ◌∙◌}
-use Rattle.std.proofs.lemmas.Result.{on_ok_weaker}
+use Rattle.cif_laws.proofs.Common.{sym, subst, ◌∙◌, on_ok_weaker}
 use Rattle.train_choice.specs.Occurrences as events
 use Rattle.train_choice.specs.EventWalk.{occurrence_meant}
 use Rattle.docker_day.specs.Bases.{HasCall}

@@ -1,7 +1,4 @@
-use Rattle.std.proofs.Common.{◌≡◌, ℕ}
-use Rattle.std.specs.Prelude.{find}
-use Rattle.std.specs.BTreeMap.{get}
-use Rattle.std.specs.Ordering.{nat_cmp}
+use Rattle.cif_laws.proofs.Common.{◌≡◌, ℕ, find, get, nat_cmp}
 use Rattle.docker_day.specs.Bases.{kept_or}
 use Rattle.docker_day.specs.Lines.{is_call}
 use Rattle.docker_day.proofs.base_calls.first_calls.Given as goal

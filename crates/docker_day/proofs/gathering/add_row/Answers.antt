@@ -1,5 +1,4 @@
-use Rattle.std.proofs.Common.{ap, sym, ◌∙◌}
-use Rattle.std.proofs.lemmas.Result.{on_ok_weaker}
+use Rattle.cif_laws.proofs.Common.{ap, sym, ◌∙◌, on_ok_weaker}
 use Rattle.train_choice.specs.Known.{PlaceDay}
 use Rattle.docker_day.specs.RowViews.{row_runs_recently, row_under_way}
 use Rattle.docker_day.specs.Visits.{Visit}

@@ -1,7 +1,4 @@
-use Rattle.std.specs.Prelude.{◌&&◌, not}
-use Rattle.std.proofs.Common.{ap, sym, ◌∙◌}
-use Rattle.docker_model.specs.file.Change.{AssociationKey}
-use Rattle.docker_model.specs.docker.Choice.{association_runs, group_of}
+use Rattle.cif_laws.proofs.Common.{◌&&◌, not, ap, sym, ◌∙◌, AssociationKey, association_runs, group_of}
 use Rattle.docker_laws.specs.Gathering.{counts_as}
 use Rattle.docker_laws.specs.LiveRows.{link_in}
 use Rattle.train_choice.specs.Ranked.{is_cancellation}

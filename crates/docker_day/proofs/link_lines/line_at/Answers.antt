@@ -1,4 +1,4 @@
-use Rattle.std.proofs.Common.{[], ◌∷◌, ap, sym, ◌∙◌}
+use Rattle.cif_laws.proofs.Common.{[], ◌∷◌, ap, sym, ◌∙◌}
 use Rattle.train_choice.specs.Meaning.{occasion_meant}
 use Rattle.train_choice.specs.EventWalk.{occurrence_meant}
 use Rattle.docker_day.specs.Lines.{line_of_link, is_today}

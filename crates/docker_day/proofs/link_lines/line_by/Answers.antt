@@ -1,4 +1,4 @@
-use Rattle.std.proofs.Common.{◌≡◌, Some, ap, sym, ◌∙◌, rules}
+use Rattle.cif_laws.proofs.Common.{◌≡◌, Some, ap, sym, ◌∙◌, rules}
 use Rattle.docker_laws.specs.LiveRows.{train_in}
 use Rattle.train_choice.specs.Meaning.{occasion_meant}
 use Rattle.train_choice.specs.EventWalk.{occurrence_meant}

@@ -1,10 +1,5 @@
-use Rattle.std.proofs.Common.{◌≡◌, List, ap, sym, subst, ◌∙◌}
-use Rattle.std.specs.Prelude.{Option, IfOk, option_map}
-use Rattle.docker_model.specs.records.Record.{columns}
-use Rattle.docker_model.specs.docker.Association.{category_occasion}
+use Rattle.cif_laws.proofs.Common.{◌≡◌, List, ap, sym, subst, ◌∙◌, Option, IfOk, option_map, columns, category_occasion, Occasion, Row, AreRowsOf}
 use Rattle.docker_laws.specs.LiveRows.{train_in}
-use Rattle.docker_model.specs.file.Journey.{Occasion}
-use Rattle.docker_model.specs.state.Row.{Row, AreRowsOf}
 use Rattle.docker_state.specs.Timetables.{live_in}
 use Rattle.train_choice.specs.Meaning.{occasion_meant}
 use Rattle.docker_day.specs.Lines.{listed, link_line_with}

@@ -1,5 +1,4 @@
-use Rattle.std.proofs.Common.{◌∙◌}
-use Rattle.std.proofs.lemmas.Result.{on_ok_weaker}
+use Rattle.cif_laws.proofs.Common.{◌∙◌, on_ok_weaker}
 use Rattle.docker_state.specs.Timetables.{live_in}
 use Rattle.train_choice.specs.Known.{PlaceDay}
 use Rattle.docker_day.proofs.Gathered.{both_gathered}

@@ -1,5 +1,4 @@
-use Rattle.std.proofs.Common.{subst}
-use Rattle.std.specs.Prelude.{IfOk}
+use Rattle.cif_laws.proofs.Common.{subst, IfOk}
 use Rattle.docker_state.specs.Timetables.{Timetable, live_in}
 use Rattle.docker_day.specs.Dockers.{IsDockerOf}
 use Rattle.docker_day.proofs.making.docker.Goals as goal

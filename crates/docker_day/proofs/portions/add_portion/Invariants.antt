@@ -1,4 +1,4 @@
-use Rattle.std.proofs.Common.{◌≡◌}
+use Rattle.cif_laws.proofs.Common.{◌≡◌}
 use Rattle.docker_day.proofs.RowPortions.{AddsFirst}
 use Rattle.docker_day.proofs.portions.add_portion.Given as goal
 

@@ -1,4 +1,4 @@
-use Rattle.std.proofs.Common.{subst, ◌∙◌}
+use Rattle.cif_laws.proofs.Common.{subst, ◌∙◌}
 use Rattle.docker_state.specs.Timetables.{live_in}
 use Rattle.docker_day.specs.Portions.{ArePassedOver}
 use Rattle.docker_day.proofs.RowPortions.{live_again, live_portion, moved_again, moved_open, moved_over}

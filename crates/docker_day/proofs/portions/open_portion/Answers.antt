@@ -1,4 +1,4 @@
-use Rattle.std.proofs.Common.{◌∙◌}
+use Rattle.cif_laws.proofs.Common.{◌∙◌}
 use Rattle.docker_day.proofs.RowPortions.{left_again, none_after, none_behind}
 use Rattle.docker_day.proofs.portions.open_portion.Goals as goal
 

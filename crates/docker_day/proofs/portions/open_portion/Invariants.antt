@@ -1,4 +1,4 @@
-use Rattle.std.proofs.Common.{◌≡◌, [], false, length}
+use Rattle.cif_laws.proofs.Common.{◌≡◌, [], false, length}
 use Rattle.train_choice.specs.Along.{AreGoodRows}
 use Rattle.docker_day.specs.Portions.{AreLeft, AreOpened, ArePassedOver}
 use Rattle.docker_day.proofs.portions.open_portion.Given as goal

@@ -1,6 +1,4 @@
-use Rattle.std.proofs.Common.{ap, ◌+◌, ◌∙◌, refl}
-use Rattle.docker_model.specs.docker.DockerLine.{DockerLine}
-use Rattle.docker_model.specs.docker.DockerText.{line_text, ended}
+use Rattle.cif_laws.proofs.Common.{ap, ◌+◌, ◌∙◌, refl, DockerLine, line_text, ended}
 use Rattle.docker_day.proofs.Written.{none_failed, on_any_err, one_failed, leads_first, leads_on, leads_part, leads_last}
 use Rattle.docker_day.proofs.print.write_lines.Goals as goal
 

@@ -1,6 +1,4 @@
-use Rattle.std.proofs.Common.{◌≡◌, drop}
-use Rattle.docker_model.specs.docker.DockerLine.{DockerLine}
-use Rattle.docker_model.specs.docker.DockerText.{line_text, ended}
+use Rattle.cif_laws.proofs.Common.{◌≡◌, drop, DockerLine, line_text, ended}
 use Rattle.docker_day.proofs.Written.{Leads}
 use Rattle.docker_day.proofs.print.write_lines.Given as goal
 

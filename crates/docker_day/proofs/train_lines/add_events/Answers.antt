@@ -1,7 +1,5 @@
-use Rattle.std.proofs.Common.{◌++◌, ap, ◌∙◌, refl}
-use Rattle.std.specs.Prelude.{codes}
-use Rattle.std.proofs.lemmas.Result.{on_ok_weaker}
-use Rattle.docker_model.specs.docker.DockerLine.{ends, tiploc_of_first}
+use Rattle.cif_laws.proofs.Common.{◌++◌, ap, ◌∙◌, refl, codes, on_ok_weaker, tiploc_of_first}
+use Rattle.docker_model.specs.docker.DockerLine.{ends}
 use Rattle.train_choice.specs.UpTo.{occurrences_to}
 use Rattle.docker_day.specs.Lines.{lines_there}
 use Rattle.docker_day.proofs.TrainLines.{event_lines_are, no_event_lines}

@@ -1,6 +1,4 @@
-use Rattle.std.proofs.Common.{ap, sym, ◌∙◌}
-use Rattle.docker_model.specs.docker.Choice.{schedule_runs}
-use Rattle.docker_model.specs.file.File.{first_record}
+use Rattle.cif_laws.proofs.Common.{ap, sym, ◌∙◌, schedule_runs, first_record}
 use Rattle.docker_day.proofs.Adding.{not_added}
 use Rattle.docker_day.proofs.PassedOver.{runs_not}
 use Rattle.docker_day.proofs.train_lines.add_schedule.Goals as goal

@@ -1,4 +1,4 @@
-use Rattle.std.proofs.Common.{◌≡◌, ◌++◌}
+use Rattle.cif_laws.proofs.Common.{◌≡◌, ◌++◌}
 use Rattle.train_choice.specs.UpTo.{occurrences_to}
 use Rattle.docker_day.specs.Details.{detail_meant}
 use Rattle.docker_day.specs.Lines.{lines_there}

@@ -1,5 +1,4 @@
-use Rattle.std.proofs.Common.{◌∙◌}
-use Rattle.std.specs.Prelude.{◌||◌}
+use Rattle.cif_laws.proofs.Common.{◌∙◌, ◌||◌}
 use Rattle.docker_day.proofs.train_lines.runs_recently.Goals as goal
 
 pub returns : goal.returns

@@ -1,4 +1,4 @@
-use Rattle.std.proofs.Common.{◌≡◌, ◌≤◌, ◌+◌, length}
+use Rattle.cif_laws.proofs.Common.{◌≡◌, ◌≤◌, ◌+◌, length}
 use Rattle.docker_desk.specs.Answers.{line_count}
 use Rattle.docker_desk.proofs.answers.line_feeds.Given as goal
 

@@ -1,4 +1,4 @@
-use Rattle.std.proofs.Common.{rules}
+use Rattle.cif_laws.proofs.Common.{rules}
 use Rattle.docker_cmd.specs.FaultLine.{fault_line}
 use Rattle.docker_host.specs.FaultSink.{faults_view}
 use Rattle.docker_desk.specs.Serving.{unsaved_text}

@@ -1,4 +1,4 @@
-use Rattle.std.proofs.Common.{◌≡◌, length, take}
+use Rattle.cif_laws.proofs.Common.{◌≡◌, length, take}
 use Rattle.docker_cmd.specs.Words.{texts}
 use Rattle.docker_desk.specs.Serving.{word_bytes}
 use Rattle.docker_desk.proofs.given.borrowed.Given as goal

@@ -1,4 +1,4 @@
-use Rattle.std.proofs.Common.{List, ℕ, refl, subst}
+use Rattle.cif_laws.proofs.Common.{List, ℕ, refl, subst}
 use Rattle.docker_host.specs.FaultSink.{TellsText, faults_view}
 use Rattle.docker_desk.proofs.GivenLemmas.{misused}
 use Rattle.docker_desk.proofs.given.serve_strings.Goals as goal

@@ -1,5 +1,4 @@
-use Rattle.std.proofs.Common.{List, subst}
-use Rattle.std.specs.List.{flat_map}
+use Rattle.cif_laws.proofs.Common.{List, subst, flat_map}
 use Rattle.docker_host.specs.Streams.{EndsWriting}
 use Rattle.docker_host.proofs.StreamsLemmas.{part_of_first}
 use Rattle.docker_desk.specs.Requests.{row_of}

@@ -1,7 +1,4 @@
-use Rattle.std.proofs.Common.{List, ℕ, ◌∷◌, ◌++◌, subst}
-use Rattle.std.specs.Prelude.{codes}
-use Rattle.std.specs.List.{flat_map}
-use Rattle.std.specs.Borrow.{Bor}
+use Rattle.cif_laws.proofs.Common.{List, ℕ, ◌∷◌, ◌++◌, subst, codes, flat_map, Bor}
 use Rattle.docker_host.specs.Streams.{EndsWriting, WritesPart, WritesWhole}
 use Rattle.docker_host.proofs.StreamsLemmas.{part_of_first}
 use Rattle.docker_desk.specs.Help.{leave_text}

@@ -1,4 +1,4 @@
-use Rattle.std.proofs.Common.{ap}
+use Rattle.cif_laws.proofs.Common.{ap}
 use Rattle.docker_host.proofs.StreamsLemmas.{writes_none}
 use Rattle.docker_desk.specs.Help.{request_line}
 use Rattle.docker_desk.proofs.HelpLemmas.{part_at, whole_at, whole_end}

@@ -1,5 +1,4 @@
-use Rattle.std.proofs.Common.{take}
-use Rattle.std.specs.List.{flat_map}
+use Rattle.cif_laws.proofs.Common.{take, flat_map}
 use Rattle.docker_host.specs.Streams.{WritesWhole}
 use Rattle.docker_desk.specs.Requests.{row_of}
 use Rattle.docker_desk.specs.Help.{request_line}

@@ -1,5 +1,4 @@
-use Rattle.std.proofs.Common.{ap, ◌∷◌, List, ℕ}
-use Rattle.std.specs.Borrow.{Bor}
+use Rattle.cif_laws.proofs.Common.{ap, ◌∷◌, List, ℕ, Bor}
 use Rattle.docker_host.proofs.StreamsLemmas.{writes_none}
 use Rattle.docker_desk.proofs.HelpLemmas.{part_at, whole_at, whole_end}
 use Rattle.docker_desk.proofs.help.write_words.Goals as goal

@@ -1,6 +1,4 @@
-use Rattle.std.proofs.Common.{◌∷◌, take, List, ℕ}
-use Rattle.std.specs.Borrow.{Bor}
-use Rattle.std.specs.List.{flat_map}
+use Rattle.cif_laws.proofs.Common.{◌∷◌, take, List, ℕ, Bor, flat_map}
 use Rattle.docker_host.specs.Streams.{WritesWhole}
 use Rattle.docker_desk.proofs.help.write_words.Given as goal
 

@@ -1,7 +1,4 @@
-use Rattle.std.proofs.Common.{subst}
-use Rattle.docker_model.specs.state.State.{State, live_table}
-use Rattle.docker_model.specs.lists.KnownText.{IsKnownText}
-use Rattle.docker_model.specs.lists.PlacesText.{IsPlacesText}
+use Rattle.cif_laws.proofs.Common.{subst, State, live_table, IsKnownText, IsPlacesText}
 use Rattle.docker_desk.proofs.FixedLemmas.{one_state}
 use Rattle.docker_desk.proofs.laws.known_files_fix_lists.Goals as goal
 

@@ -1,5 +1,4 @@
-use Rattle.std.proofs.Common.{ap}
-use Rattle.docker_model.specs.state.StateText.{dks_2, state_text}
+use Rattle.cif_laws.proofs.Common.{ap, dks_2, state_text}
 use Rattle.docker_desk.proofs.FixedLemmas.{one_docker, one_state}
 use Rattle.docker_desk.proofs.laws.known_files_fix_states.Goals as goal
 

@@ -1,7 +1,6 @@
-use Rattle.std.proofs.Common.{◌≡◌, ◌≢◌, ℕ, List, ◌∷◌, [], length, arith, rules, inl, inr, refl, ap, sym, subst, ◌∙◌, true, append-nil}
-use Rattle.docker_model.specs.records.Record.{is_printable}
+use Rattle.cif_laws.proofs.Common.{◌≡◌, ◌≢◌, ℕ, List, ◌∷◌, [], length, arith, rules, inl, inr, refl, ap, sym, subst, ◌∙◌, true, append-nil, is_printable}
+use Rattle.cif_laws.proofs.Common.{err_from_is_err_and}
 use Rattle.cif_device.specs.Device.{Reads}
-use Rattle.std.proofs.lemmas.Result.{err_from_is_err_and}
 use Rattle.docker_desk.specs.Lines.{Uses, cut_or_end, with_ahead}
 use Rattle.docker_desk.proofs.LineLemmas.{ArePrintable, IsSpoiled, printable_more, printable_without, reads_bad, reads_on}
 use Rattle.docker_desk.proofs.UseLemmas.{uses_bad, uses_cut, uses_failed, uses_more, uses_whole}

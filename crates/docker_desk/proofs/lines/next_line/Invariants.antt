@@ -1,4 +1,4 @@
-use Rattle.std.proofs.Common.{◌≡◌, ◌≤◌, length, false}
+use Rattle.cif_laws.proofs.Common.{◌≡◌, ◌≤◌, length, false}
 use Rattle.cif_device.specs.Device.{Reads}
 use Rattle.docker_desk.specs.Lines.{Uses, with_ahead}
 use Rattle.docker_desk.proofs.LineLemmas.{ArePrintable}

@@ -1,6 +1,5 @@
-use Rattle.std.proofs.Common.{◌≢◌, rules, tests, arith, ◌∙◌, ◌≡◌, ◌-◌, ◌^◌, ◌∷◌, [], ℕ, subst}
+use Rattle.cif_laws.proofs.Common.{◌≢◌, rules, tests, arith, ◌∙◌, ◌≡◌, ◌-◌, ◌^◌, ◌∷◌, [], ℕ, subst, err_from_is_err_and}
 use Rattle.docker_desk.specs.Lines.{Uses}
-use Rattle.std.proofs.lemmas.Result.{err_from_is_err_and}
 use Rattle.docker_desk.proofs.LineLemmas.{skips_byte, skips_before, many_more}
 use Rattle.docker_desk.proofs.UseLemmas.{rest_end, rest_endless, rest_failed, rest_feed, rest_more}
 use Rattle.docker_desk.proofs.lines.skip_line.Goals as goal

@@ -1,5 +1,4 @@
-use Rattle.std.proofs.Common.{◌≡◌, ℕ, List, false}
-use Rattle.std.specs.Prelude.{Option}
+use Rattle.cif_laws.proofs.Common.{◌≡◌, ℕ, List, false, Option}
 use Rattle.docker_desk.specs.Lines.{ReadsMany, SkipsLine, SkipsAll, with_ahead}
 use Rattle.docker_desk.proofs.UseLemmas.{UsesRest}
 use Rattle.docker_desk.proofs.lines.skip_line.Given as goal

@@ -1,4 +1,4 @@
-use Rattle.std.proofs.Common.{◌≡◌, ◌≤◌, length, take}
+use Rattle.cif_laws.proofs.Common.{◌≡◌, ◌≤◌, length, take}
 use Rattle.docker_desk.specs.Copying.{IsNoFront}
 use Rattle.docker_desk.proofs.matching.matching_front.Given as goal
 

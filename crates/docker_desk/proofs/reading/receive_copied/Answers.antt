@@ -1,5 +1,4 @@
-use Rattle.std.proofs.Common.{refl, subst}
-use Rattle.docker_model.specs.state.StateText.{dks_2}
+use Rattle.cif_laws.proofs.Common.{refl, subst, dks_2}
 use Rattle.docker_cmd.specs.Prepared.{most_bytes}
 use Rattle.docker_host.specs.History.{Bytes}
 use Rattle.docker_bytes.specs.SourceRead.{JoinsState}

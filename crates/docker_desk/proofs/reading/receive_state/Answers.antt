@@ -1,4 +1,4 @@
-use Rattle.std.proofs.Common.{Some}
+use Rattle.cif_laws.proofs.Common.{Some}
 use Rattle.docker_desk.proofs.HistoryLemmas.{then_closed}
 use Rattle.docker_desk.proofs.ReadFiles.{receives}
 use Rattle.docker_desk.proofs.reading.receive_state.Goals as goal

@@ -1,4 +1,4 @@
-use Rattle.std.proofs.Common.{rules, subst}
+use Rattle.cif_laws.proofs.Common.{rules, subst}
 use Rattle.docker_cmd.specs.Words.{OfTwo}
 use Rattle.docker_desk.specs.Queries.{AreIdentityAndDay}
 use Rattle.docker_desk.proofs.requests.identity_and_day.Goals as goal

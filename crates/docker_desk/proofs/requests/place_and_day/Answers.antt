@@ -1,4 +1,4 @@
-use Rattle.std.proofs.Common.{subst}
+use Rattle.cif_laws.proofs.Common.{subst}
 use Rattle.docker_cmd.specs.Words.{OfTwo}
 use Rattle.docker_desk.specs.Queries.{ArePlaceAndDay}
 use Rattle.docker_desk.proofs.requests.place_and_day.Goals as goal

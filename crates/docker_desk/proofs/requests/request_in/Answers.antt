@@ -1,4 +1,4 @@
-use Rattle.std.proofs.Common.{◌∙◌, ap, sym, true≢false}
+use Rattle.cif_laws.proofs.Common.{◌∙◌, ap, sym, true≢false}
 use Rattle.docker_desk.specs.Requests.{first_word, after_word}
 use Rattle.docker_desk.proofs.RequestLemmas.{asked_by, no_verb, not_allowed}
 use Rattle.docker_desk.proofs.requests.request_in.Goals as goal

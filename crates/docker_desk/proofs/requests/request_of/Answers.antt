@@ -1,4 +1,4 @@
-use Rattle.std.proofs.Common.{rules}
+use Rattle.cif_laws.proofs.Common.{rules}
 use Rattle.docker_desk.proofs.requests.request_of.Goals as goal
 
 pub returns-in_err-place-in-Docker : goal.returns-in_err-place-in-Docker

@@ -1,4 +1,4 @@
-use Rattle.std.proofs.Common.{◌≡◌, ◌-◌, ◌^◌, Some, ap, refl, ◌∙◌, arith}
+use Rattle.cif_laws.proofs.Common.{◌≡◌, ◌-◌, ◌^◌, Some, ap, refl, ◌∙◌, arith}
 use Rattle.docker_desk.proofs.StepLemmas.{counts_on, ended_after, ended_endless, so_far_first, so_far_on}
 use Rattle.docker_desk.proofs.EndLemmas.{left_of_all}
 use Rattle.docker_desk.proofs.serving.serve_lines.Goals as goal

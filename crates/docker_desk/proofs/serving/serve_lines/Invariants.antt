@@ -1,4 +1,4 @@
-use Rattle.std.proofs.Common.{◌≡◌, ◌≤◌, false}
+use Rattle.cif_laws.proofs.Common.{◌≡◌, ◌≤◌, false}
 use Rattle.docker_desk.specs.Lines.{with_ahead}
 use Rattle.docker_desk.specs.SessionViews.{session_view, setting}
 use Rattle.docker_desk.proofs.StepLemmas.{IsSoFar}

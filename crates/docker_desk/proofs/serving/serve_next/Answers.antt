@@ -1,4 +1,4 @@
-use Rattle.std.proofs.Common.{ap, refl, Some, Ok}
+use Rattle.cif_laws.proofs.Common.{ap, refl, Some, Ok}
 use Rattle.docker_desk.specs.Lines.{asked_meant, bad_line, is_end_of_lines}
 use Rattle.docker_desk.specs.Replies.{answer_meant, no_request}
 use Rattle.docker_desk.specs.declared.ending.Ending.TheVariants.{Ended}

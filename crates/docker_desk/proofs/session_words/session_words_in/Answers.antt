@@ -1,4 +1,4 @@
-use Rattle.std.proofs.Common.{rules}
+use Rattle.cif_laws.proofs.Common.{rules}
 use Rattle.docker_desk.proofs.SessionWordsLemmas.{named_to_write}
 use Rattle.docker_desk.proofs.session_words.session_words_in.Goals as goal
 

@@ -1,6 +1,4 @@
-use Rattle.std.proofs.Common.{◌++◌, ◌∷◌, [], Some, List, ap, rules, subst, sym, tests, ◌∙◌}
-use Rattle.std.specs.Prelude.{codes}
-use Rattle.docker_model.specs.state.State.{IsValid}
+use Rattle.cif_laws.proofs.Common.{◌++◌, ◌∷◌, [], Some, List, ap, rules, subst, sym, tests, ◌∙◌, codes, IsValid}
 use Rattle.docker_host.specs.History.{Event, placed}
 use Rattle.docker_host.specs.Shelf.{ShelfView}
 use Rattle.docker_host.specs.Streams.{StreamsView}

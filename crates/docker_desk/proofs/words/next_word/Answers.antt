@@ -1,4 +1,4 @@
-use Rattle.std.proofs.Common.{◌≡◌, ◌≢◌, [], length, sym, ◌∙◌, rules, tests}
+use Rattle.cif_laws.proofs.Common.{◌≡◌, ◌≢◌, [], length, sym, ◌∙◌, rules, tests}
 use Rattle.docker_desk.proofs.WordLemmas.{no_byte, words_none, words_cut_as, words_last_as}
 use Rattle.docker_desk.proofs.words.next_word.Goals as goal
 

@@ -1,4 +1,4 @@
-use Rattle.std.proofs.Common.{sym, ◌∙◌}
+use Rattle.cif_laws.proofs.Common.{sym, ◌∙◌}
 use Rattle.docker_desk.proofs.WordLemmas.{spaces_nowhere}
 use Rattle.docker_desk.proofs.words.without_spaces.Goals as goal
 

@@ -1,4 +1,4 @@
-use Rattle.std.proofs.Common.{◌≡◌, length}
+use Rattle.cif_laws.proofs.Common.{◌≡◌, length}
 use Rattle.std.specs.Prelude.{IsUtf8}
 use Rattle.docker_desk.specs.Requests.{without_spaces}
 use Rattle.docker_desk.proofs.words.without_spaces.Given as goal

@@ -1,6 +1,4 @@
-use Rattle.std.proofs.Common.{sym, subst}
-use Rattle.std.specs.Prelude.{IfOk}
-use Rattle.std.proofs.lemmas.Result.{IfOk-weaker}
+use Rattle.cif_laws.proofs.Common.{sym, subst, IfOk, IfOk-weaker}
 use Rattle.docker_state.specs.Timetables.{Timetable, live_in}
 use Rattle.docker_day.specs.Dockers.{IsDockerOf}
 use Rattle.docker_detail.specs.DetailedValue.{IsDetailedOf}

@@ -1,7 +1,4 @@
-use Rattle.std.proofs.Common.{◌≡◌, List, [], ◌∷◌, ◌++◌, ap, sym, ◌∙◌, subst}
-use Rattle.std.specs.Prelude.{All}
-use Rattle.std.specs.Vec.Iter.{into_iter_items}
-use Rattle.std.proofs.lemmas.List.Elements.{All-push}
+use Rattle.cif_laws.proofs.Common.{◌≡◌, List, [], ◌∷◌, ◌++◌, ap, sym, ◌∙◌, subst, All, into_iter_items, All-push}
 use Rattle.docker_state.specs.Timetables.{live_in}
 use Rattle.docker_detail.specs.Finding.{Detailed, IsLineFound, firsts}
 use Rattle.docker_detail.specs.Known.{AtPlace}

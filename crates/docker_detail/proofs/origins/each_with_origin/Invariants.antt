@@ -1,6 +1,4 @@
-use Rattle.std.proofs.Common.{◌≡◌, ◌++◌}
-use Rattle.std.specs.Prelude.{All}
-use Rattle.std.specs.Vec.Iter.{into_iter_items}
+use Rattle.cif_laws.proofs.Common.{◌≡◌, ◌++◌, All, into_iter_items}
 use Rattle.docker_state.specs.Timetables.{live_in}
 use Rattle.docker_detail.specs.Finding.{IsLineFound, firsts}
 use Rattle.docker_detail.proofs.origins.each_with_origin.Given as goal

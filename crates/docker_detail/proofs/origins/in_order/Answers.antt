@@ -1,9 +1,7 @@
-use Rattle.std.proofs.Common.{rules}
-use Rattle.std.specs.Ordering.{is_lt}
+use Rattle.cif_laws.proofs.Common.{rules, is_lt, docker_line_cmp}
 use Rattle.std.proofs.lemmas.List.MinMax.{ranks_by}
 use Rattle.std.proofs.lemmas.List.Sorted.{answers_always}
 use Rattle.cif_laws.proofs.orders.Orders.{docker_line_total}
-use Rattle.docker_model.specs.docker.DockerLine.{docker_line_cmp}
 use Rattle.docker_detail.specs.Finding.{Detailed}
 use Rattle.docker_detail.proofs.InOrder.{firsts_sorted}
 use Rattle.docker_detail.proofs.origins.in_order.Goals as goal

@@ -1,5 +1,4 @@
-use Rattle.std.proofs.Common.{subst}
-use Rattle.std.specs.Prelude.{All}
+use Rattle.cif_laws.proofs.Common.{subst, All}
 use Rattle.docker_state.specs.Timetables.{live_in}
 use Rattle.docker_detail.specs.Finding.{IsLineFound}
 use Rattle.docker_detail.specs.Known.{AtPlace}

@@ -1,4 +1,4 @@
-use Rattle.docker_model.specs.docker.DockerText.{last_line}
+use Rattle.cif_laws.proofs.Common.{last_line}
 use Rattle.docker_detail.proofs.print.padded_last_line.Goals as goal
 
 pub returns : goal.returns

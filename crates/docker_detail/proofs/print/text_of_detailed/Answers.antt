@@ -1,6 +1,4 @@
-use Rattle.std.proofs.Common.{ap, ◌∙◌}
-use Rattle.docker_model.specs.docker.DockerLine.{DockerLine}
-use Rattle.docker_model.specs.docker.DockerText.{ended, line_text}
+use Rattle.cif_laws.proofs.Common.{ap, ◌∙◌, DockerLine, ended, line_text}
 use Rattle.docker_detail.proofs.PutTexts.{line_put}
 use Rattle.docker_detail.proofs.print.text_of_detailed.Goals as goal
 

@@ -1,29 +1,22 @@
-use Rattle.std.proofs.Common.{ap, ◌+◌, ◌∙◌, refl}
-use Rattle.std.specs.List.{flat_map}
-use Rattle.std.proofs.lemmas.Result.{on_ok_weaker, on_err_weaker}
-use Rattle.docker_model.specs.docker.DetailedText.{detailed_line}
+use Rattle.cif_laws.proofs.Common.{ap, ◌+◌, ◌∙◌, refl, flat_map, on_ok_weaker, on_err_weaker, detailed_line, ended}
 use Rattle.docker_detail.specs.Finding.{Detailed}
-use Rattle.docker_model.specs.docker.DockerText.{ended}
 use Rattle.docker_day.proofs.Written.{as_often, last_failed, on_any_err, one_failed, all_taken, part_of_first, part_of_second, part_of_third}
 use Rattle.docker_detail.proofs.Printed.{printed, heading_is}
 use Rattle.docker_detail.proofs.print.write_detailed.Goals as goal
 
 pub returns-in_err-write_all-clause-part : goal.returns-in_err-write_all-clause-part
 returns-in_err-write_all-clause-part g c =
-    let docker = c.args.docker.now in
     on_any_err _ (part_of_first _ _ (g.K.Sink.taken c.write_all.new.sink) (g.K.Sink.taken c.write_all.new.sink) _ _ _ _ _ _ (heading_is _ _ _ _ _ _ _
     c.place.ensures c.day.ensures c.description.ensures c.padded_heading-heading.ensures) refl refl c.in_err-write_all.ensures.part)
 
 pub returns-in_err-write_lines-clause-part : goal.returns-in_err-write_lines-clause-part
 returns-in_err-write_lines-clause-part g c =
-    let docker = c.args.docker.now in
     on_any_err _ (part_of_second _ _ _ (g.K.Sink.taken c.write_lines.new.sink) _ _ _ _ _ _ (heading_is _ _ _ _ _ _ _
     c.place.ensures c.day.ensures c.description.ensures c.padded_heading-heading.ensures)
     (ap (flat_map (λ (line : Detailed). ended (detailed_line line))) c.lines.ensures) refl c.in_ok-write_all.ensures.whole c.in_err-write_lines.ensures.part)
 
 pub returns-clause-whole : goal.returns-clause-whole
 returns-clause-whole g c =
-    let docker = c.args.docker.now in
     on_ok_weaker c.write_all-2.result (all_taken _ _ _ _ _ _ _ _ _ _ (heading_is _ _ _ _ _ _ _
     c.place.ensures c.day.ensures c.description.ensures c.padded_heading-heading.ensures)
     (ap (flat_map (λ (line : Detailed). ended (detailed_line line))) c.lines.ensures) c.padded_last_line.ensures
@@ -31,7 +24,6 @@ returns-clause-whole g c =
 
 pub returns-clause-part : goal.returns-clause-part
 returns-clause-part g c =
-    let docker = c.args.docker.now in
     on_err_weaker c.write_all-2.result (part_of_third _ _ _ _ _ _ _ _ _ _ (heading_is _ _ _ _ _ _ _
     c.place.ensures c.day.ensures c.description.ensures c.padded_heading-heading.ensures)
     (ap (flat_map (λ (line : Detailed). ended (detailed_line line))) c.lines.ensures) c.padded_last_line.ensures

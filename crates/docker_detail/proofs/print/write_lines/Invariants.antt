@@ -1,7 +1,5 @@
-use Rattle.std.proofs.Common.{◌≡◌, drop}
-use Rattle.docker_model.specs.docker.DetailedText.{detailed_line}
+use Rattle.cif_laws.proofs.Common.{◌≡◌, drop, detailed_line, ended}
 use Rattle.docker_detail.specs.Finding.{Detailed}
-use Rattle.docker_model.specs.docker.DockerText.{ended}
 use Rattle.docker_day.proofs.Written.{Leads}
 use Rattle.docker_detail.proofs.print.write_lines.Given as goal
 

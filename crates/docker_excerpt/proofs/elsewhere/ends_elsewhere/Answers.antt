@@ -1,10 +1,5 @@
 -- Each of the made-up lines is a record.
-use Rattle.std.proofs.Common.{◌≡◌, ◌++◌, ℕ, List, length, true, refl}
-use Rattle.std.specs.Prelude.{codes}
-use Rattle.std.specs.List.{list_all}
-use Rattle.std.proofs.lemmas.List.Sums.{AllPass-from_list_all}
-use Rattle.docker_model.specs.records.PrintedTime.{spaces}
-use Rattle.docker_model.specs.records.Record.{IsRecord, is_printable}
+use Rattle.cif_laws.proofs.Common.{◌≡◌, ◌++◌, ℕ, List, length, true, refl, codes, list_all, AllPass-from_list_all, spaces, IsRecord, is_printable}
 use Rattle.docker_excerpt.proofs.elsewhere.ends_elsewhere.Goals as goal
 
 record_by : (line : List ℕ) → length line ≡ 80 → list_all is_printable line ≡ true → IsRecord line

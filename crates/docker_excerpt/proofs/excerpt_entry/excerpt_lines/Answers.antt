@@ -1,8 +1,5 @@
 -- The schedule calls at the place, but no event of it is on the day.
-use Rattle.std.proofs.Common.{ap, sym, ◌∙◌, ◌∷◌, subst}
-use Rattle.std.specs.Prelude.{slice_get}
-use Rattle.std.proofs.lemmas.Result.{IfOk-weaker}
-use Rattle.docker_model.specs.file.Journey.{calls_at}
+use Rattle.cif_laws.proofs.Common.{ap, sym, ◌∙◌, ◌∷◌, subst, slice_get, IfOk-weaker, calls_at}
 use Rattle.docker_laws.specs.NearDay.{may_reach}
 use Rattle.docker_excerpt.specs.Midnights.{IsPutSchedule}
 use Rattle.docker_excerpt.proofs.MidnightLemmas.{shortened_lines}

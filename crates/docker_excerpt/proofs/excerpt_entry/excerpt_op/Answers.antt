@@ -1,7 +1,5 @@
 -- The lines of a well-formed body are a schedule that is put.
-use Rattle.std.proofs.Common.{subst}
-use Rattle.docker_model.specs.state.Op.{put_with}
-use Rattle.docker_model.specs.state.State.{IsOpOf}
+use Rattle.cif_laws.proofs.Common.{subst, put_with, IsOpOf}
 use Rattle.cif_change.specs.Meaning.{body_meant, key_meant}
 use Rattle.docker_join.specs.Meaning.{op_meant}
 use Rattle.docker_excerpt.proofs.MidnightLemmas.{put_of_op}

@@ -1,4 +1,4 @@
-use Rattle.std.proofs.Common.{◌≡◌, ◌++◌, map}
+use Rattle.cif_laws.proofs.Common.{◌≡◌, ◌++◌, map}
 use Rattle.docker_join.specs.Meaning.{row_meant}
 use Rattle.docker_excerpt.proofs.excerpting.with_rows.Given as goal
 

@@ -1,5 +1,5 @@
 -- Each line's times follow the times of the lines before it.
-use Rattle.std.proofs.Common.{◌∙◌}
+use Rattle.cif_laws.proofs.Common.{◌∙◌}
 use Rattle.docker_excerpt.proofs.MidnightLemmas.{rest_good, past_first, past_last, none_by, midnights_told}
 use Rattle.docker_excerpt.proofs.midnights.passes_midnight.Goals as goal
 

@@ -1,7 +1,5 @@
 -- The remaining lines lead to the same last time as all lines, and have good fields.
-use Rattle.std.proofs.Common.{◌≡◌, All, Some, length}
-use Rattle.docker_model.specs.records.Field.{HasGoodFields}
-use Rattle.docker_model.specs.file.Journey.{times_along}
+use Rattle.cif_laws.proofs.Common.{◌≡◌, All, Some, length, HasGoodFields, times_along}
 use Rattle.docker_excerpt.specs.Midnights.{past_all}
 use Rattle.docker_excerpt.proofs.midnights.passes_midnight.Given as goal
 

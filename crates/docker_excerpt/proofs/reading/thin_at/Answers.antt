@@ -1,5 +1,5 @@
 -- The result is a thin file made from the file that was read.
-use Rattle.std.proofs.Common.{sym, subst}
+use Rattle.cif_laws.proofs.Common.{sym, subst}
 use Rattle.docker_excerpt.specs.ThinEnded.{ReadsThin}
 use Rattle.docker_excerpt.proofs.ThinEnds.{reads_thin, reads_thin_parts}
 use Rattle.cif_file.proofs.ReadLemmas.{wants_any}

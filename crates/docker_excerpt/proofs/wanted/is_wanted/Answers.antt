@@ -1,8 +1,7 @@
-use Rattle.cif_line.specs.Letter.{stp_letter}
-use Rattle.docker_excerpt.proofs.NeededChanges.{says_wanted}
+use Rattle.cif_laws.proofs.Common.{rules, bytes_eq-Decides}
+use Rattle.docker_laws.proofs.dockers.NeededChanges.{wanted_uid}
+use Rattle.state_laws.proofs.indexes.CallsTest.{any_back}
 use Rattle.docker_excerpt.proofs.wanted.is_wanted.Goals as goal
 
 pub returns : goal.returns
-returns c =
-    says_wanted c.args.uids.now (record { uid = c.args.key.now.uid; runs_from = c.args.key.now.runs_from; indicator = stp_letter c.args.key.now.stp })
-    c.has_name.result c.has_name.ensures
+returns c = search (rules, wanted_uid, any_back, bytes_eq-Decides)

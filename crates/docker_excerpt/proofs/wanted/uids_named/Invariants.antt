@@ -1,7 +1,5 @@
 -- The UIDs are those that the keys of the changes before the current one name.
-use Rattle.std.proofs.Common.{◌≡◌}
-use Rattle.std.specs.Prelude.{take}
-use Rattle.std.specs.List.{filter_map}
+use Rattle.cif_laws.proofs.Common.{◌≡◌, take, filter_map}
 use Rattle.cif_change.specs.Meaning.{key_meant}
 use Rattle.cif_change.specs.declared.change.Change.{Change}
 use Rattle.docker_excerpt.specs.Elsewhere.{uid_named}

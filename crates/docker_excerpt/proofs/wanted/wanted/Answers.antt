@@ -1,5 +1,4 @@
-use Rattle.std.proofs.Common.{rules}
-use Rattle.std.proofs.lemmas.Fn.{filter_same}
+use Rattle.cif_laws.proofs.Common.{rules, filter_same}
 use Rattle.docker_laws.specs.Thinning.{is_wanted}
 use Rattle.cif_change.specs.Meaning.{key_meant}
 use Rattle.cif_change.specs.declared.key.Key.TheVariants as key

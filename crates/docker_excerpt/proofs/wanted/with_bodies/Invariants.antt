@@ -1,5 +1,5 @@
 -- The changes so far, followed by the puts of the remaining schedules, are all changes.
-use Rattle.std.proofs.Common.{◌≡◌, ◌++◌, map}
+use Rattle.cif_laws.proofs.Common.{◌≡◌, ◌++◌, map}
 use Rattle.docker_laws.specs.Thinning.{ends_elsewhere}
 use Rattle.cif_change.specs.Meaning.{change_meant}
 use Rattle.docker_excerpt.specs.Elsewhere.{elsewhere_meant, all_kept}

@@ -1,4 +1,4 @@
-use Rattle.std.proofs.Common.{arith, List, ◌∙◌, sym, subst}
+use Rattle.cif_laws.proofs.Common.{arith, List, ◌∙◌, sym, subst}
 use Rattle.cif_change.specs.declared.key.Key.{Key}
 use Rattle.docker_join.specs.Rows.{AreAscending}
 use Rattle.docker_join.specs.Placing.{IsJoinWith}

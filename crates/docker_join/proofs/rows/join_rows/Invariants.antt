@@ -1,5 +1,5 @@
-use Rattle.std.proofs.Common.{◌+◌, ◌≤◌, vec_len}
-use Rattle.std.specs.VecDeque.{deque_len, deque_capacity}
+use Rattle.cif_laws.proofs.Common.{◌+◌, ◌≤◌, vec_len, deque_len}
+use Rattle.std.specs.VecDeque.{deque_capacity}
 use Rattle.docker_join.specs.Rows.{AreAscending}
 use Rattle.docker_join.specs.Placing.{left_rows, IsJoinWith}
 use Rattle.docker_join.proofs.rows.join_rows.Given as goal

@@ -1,4 +1,4 @@
-use Rattle.std.proofs.Common.{arith}
+use Rattle.cif_laws.proofs.Common.{arith}
 use Rattle.docker_join.proofs.LapsedRows.{all_lapsed, lapsed_ascend}
 use Rattle.docker_join.proofs.rows.lapse_rows.Goals as goal
 

@@ -1,5 +1,4 @@
-use Rattle.std.proofs.Common.{◌≡◌, false, map}
-use Rattle.docker_model.specs.state.Lapse.{lapse_entries}
+use Rattle.cif_laws.proofs.Common.{◌≡◌, false, map, lapse_entries}
 use Rattle.docker_join.specs.Meaning.{row_meant}
 use Rattle.docker_join.proofs.LapsedRows.{lapsed_from}
 use Rattle.docker_join.proofs.rows.lapse_rows.Given as goal

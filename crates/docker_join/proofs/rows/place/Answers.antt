@@ -1,4 +1,4 @@
-use Rattle.std.proofs.Common.{◌∷◌, refl, ap, ◌∙◌}
+use Rattle.cif_laws.proofs.Common.{◌∷◌, refl, ap, ◌∙◌}
 use Rattle.docker_join.proofs.PlacedRows.{one_placed, level_is_placed}
 use Rattle.docker_join.proofs.rows.place.Goals as goal
 

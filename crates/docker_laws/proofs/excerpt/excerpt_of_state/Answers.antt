@@ -1,5 +1,4 @@
-use Rattle.docker_model.specs.state.State.{live_table}
-use Rattle.docker_laws.proofs.dockers.ExcerptDocker.{excerpt_list_iff, excerpt_text_iff}
+use Rattle.docker_laws.proofs.dockers.ExcerptDocker.{excerpt_docker}
 use Rattle.docker_laws.proofs.dockers.ExcerptState.{excerpt_valid, excerpt_itself, excerpt_again}
 use Rattle.docker_laws.proofs.excerpt.excerpt_of_state.Goals as goal
 
@@ -7,10 +6,10 @@ pub returns-clause-valid : goal.returns-clause-valid
 returns-clause-valid c = excerpt_valid
 
 pub returns-clause-list : goal.returns-clause-list
-returns-clause-list c = λ place state part day lines is. excerpt_list_iff place (live_table state) (live_table part) is.live day lines
+returns-clause-list c = λ place state part day lines is. (excerpt_docker place _ _ is.live day).list lines
 
 pub returns-clause-text : goal.returns-clause-text
-returns-clause-text c = λ place state part day text is. excerpt_text_iff place (live_table state) (live_table part) is.live day text
+returns-clause-text c = λ place state part day text is. (excerpt_docker place _ _ is.live day).text text
 
 pub returns-clause-itself : goal.returns-clause-itself
 returns-clause-itself c = excerpt_itself

@@ -1,4 +1,4 @@
-use Rattle.docker_laws.proofs.dockers.ExcerptWalk.{walk_is_excerpt, walk_valid, walk_list_iff, walk_text_iff}
+use Rattle.docker_laws.proofs.dockers.ExcerptWalk.{walk_is_excerpt, walk_valid, walk_docker}
 use Rattle.docker_laws.proofs.dockers.ExcerptSteps.{excerpt_members}
 use Rattle.docker_laws.proofs.excerpt.walk_leaves_excerpt.Goals as goal
 
@@ -12,7 +12,7 @@ pub returns-clause-valid : goal.returns-clause-valid
 returns-clause-valid c = walk_valid
 
 pub returns-clause-list : goal.returns-clause-list
-returns-clause-list c = walk_list_iff
+returns-clause-list c = λ place state day lines valid. (walk_docker place state day valid).list lines
 
 pub returns-clause-text : goal.returns-clause-text
-returns-clause-text c = walk_text_iff
+returns-clause-text c = λ place state day text valid. (walk_docker place state day valid).text text

@@ -1,4 +1,4 @@
-use Rattle.docker_laws.proofs.dockers.ThinState.{thin_valid, thin_live, thin_state_list, thin_state_text}
+use Rattle.docker_laws.proofs.dockers.ThinState.{thin_valid, thin_live, thin_state_docker}
 use Rattle.docker_laws.proofs.thinning.state_of_thinning_has_one_docker.Goals as goal
 
 pub returns-clause-valid : goal.returns-clause-valid
@@ -8,7 +8,9 @@ pub returns-clause-live : goal.returns-clause-live
 returns-clause-live c = λ place day file kept part is of. λ i key. thin_live place day file kept is part of key i
 
 pub returns-clause-list : goal.returns-clause-list
-returns-clause-list c = λ place day file kept part whole is_file few is of summary. thin_state_list place day file is_file few kept is part of whole summary
+returns-clause-list c = λ place day file kept part whole is_file few is of summary.
+    (thin_state_docker place day file is_file few kept is part of whole summary).list
 
 pub returns-clause-text : goal.returns-clause-text
-returns-clause-text c = λ place day file kept part whole is_file few is of summary. thin_state_text place day file is_file few kept is part of whole summary
+returns-clause-text c = λ place day file kept part whole is_file few is of summary.
+    (thin_state_docker place day file is_file few kept is part of whole summary).text

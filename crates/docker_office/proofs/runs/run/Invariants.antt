@@ -1,5 +1,4 @@
-use Rattle.std.proofs.Common.{◌≡◌, ◌≤◌, take, length}
-use Rattle.std.specs.Prelude.{vec_len, vec_capacity}
+use Rattle.std.proofs.Common.{◌≡◌, ◌≤◌, take, length, vec_len, vec_capacity}
 use Rattle.docker_office.specs.RunMeaning.{events_meant}
 use Rattle.docker_office.proofs.RunSoFar.{HasRun}
 use Rattle.docker_office.proofs.runs.run.Given as goal

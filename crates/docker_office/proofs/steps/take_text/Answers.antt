@@ -1,7 +1,7 @@
 use Rattle.std.proofs.Common.{subst, Some}
 use Rattle.cif_file.specs.SourceRead.{RefusesText}
 use Rattle.docker_office.specs.Office.{TakesFile}
-use Rattle.docker_office.proofs.OfficeLemmas.{taken_ok, taken_only, taken_refused, taken_unfailed}
+use Rattle.docker_office.proofs.OfficeLemmas.{taken_ok, taken_only, taken_unfailed}
 use Rattle.docker_office.proofs.steps.take_text.Goals as goal
 
 pub returns-clause-ok : goal.returns-clause-ok
@@ -12,9 +12,7 @@ returns-clause-ok c = λ done.
 
 pub returns-clause-file : goal.returns-clause-file
 returns-clause-file c = λ fault is.
-    subst (λ text. RefusesText c.args.limit (Some text) fault) c.new.ensures.left
-    (taken_refused c.args.limit (λ _. TakesFile c.args.limit (Some c.new.result.left) c.args.office.now c.take.new.self) (Some c.new.result.left)
-    (Some c.take.new.source.left) c.take.result c.take.ensures.takes.outcome fault is)
+    subst (λ text. RefusesText c.args.limit (Some text) fault) c.new.ensures.left (rw is at c.take.ensures.takes.outcome)
 
 pub returns-clause-source : goal.returns-clause-source
 returns-clause-source c = taken_unfailed 0 c.take.result c.take.ensures.takes.failures

@@ -1,4 +1,4 @@
-use Rattle.std.proofs.Common.{List, ◌∙◌, ap, refl, subst}
+use Rattle.cif_laws.proofs.Common.{List, ◌∙◌, ap, refl, subst}
 use Rattle.docker_cmd.specs.Words.{Text, texts}
 use Rattle.docker_program.specs.Program.{Performs}
 use Rattle.docker_program.proofs.GivenLemmas.{more, performs_misused}

@@ -1,5 +1,4 @@
-use Rattle.std.proofs.Common.{◌≡◌, ℕ, IfSome, subst}
-use Rattle.std.specs.Prelude.{option_map}
+use Rattle.cif_laws.proofs.Common.{◌≡◌, ℕ, IfSome, subst, option_map}
 use Rattle.docker_program.proofs.PrintingLemmas.{printing_ends}
 use Rattle.docker_program.specs.SourceNames.{stored_by}
 use Rattle.docker_program.specs.Writing.{EndsWriting, drafting, written}

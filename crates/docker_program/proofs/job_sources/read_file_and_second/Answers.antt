@@ -1,4 +1,4 @@
-use Rattle.std.proofs.Common.{refl, inr}
+use Rattle.cif_laws.proofs.Common.{refl, inr}
 use Rattle.docker_program.proofs.JobSourcesLemmas.{one_more}
 use Rattle.docker_program.proofs.job_sources.read_file_and_second.Goals as goal
 

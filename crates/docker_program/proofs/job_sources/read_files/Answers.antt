@@ -1,4 +1,4 @@
-use Rattle.std.proofs.Common.{[], ◌∷◌, refl, inr}
+use Rattle.cif_laws.proofs.Common.{[], ◌∷◌, refl, inr}
 use Rattle.docker_host.specs.History.{closed, opened}
 use Rattle.docker_program.proofs.JobSourcesLemmas.{one_more}
 use Rattle.docker_program.proofs.job_sources.read_files.Goals as goal

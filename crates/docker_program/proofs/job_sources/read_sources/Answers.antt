@@ -1,4 +1,4 @@
-use Rattle.std.proofs.Common.{◌∙◌, sym, ap, rules}
+use Rattle.cif_laws.proofs.Common.{◌∙◌, sym, ap, rules}
 use Rattle.docker_program.specs.SourceNames.{names_meant}
 use Rattle.docker_program.proofs.JobSourcesLemmas.{reads_alone, reads_named, reads_none, reads_stdin}
 use Rattle.docker_program.proofs.job_sources.read_sources.Goals as goal

@@ -1,5 +1,4 @@
-use Rattle.std.proofs.Common.{length, refl}
-use Rattle.std.proofs.lemmas.Result.{err_from_is_err_and}
+use Rattle.cif_laws.proofs.Common.{length, refl, err_from_is_err_and}
 use Rattle.docker_program.proofs.ProgramLemmas.{ends_done, ends_unread, ends_unwritten, never_passed}
 use Rattle.docker_program.proofs.program.do_job.Goals as goal
 

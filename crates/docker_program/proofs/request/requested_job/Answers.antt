@@ -1,4 +1,4 @@
-use Rattle.std.proofs.Common.{◌≢◌, ℕ, List, [], ◌∷◌, length, refl, rules, Bor}
+use Rattle.cif_laws.proofs.Common.{◌≢◌, ℕ, List, [], ◌∷◌, length, refl, rules, Bor}
 use Rattle.docker_cmd.specs.Job.{NameNoJob}
 use Rattle.docker_cmd.specs.Prepared.{DeviceBytes}
 use Rattle.docker_cmd.specs.Words.{texts}

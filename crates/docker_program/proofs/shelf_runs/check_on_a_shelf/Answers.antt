@@ -1,6 +1,4 @@
-use Rattle.std.proofs.Common.{◌≡◌, ℕ, List, [], ◌∷◌, ◌++◌, Some, ◌∙◌, ap, refl, rules, length}
-use Rattle.docker_model.specs.file.Change.{changes}
-use Rattle.docker_model.specs.file.Text.{lines_of}
+use Rattle.cif_laws.proofs.Common.{◌≡◌, ℕ, List, [], ◌∷◌, ◌++◌, Some, ◌∙◌, ap, refl, rules, length, changes, lines_of}
 use Rattle.docker_host.specs.History.{Event, placed}
 use Rattle.docker_cmd.specs.CheckLine.{count_line}
 use Rattle.docker_program.specs.ShelfRuns.{file_name}

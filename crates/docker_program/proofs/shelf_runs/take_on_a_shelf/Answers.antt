@@ -1,4 +1,4 @@
-use Rattle.std.proofs.Common.{◌≡◌, ℕ, List, [], ◌∷◌, ◌++◌, Some, ◌∙◌, ap, refl, rules}
+use Rattle.cif_laws.proofs.Common.{◌≡◌, ℕ, List, [], ◌∷◌, ◌++◌, Some, ◌∙◌, ap, refl, rules}
 use Rattle.docker_host.specs.History.{Event, placed}
 use Rattle.docker_program.specs.ShelfRuns.{file_name, state_name}
 use Rattle.docker_program.proofs.ShelfRunLemmas.{both_put, take_result}

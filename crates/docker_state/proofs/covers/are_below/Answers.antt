@@ -1,6 +1,4 @@
-use Rattle.std.proofs.Common.{subst}
-use Rattle.std.specs.Prelude.{Option}
-use Rattle.docker_model.specs.state.Stamp.{IsKept}
+use Rattle.cif_laws.proofs.Common.{subst, Option, IsKept}
 use Rattle.docker_join.specs.declared.stamp.FileStamp.{FileStamp}
 use Rattle.docker_join.specs.Meaning.{file_stamp_meant, floor_meant}
 use Rattle.docker_state.proofs.NothingToStage.{not_kept}

@@ -1,7 +1,4 @@
-use Rattle.std.proofs.Common.{List, subst, sym, Contains}
-use Rattle.docker_model.specs.file.Change.{Key}
-use Rattle.docker_model.specs.state.Op.{Entry}
-use Rattle.docker_model.specs.state.Stamp.{LedgerItem}
+use Rattle.cif_laws.proofs.Common.{List, subst, sym, Contains, Key, Entry, LedgerItem}
 use Rattle.docker_join.specs.Meaning.{floor_meant}
 use Rattle.docker_state.specs.Staging.{HasNoneToStage}
 use Rattle.docker_state.proofs.NothingToStage.{below_brings_none}

@@ -1,4 +1,4 @@
-use Rattle.std.proofs.Common.{map, length}
+use Rattle.cif_laws.proofs.Common.{map, length}
 use Rattle.docker_join.specs.Meaning.{row_meant, floor_meant}
 use Rattle.docker_state.specs.Staging.{HasNoneToStage}
 use Rattle.docker_state.proofs.covers.none_to_stage.Given as goal

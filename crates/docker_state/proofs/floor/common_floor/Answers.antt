@@ -1,9 +1,5 @@
-use Rattle.std.proofs.Common.{subst}
-use Rattle.std.specs.Option.{option_map}
-use Rattle.docker_model.specs.state.Stamp.{IsFloor, file_stamp_cmp}
+use Rattle.cif_laws.proofs.Common.{subst, option_map, IsFloor, file_stamp_cmp, on_total, ⊤}
 use Rattle.cif_laws.proofs.orders.Orders.{file_stamp_total}
-use Rattle.std.specs.Cmp.{on_total}
-use Rattle.std.specs.Prelude.{⊤}
 use Rattle.docker_join.specs.Meaning.{file_stamp_meant}
 use Rattle.cif_laws.proofs.orders.Greater.{greater_max}
 use Rattle.docker_state.proofs.Floors.{neither_full, left_full, right_full, both_full, greater_meant}

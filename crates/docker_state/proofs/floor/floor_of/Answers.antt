@@ -1,4 +1,4 @@
-use Rattle.std.proofs.Common.{ap, Some, None}
+use Rattle.cif_laws.proofs.Common.{ap, Some, None}
 use Rattle.docker_state.proofs.StateLemmas.{floor_found}
 use Rattle.docker_state.proofs.floor.floor_of.Goals as goal
 

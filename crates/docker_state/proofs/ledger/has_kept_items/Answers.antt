@@ -1,4 +1,4 @@
-use Rattle.std.proofs.Common.{map, true, rules}
+use Rattle.cif_laws.proofs.Common.{map, true, rules}
 use Rattle.docker_join.specs.Meaning.{floor_meant}
 use Rattle.docker_state.specs.Meaning.{item_meant}
 use Rattle.docker_state.proofs.LedgerSearch.{has_all, one_more_has}

@@ -1,5 +1,4 @@
-use Rattle.std.proofs.Common.{map}
-use Rattle.std.specs.List.{AllWithin}
+use Rattle.cif_laws.proofs.Common.{map, AllWithin}
 use Rattle.docker_join.specs.Meaning.{floor_meant}
 use Rattle.docker_state.specs.Meaning.{item_meant}
 use Rattle.docker_state.specs.Staging.{HasIfKept}

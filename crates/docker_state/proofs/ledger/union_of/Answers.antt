@@ -1,4 +1,4 @@
-use Rattle.std.proofs.Common.{arith, rules}
+use Rattle.cif_laws.proofs.Common.{arith, rules}
 use Rattle.cif_laws.proofs.orders.Orders.{ledger_item_total, exact_ledger_item}
 use Rattle.docker_state.specs.Meaning.{item_meant}
 use Rattle.docker_state.proofs.LedgerUnion.{out_ascends, out_members}

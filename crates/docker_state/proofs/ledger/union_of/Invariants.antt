@@ -1,6 +1,4 @@
-use Rattle.std.proofs.Common.{◌≡◌, ◌+◌, ◌≤◌, ◌++◌, length, vec_len, vec_capacity}
-use Rattle.std.specs.Ordering.{on}
-use Rattle.docker_model.specs.state.Stamp.{ledger_item_cmp}
+use Rattle.cif_laws.proofs.Common.{◌≡◌, ◌+◌, ◌≤◌, ◌++◌, length, vec_len, vec_capacity, on, ledger_item_cmp}
 use Rattle.docker_state.specs.Meaning.{item_meant}
 use Rattle.docker_state.proofs.Union.{united as walk}
 use Rattle.docker_state.proofs.ledger.union_of.Given as goal

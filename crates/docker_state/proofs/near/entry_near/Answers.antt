@@ -1,11 +1,7 @@
-use Rattle.std.proofs.Common.{rules, ◌∙◌, ap, sym}
+use Rattle.cif_laws.proofs.Common.{rules, ◌∙◌, ap, sym, always_returns_same, get_or_default, key_cmp}
 use Rattle.std.specs.Cmp.{Equal-is}
-use Rattle.std.proofs.lemmas.Fn.{always_returns_same}
-use Rattle.std.proofs.lemmas.List.{get_or_default}
 use Rattle.cif_change.specs.Meaning.{key_meant}
-use Rattle.docker_model.specs.state.Op.{key_cmp}
-use Rattle.docker_join.proofs.Lookup.{by_key, row_found, row_missing, rows_rise}
-use Rattle.docker_state.proofs.Gap.{parts_at_gap}
+use Rattle.docker_join.proofs.Lookup.{by_key, row_found, parts_at, row_missing, rows_rise}
 use Rattle.docker_state.proofs.near.entry_near.Goals as goal
 
 pub returns-then-eq : goal.returns-then-eq
@@ -15,8 +11,9 @@ returns-then-eq c =
     row_found _ _ _ _ c.requires found.0 (found.1 c.in-Some.row.now) (λ d. ap (by_key (key_meant c.args.key.now)) (sym (found.1 d)) ∙ tied)
 
 pub returns-then-is_above_before : goal.returns-then-is_above_before
-returns-then-is_above_before c = row_missing _ _ _ c.requires (parts_at_gap _ _ _ c.requires (c.is_below_at.ensures c.if-is_below_at.true)
-    (c.is_above_before.ensures c.if-is_above_before.true))
+returns-then-is_above_before c =
+    let below = c.is_below_at.ensures c.if-is_below_at.true in
+    row_missing _ _ _ c.requires (parts_at _ _ _ c.requires below.0 (c.is_above_before.ensures c.if-is_above_before.true) below.1)
 
 pub returns-in-Ok : goal.returns-in-Ok
 returns-in-Ok c = row_found _ _ _ _ c.requires c.in-Ok.ensures.bound

@@ -1,4 +1,4 @@
-use Rattle.std.proofs.Common.{◌≡◌, length}
+use Rattle.cif_laws.proofs.Common.{◌≡◌, length}
 use Rattle.docker_state.specs.Rows.{last_rows}
 use Rattle.docker_state.proofs.rows.are_apart.Given as goal
 

@@ -1,7 +1,5 @@
-use Rattle.std.proofs.Common.{◌≡◌, ◌+◌, ◌≤◌, ◌++◌, length, vec_len, vec_capacity, MatchOption}
-use Rattle.std.specs.Prelude.{⊤}
-use Rattle.std.specs.Option.{option_to_list}
-use Rattle.std.specs.Vec.Iter.{into_iter_items, into_iter_len}
+use Rattle.cif_laws.proofs.Common.{◌≡◌, ◌+◌, ◌≤◌, ◌++◌, length, vec_len, vec_capacity, MatchOption, ⊤, option_to_list, into_iter_items}
+use Rattle.std.specs.Vec.Iter.{into_iter_len}
 use Rattle.docker_state.specs.Rows.{last_rows}
 use Rattle.docker_state.proofs.rows.last_rows.Given as goal
 

@@ -1,5 +1,4 @@
-use Rattle.std.proofs.Common.{◌≡◌, ◌∷◌, [], List, map, sym, subst, arith, rules}
-use Rattle.std.proofs.lemmas.List.{length-append, map-append}
+use Rattle.cif_laws.proofs.Common.{◌≡◌, ◌∷◌, [], List, map, sym, subst, arith, rules, length-append, map-append}
 use Rattle.docker_model.specs.file.Change as model
 use Rattle.cif_change.specs.Meaning.{change_meant}
 use Rattle.docker_join.specs.Meaning.{file_stamp_meant, row_meant}

@@ -1,4 +1,4 @@
-use Rattle.std.proofs.Common.{◌≡◌, ◌≤◌, length, map, vec_len, vec_capacity}
+use Rattle.cif_laws.proofs.Common.{◌≡◌, ◌≤◌, length, map, vec_len, vec_capacity}
 use Rattle.cif_change.specs.Meaning.{change_meant}
 use Rattle.docker_join.specs.Meaning.{file_stamp_meant, row_meant}
 use Rattle.docker_state.specs.Rows.{made_by}

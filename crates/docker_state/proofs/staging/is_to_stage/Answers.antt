@@ -1,5 +1,4 @@
-use Rattle.std.proofs.Common.{List, sym, subst, Contains}
-use Rattle.docker_model.specs.state.Stamp.{LedgerItem}
+use Rattle.cif_laws.proofs.Common.{List, sym, subst, Contains, LedgerItem}
 use Rattle.docker_state.proofs.Newest.{newest_tells}
 use Rattle.docker_state.proofs.StagingLemmas.{to_stage_tells, below_tells}
 use Rattle.docker_state.proofs.staging.is_to_stage.Goals as goal

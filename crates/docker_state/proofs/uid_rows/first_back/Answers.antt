@@ -1,6 +1,4 @@
-use Rattle.std.proofs.Common.{◌-◌, ap, sym, ◌∙◌, arith}
-use Rattle.std.specs.Ordering.{is_lt}
-use Rattle.std.proofs.lemmas.List.{get_or_default}
+use Rattle.cif_laws.proofs.Common.{◌-◌, ap, sym, ◌∙◌, arith, is_lt, get_or_default}
 use Rattle.docker_state.specs.UidPiece.{is_before}
 use Rattle.docker_state.proofs.UidRows.{begins_at_front, begins_after}
 use Rattle.docker_state.proofs.uid_rows.first_back.Goals as goal

@@ -1,4 +1,4 @@
-use Rattle.std.proofs.Common.{rules}
+use Rattle.cif_laws.proofs.Common.{rules}
 use Rattle.std.proofs.lemmas.List.Sorted.{IsPartitionPoint-from_clause}
 use Rattle.docker_state.specs.UidPiece.{is_before}
 use Rattle.docker_state.proofs.UidRows.{parted_before}

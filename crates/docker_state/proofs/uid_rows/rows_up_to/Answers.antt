@@ -1,4 +1,4 @@
-use Rattle.std.proofs.Common.{sym, ◌∙◌}
+use Rattle.cif_laws.proofs.Common.{sym, ◌∙◌}
 use Rattle.docker_state.proofs.UidRows.{walk_of_all}
 use Rattle.docker_state.proofs.uid_rows.rows_up_to.Goals as goal
 

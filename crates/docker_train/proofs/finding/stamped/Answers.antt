@@ -1,8 +1,5 @@
-use Rattle.std.proofs.Common.{ap, sym, ◌∙◌, subst}
-use Rattle.docker_model.specs.file.Change.{ScheduleKey, schedule_key}
-use Rattle.docker_model.specs.state.State.{entry_at}
+use Rattle.cif_laws.proofs.Common.{ap, sym, ◌∙◌, subst, ScheduleKey, schedule_key, entry_at, Stamped, IsStampOf}
 use Rattle.docker_join.specs.Meaning.{entry_meant}
-use Rattle.docker_model.specs.lists.TrainText.{Stamped, IsStampOf}
 use Rattle.docker_train.proofs.Found.{stamp_is, minute_of_day}
 use Rattle.docker_train.proofs.finding.stamped.Goals as goal
 

@@ -1,5 +1,4 @@
-use Rattle.std.proofs.Common.{ap, ◌+◌, ◌∙◌, refl}
-use Rattle.docker_model.specs.docker.DockerText.{ended}
+use Rattle.cif_laws.proofs.Common.{ap, ◌+◌, ◌∙◌, refl, ended}
 use Rattle.docker_day.proofs.Written.{none_failed, on_any_err, one_failed, leads_first, leads_on, leads_part, leads_last}
 use Rattle.docker_train.proofs.print.write_lines.Goals as goal
 

@@ -1,5 +1,4 @@
-use Rattle.std.proofs.Common.{◌≡◌, drop}
-use Rattle.docker_model.specs.docker.DockerText.{ended}
+use Rattle.cif_laws.proofs.Common.{◌≡◌, drop, ended}
 use Rattle.docker_day.proofs.Written.{Leads}
 use Rattle.docker_train.proofs.print.write_lines.Given as goal
 

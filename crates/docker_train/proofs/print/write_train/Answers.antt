@@ -1,7 +1,4 @@
-use Rattle.std.proofs.Common.{ap, ◌+◌, ◌∙◌, refl}
-use Rattle.std.specs.List.{flat_map}
-use Rattle.std.proofs.lemmas.Result.{on_ok_weaker, on_err_weaker}
-use Rattle.docker_model.specs.docker.DockerText.{ended}
+use Rattle.cif_laws.proofs.Common.{ap, ◌+◌, ◌∙◌, refl, flat_map, on_ok_weaker, on_err_weaker, ended}
 use Rattle.docker_day.proofs.Written.{as_often, last_failed, on_any_err, one_failed, all_taken, part_of_first, part_of_second, part_of_third}
 use Rattle.docker_model.specs.lists.TrainText.{found_text}
 use Rattle.docker_train.proofs.Printed.{heading_is, printed}
@@ -9,28 +6,24 @@ use Rattle.docker_train.proofs.print.write_train.Goals as goal
 
 pub returns-in_err-write_all-clause-part : goal.returns-in_err-write_all-clause-part
 returns-in_err-write_all-clause-part g c =
-    let train = c.args.train.now in
     on_any_err _ (part_of_first _ _ (g.K.Sink.taken c.write_all.new.sink) (g.K.Sink.taken c.write_all.new.sink) _ _ _ _ _ _
     (heading_is _ _ _ _ _ _ _ c.uid.ensures c.day.ensures (c.text_of_found.ensures ∙ ap found_text c.found.ensures) c.heading-heading.ensures) refl refl
     c.in_err-write_all.ensures.part)
 
 pub returns-in_err-write_lines-clause-part : goal.returns-in_err-write_lines-clause-part
 returns-in_err-write_lines-clause-part g c =
-    let train = c.args.train.now in
     on_any_err _ (part_of_second _ _ _ (g.K.Sink.taken c.write_lines.new.sink) _ _ _ _ _ _ (heading_is _ _ _ _ _ _ _ c.uid.ensures c.day.ensures
     (c.text_of_found.ensures ∙ ap found_text c.found.ensures) c.heading-heading.ensures)
     (ap (flat_map ended) c.lines.ensures) refl c.in_ok-write_all.ensures.whole c.in_err-write_lines.ensures.part)
 
 pub returns-clause-whole : goal.returns-clause-whole
 returns-clause-whole g c =
-    let train = c.args.train.now in
     on_ok_weaker c.write_all-2.result (all_taken _ _ _ _ _ _ _ _ _ _ (heading_is _ _ _ _ _ _ _ c.uid.ensures c.day.ensures
     (c.text_of_found.ensures ∙ ap found_text c.found.ensures) c.heading-heading.ensures)
     (ap (flat_map ended) c.lines.ensures) c.last_line.ensures c.in_ok-write_all.ensures.whole c.in_ok-write_lines.ensures.whole) c.write_all-2.ensures.whole
 
 pub returns-clause-part : goal.returns-clause-part
 returns-clause-part g c =
-    let train = c.args.train.now in
     on_err_weaker c.write_all-2.result (part_of_third _ _ _ _ _ _ _ _ _ _ (heading_is _ _ _ _ _ _ _ c.uid.ensures c.day.ensures
     (c.text_of_found.ensures ∙ ap found_text c.found.ensures) c.heading-heading.ensures)
     (ap (flat_map ended) c.lines.ensures) c.last_line.ensures c.in_ok-write_all.ensures.whole c.in_ok-write_lines.ensures.whole) c.write_all-2.ensures.part

@@ -1,5 +1,4 @@
-use Rattle.std.proofs.Common.{List, ℕ, ap, subst, ◌∙◌}
-use Rattle.std.proofs.lemmas.Result.{on_err_weaker}
+use Rattle.cif_laws.proofs.Common.{List, ℕ, ap, subst, ◌∙◌, on_err_weaker}
 use Rattle.cif_device.specs.Device.{TakesPart}
 use Rattle.cif_change.specs.Meaning.{schedule_key_meant}
 use Rattle.docker_train.specs.TrainRows.{Listing}

@@ -1,12 +1,8 @@
-use Rattle.std.proofs.Common.{◌+◌, ◌∙◌, ap, refl, subst, sym}
-use Rattle.cif_change.specs.Meaning.{body_meant, key_meant}
+use Rattle.cif_laws.proofs.Common.{◌+◌, ◌∙◌, ap, refl, subst, sym, live_table}
 use Rattle.cif_device.specs.Device.{Takes, TakesPart}
-use Rattle.docker_model.specs.state.State.{live_table}
 use Rattle.state_laws.proofs.states.GoodBodies.{good_bodies}
-use Rattle.docker_state.specs.Live.{live_rows}
 use Rattle.train_choice.specs.Along.{AreGoodRows, AreLive}
 use Rattle.docker_day.proofs.Written.{none_failed, on_any_err, one_failed}
-use Rattle.docker_train.specs.TrainRows.{row_line}
 use Rattle.docker_train.proofs.WrittenRows.{list_begun, list_taken, live_told, row_told, rows_first}
 use Rattle.docker_train.proofs.WrittenRows.{rows_good, rows_last, rows_live, rows_on, rows_part, walk_is}
 use Rattle.docker_train.proofs.trains.write_trains.Goals as goal
@@ -33,37 +29,21 @@ write_row-requires-clause-live g c = live_told _ _ _ _ _ _
     c.loop-key.invariant.same (subst (AreLive (live_table c.args.state.now)) c.in-Some.ensures.steps c.loop-key.invariant.live).0
 
 pub loop-key-preserved : goal.loop-key-preserved
-loop-key-preserved g c =
-    let state = c.args.state.now in
-    let rows = live_rows state.entries in
-    let are = walk_is (live_table state) c.live-key-items.result rows c.live-key-items.ensures.rows c.live-key-items.ensures.ascending
-    c.live-key-items.ensures.table in
-    record {
-      same = c.write_row.ensures.same ∙ c.loop-key.invariant.same;
-      good = (subst AreGoodRows c.in-Some.ensures.steps c.loop-key.invariant.good).1;
-      live = (subst (AreLive (live_table state)) c.in-Some.ensures.steps c.loop-key.invariant.live).1;
-      leads = rows_on (row_line rows c.args.identity.now c.args.day) rows c.loop-key.key-iterator
-          (key_meant c.in-Some.key.now, body_meant c.in-Some.body.now) c.next.new.self (g.K.Sink.taken c.args.sink.now) (g.K.Sink.taken c.loop-key.sink)
-          (g.K.Sink.taken c.write_row.new.sink) c.in-Some.ensures.steps c.loop-key.invariant.leads
-          (row_told (λ bytes. Takes (g.K.Sink.taken c.loop-key.sink) bytes (g.K.Sink.taken c.write_row.new.sink)) state c.args.identity.now c.args.day
-          c.loop-key.listing rows (key_meant c.in-Some.key.now, body_meant c.in-Some.body.now) c.loop-key.invariant.same are
-          c.in_ok-write_row.ensures.whole);
-      no_failure = c.in_ok-write_row.ensures.no_failure ∙ c.loop-key.invariant.no_failure;
-    }
+loop-key-preserved g c = record {
+  same = c.write_row.ensures.same ∙ c.loop-key.invariant.same;
+  good = (subst AreGoodRows c.in-Some.ensures.steps c.loop-key.invariant.good).1;
+  live = (subst (AreLive (live_table c.args.state.now)) c.in-Some.ensures.steps c.loop-key.invariant.live).1;
+  leads = rows_on _ _ _ _ _ _ _ _ c.in-Some.ensures.steps c.loop-key.invariant.leads
+      (row_told (λ bytes. Takes (g.K.Sink.taken c.loop-key.sink) bytes (g.K.Sink.taken c.write_row.new.sink)) _ _ _ _ _ _ c.loop-key.invariant.same
+      (walk_is _ _ _ c.live-key-items.ensures.rows c.live-key-items.ensures.ascending c.live-key-items.ensures.table) c.in_ok-write_row.ensures.whole);
+  no_failure = c.in_ok-write_row.ensures.no_failure ∙ c.loop-key.invariant.no_failure;
+}
 
 pub returns-in_err-write_row-clause-part : goal.returns-in_err-write_row-clause-part
 returns-in_err-write_row-clause-part g c =
-    let state = c.args.state.now in
-    let rows = live_rows state.entries in
-    let are = walk_is (live_table state) c.live-key-items.result rows c.live-key-items.ensures.rows c.live-key-items.ensures.ascending
-    c.live-key-items.ensures.table in
-    on_any_err c.from_residual.result
-    (list_begun state rows are c.args.identity.now c.args.day (g.K.Sink.taken c.args.sink.now) (g.K.Sink.taken c.write_row.new.sink)
-    (rows_part (row_line rows c.args.identity.now c.args.day) rows c.loop-key.key-iterator
-    (key_meant c.in-Some.key.now, body_meant c.in-Some.body.now) c.next.new.self (g.K.Sink.taken c.args.sink.now) (g.K.Sink.taken c.loop-key.sink)
-    (g.K.Sink.taken c.write_row.new.sink) c.in-Some.ensures.steps c.loop-key.invariant.leads
-    (row_told (λ bytes. TakesPart (g.K.Sink.taken c.loop-key.sink) bytes (g.K.Sink.taken c.write_row.new.sink)) state c.args.identity.now c.args.day
-    c.loop-key.listing rows (key_meant c.in-Some.key.now, body_meant c.in-Some.body.now) c.loop-key.invariant.same are
+    let are = walk_is _ _ _ c.live-key-items.ensures.rows c.live-key-items.ensures.ascending c.live-key-items.ensures.table in
+    on_any_err _ (list_begun c.args.state.now _ are _ _ _ _ (rows_part _ _ _ _ _ _ _ _ c.in-Some.ensures.steps c.loop-key.invariant.leads
+    (row_told (λ bytes. TakesPart (g.K.Sink.taken c.loop-key.sink) bytes (g.K.Sink.taken c.write_row.new.sink)) _ _ _ _ _ _ c.loop-key.invariant.same are
     c.in_err-write_row.ensures.part)))
 
 pub returns-in_err-write_row-clause-failures : goal.returns-in_err-write_row-clause-failures
@@ -72,13 +52,8 @@ returns-in_err-write_row-clause-failures g c = one_failed _ _ _ _ c.from_residua
 
 pub returns-clause-whole : goal.returns-clause-whole
 returns-clause-whole g c =
-    let state = c.args.state.now in
-    let rows = live_rows state.entries in
-    let are = walk_is (live_table state) c.live-key-items.result rows c.live-key-items.ensures.rows c.live-key-items.ensures.ascending
-    c.live-key-items.ensures.table in
-    list_taken state rows are c.args.identity.now c.args.day (g.K.Sink.taken c.args.sink.now) (g.K.Sink.taken c.loop-key.sink)
-    (rows_last (row_line rows c.args.identity.now c.args.day) rows c.loop-key.key-iterator (g.K.Sink.taken c.args.sink.now) (g.K.Sink.taken c.loop-key.sink)
-    c.in-None.ensures.steps.0 c.loop-key.invariant.leads)
+    list_taken c.args.state.now _ (walk_is _ _ _ c.live-key-items.ensures.rows c.live-key-items.ensures.ascending c.live-key-items.ensures.table)
+    _ _ _ _ (rows_last _ _ _ _ _ c.in-None.ensures.steps.0 c.loop-key.invariant.leads)
 
 pub returns-clause-failures : goal.returns-clause-failures
 returns-clause-failures g c = none_failed _ _ c.loop-key.invariant.no_failure

@@ -1,5 +1,4 @@
-use Rattle.std.proofs.Common.{◌≡◌, false}
-use Rattle.docker_model.specs.state.State.{live_table}
+use Rattle.cif_laws.proofs.Common.{◌≡◌, false, live_table}
 use Rattle.docker_state.specs.Live.{live_rows}
 use Rattle.train_choice.specs.Along.{AreGoodRows, AreLive}
 use Rattle.docker_day.proofs.Written.{Leads}

@@ -1,4 +1,4 @@
-use Rattle.std.proofs.Common.{◌≡◌, List, [], ℕ, Some, refl, ap}
+use Rattle.cif_laws.proofs.Common.{◌≡◌, List, [], ℕ, Some, refl, ap}
 use Rattle.docker_host.specs.Host.{HostView}
 use Rattle.offices_agree.proofs.DeskAndOfficeSteps.{both_agree, sinks_have}
 use Rattle.offices_agree.proofs.desk_and_office.desk_and_office_agree.Goals as goal

@@ -1,4 +1,4 @@
-use Rattle.std.proofs.Common.{◌≡◌, ℕ, List, [], Some, ap}
+use Rattle.cif_laws.proofs.Common.{◌≡◌, ℕ, List, [], Some, ap}
 use Rattle.docker_host.specs.Host.{HostView}
 use Rattle.offices_agree.proofs.TwoOfficesSteps.{both_print, sinks_agree}
 use Rattle.offices_agree.proofs.two_offices.two_offices_agree.Goals as goal

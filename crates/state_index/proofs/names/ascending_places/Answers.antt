@@ -1,10 +1,6 @@
-use Rattle.std.proofs.Common.{ℕ, List, sym, subst, Contains}
-use Rattle.std.specs.Str.{bytes_eq}
-use Rattle.std.specs.Cmp.Lexicographic.{nat_list_cmp_total}
+use Rattle.cif_laws.proofs.Common.{ℕ, List, sym, subst, Contains, bytes_eq, nat_list_cmp_total, bytes_eq-Decides, bytes_cmp, IsStrictlyAscending}
 use Rattle.std.proofs.lemmas.Cmp.{nat_list_eq_equiv}
 use Rattle.std.proofs.lemmas.List.Filters.{dedup_is}
-use Rattle.std.proofs.lemmas.Slice.Eq.{bytes_eq-Decides}
-use Rattle.docker_model.specs.state.Order.{bytes_cmp, IsStrictlyAscending}
 use Rattle.state_index.proofs.SortedSpots.{once_each, all_there, all_sorted, same_places}
 use Rattle.state_index.proofs.names.ascending_places.Goals as goal
 

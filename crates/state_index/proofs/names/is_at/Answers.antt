@@ -1,5 +1,4 @@
-use Rattle.std.proofs.Common.{[], Some, ap, sym, ◌∙◌}
-use Rattle.std.proofs.lemmas.Option.{slice_get-get_or}
+use Rattle.cif_laws.proofs.Common.{[], Some, ap, sym, ◌∙◌, slice_get-get_or}
 use Rattle.state_index.proofs.names.is_at.Goals as goal
 
 pub returns-in-Some : goal.returns-in-Some

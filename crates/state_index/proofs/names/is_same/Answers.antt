@@ -1,5 +1,4 @@
-use Rattle.std.proofs.Common.{sym, ◌∙◌}
-use Rattle.std.proofs.lemmas.Bool.{eqb-true}
+use Rattle.cif_laws.proofs.Common.{sym, ◌∙◌, eqb-true}
 use Rattle.state_index.proofs.PackedPlaces.{one_place}
 use Rattle.state_index.proofs.names.is_same.Goals as goal
 

@@ -1,9 +1,6 @@
-use Rattle.std.proofs.Common.{ℕ, List, Some, Err, sym, ap, ◌∙◌, subst, refl, false, Contains, []}
+use Rattle.cif_laws.proofs.Common.{ℕ, List, Some, Err, sym, ap, ◌∙◌, subst, refl, false, Contains, [], slice_get-get_or, exact_bytes, nat_list_cmp_total}
+use Rattle.cif_laws.proofs.Common.{bytes_cmp, IsStrictlyAscending}
 use Rattle.std.proofs.lemmas.List.{map-id}
-use Rattle.std.proofs.lemmas.Option.{slice_get-get_or}
-use Rattle.std.proofs.lemmas.Map.Lookups.{exact_bytes}
-use Rattle.std.specs.Cmp.Lexicographic.{nat_list_cmp_total}
-use Rattle.docker_model.specs.state.Order.{bytes_cmp, IsStrictlyAscending}
 use Rattle.state_index.proofs.Search.{search_tells}
 use Rattle.state_index.proofs.names.rank_of.Goals as goal
 

@@ -1,4 +1,4 @@
-use Rattle.std.proofs.Common.{◌≡◌, refl, false, true}
+use Rattle.cif_laws.proofs.Common.{◌≡◌, refl, false, true}
 use Rattle.state_index.specs.Spots.{spots_in}
 use Rattle.state_index.proofs.CountedCalls.{as_many_spots}
 use Rattle.state_index.proofs.PostingSpots.{piece_at, same_rows, no_piece}

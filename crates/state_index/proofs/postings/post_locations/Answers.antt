@@ -1,5 +1,4 @@
-use Rattle.std.proofs.Common.{◌≡◌, ◌∙◌, ℕ, List, [], ◌∷◌, map, refl, rules, sym, subst}
-use Rattle.docker_model.specs.records.Record.{columns}
+use Rattle.cif_laws.proofs.Common.{◌≡◌, ◌∙◌, ℕ, List, [], ◌∷◌, map, refl, rules, sym, subst, columns}
 use Rattle.state_index.specs.NamedPlaces.{location_lines}
 use Rattle.state_index.specs.Posted.{ArePosted, CanPost}
 use Rattle.state_index.specs.Spots.{spot_at}

@@ -1,6 +1,4 @@
-use Rattle.std.proofs.Common.{length, map}
-use Rattle.std.specs.Global.{Vec}
-use Rattle.docker_model.specs.records.Record.{columns}
+use Rattle.cif_laws.proofs.Common.{length, map, Vec, columns}
 use Rattle.state_index.specs.NamedPlaces.{location_lines}
 use Rattle.state_index.specs.declared.posting.Posting.{Posting}
 use Rattle.state_index.specs.Posted.{ArePosted, CanPost}

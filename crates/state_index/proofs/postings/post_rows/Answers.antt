@@ -1,5 +1,4 @@
-use Rattle.std.proofs.Common.{◌≡◌, ◌+◌, List, ◌∷◌, map, length, ap, rules, sym, subst, arith}
-use Rattle.std.proofs.lemmas.List.{length-map}
+use Rattle.cif_laws.proofs.Common.{◌≡◌, ◌+◌, List, ◌∷◌, map, length, ap, rules, sym, subst, arith, length-map}
 use Rattle.cif_change.specs.declared.key.Key.{Key}
 use Rattle.docker_join.specs.declared.entry.Entry.{Entry}
 use Rattle.docker_join.specs.Meaning.{row_meant}

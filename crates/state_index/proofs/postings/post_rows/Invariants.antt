@@ -1,5 +1,4 @@
-use Rattle.std.proofs.Common.{◌≡◌, ◌+◌, length, map}
-use Rattle.std.specs.Global.{Vec}
+use Rattle.cif_laws.proofs.Common.{◌≡◌, ◌+◌, length, map, Vec}
 use Rattle.docker_join.specs.Meaning.{row_meant}
 use Rattle.state_index.specs.declared.posting.Posting.{Posting}
 use Rattle.state_index.specs.Posted.{ArePosted, CanPost, asked_places}

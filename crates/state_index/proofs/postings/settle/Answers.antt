@@ -1,11 +1,7 @@
-use Rattle.std.proofs.Common.{List, sym, subst, Contains, rules}
+use Rattle.cif_laws.proofs.Common.{List, sym, subst, Contains, rules, IsSorted, is_lt, ◌↔◌, IsStrictlyAscending}
 use Rattle.std.proofs.lemmas.List.Sorted.{answers_always}
-use Rattle.std.specs.List.Sorted.{IsSorted}
-use Rattle.std.specs.Ordering.{is_lt}
 use Rattle.std.proofs.lemmas.List.MinMax.{ranks_by}
-use Rattle.std.specs.Prelude.{◌↔◌}
 use Rattle.std.proofs.lemmas.List.Filters.{dedup_is}
-use Rattle.docker_model.specs.state.Order.{IsStrictlyAscending}
 use Rattle.state_index.specs.declared.posting.Posting.{Posting}
 use Rattle.state_index.specs.PostingOrder.{posting_cmp}
 use Rattle.state_index.proofs.SortedSpots.{all_sorted, all_there, once_each, posting_equivalence}

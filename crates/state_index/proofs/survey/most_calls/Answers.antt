@@ -1,6 +1,4 @@
-use Rattle.std.proofs.Common.{◌≡◌, length, rules, subst, sym, ◌≤◌}
-use Rattle.docker_model.specs.file.Change.{schedule_body}
-use Rattle.docker_model.specs.state.Op.{put_with}
+use Rattle.cif_laws.proofs.Common.{◌≡◌, length, rules, subst, sym, ◌≤◌, schedule_body, put_with}
 use Rattle.state_index.specs.NamedPlaces.{call_places}
 use Rattle.docker_join.specs.Meaning.{op_meant}
 use Rattle.state_index.proofs.Surveyed.{few_calls}

@@ -1,7 +1,5 @@
-use Rattle.std.proofs.Common.{◌≡◌, ◌==◌, ◌∙◌, ◌++◌, Bool, false, ap, cond, sym}
-use Rattle.std.specs.Prelude.{codes}
+use Rattle.cif_laws.proofs.Common.{◌≡◌, ◌==◌, ◌∙◌, ◌++◌, Bool, false, ap, cond, sym, codes, day_text}
 use Rattle.std.proofs.lemmas.Bool.{ne_eqb}
-use Rattle.docker_model.specs.records.PrintedTime.{day_text}
 use Rattle.state_lists.proofs.known.horizon_text.Goals as goal
 
 pub returns : goal.returns

@@ -1,4 +1,4 @@
-use Rattle.std.proofs.Common.{ap, ◌+◌, ◌∙◌, refl}
+use Rattle.cif_laws.proofs.Common.{ap, ◌+◌, ◌∙◌, refl}
 use Rattle.docker_state.specs.Live.{live_rows}
 use Rattle.state_lists.proofs.Lines.{kept_line, list_begun, list_taken}
 use Rattle.docker_day.proofs.Written.{none_failed, on_any_err, one_failed, leads_first, leads_on, leads_part, leads_last}

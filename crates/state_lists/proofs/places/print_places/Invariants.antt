@@ -1,4 +1,4 @@
-use Rattle.std.proofs.Common.{◌≡◌, drop}
+use Rattle.cif_laws.proofs.Common.{◌≡◌, drop}
 use Rattle.docker_state.specs.Live.{live_rows}
 use Rattle.state_lists.proofs.Lines.{kept_line}
 use Rattle.docker_day.proofs.Written.{Leads}

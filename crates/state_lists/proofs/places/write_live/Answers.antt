@@ -1,5 +1,4 @@
-use Rattle.std.proofs.Common.{List, ℕ, ap, subst, ◌∙◌}
-use Rattle.std.proofs.lemmas.Result.{on_ok_weaker, on_err_weaker}
+use Rattle.cif_laws.proofs.Common.{List, ℕ, ap, subst, ◌∙◌, on_ok_weaker, on_err_weaker}
 use Rattle.cif_device.specs.Device.{Takes, TakesPart}
 use Rattle.cif_change.specs.Meaning.{body_meant, key_meant}
 use Rattle.state_lists.proofs.Lines.{line_is}

@@ -1,5 +1,4 @@
-use Rattle.std.proofs.Common.{ap}
-use Rattle.docker_model.specs.state.Op.{key_tag}
+use Rattle.cif_laws.proofs.Common.{ap, key_tag}
 use Rattle.cif_change.specs.Meaning.{key_meant}
 use Rattle.cif_change.specs.declared.key.Key as kept
 use Rattle.state_lists.proofs.TallyLemmas.{with_association, with_place, with_schedule}

@@ -1,5 +1,5 @@
+use Rattle.cif_laws.proofs.Common.{arith}
 use Rattle.state_lists.proofs.TallyLemmas.{one_alone, one_later, other_later}
-use Rattle.std.proofs.Common.{arith}
 use Rattle.state_lists.proofs.tally.later_of.Goals as goal
 
 pub returns-then-number : goal.returns-then-number

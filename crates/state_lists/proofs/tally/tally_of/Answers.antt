@@ -1,6 +1,4 @@
-use Rattle.std.proofs.Common.{◌^◌, ◌<◌, length, rules, subst, sym}
-use Rattle.std.specs.Prelude.{List}
-use Rattle.docker_model.specs.state.Row.{Row}
+use Rattle.cif_laws.proofs.Common.{◌^◌, ◌<◌, length, rules, subst, sym, List, Row}
 use Rattle.state_lists.specs.Tallies.{IsTallyOf}
 use Rattle.state_lists.proofs.TallyLemmas.{are_few, live_more, live_up_to, no_rows, tally_all}
 use Rattle.state_lists.proofs.tally.tally_of.Goals as goal

@@ -1,5 +1,4 @@
-use Rattle.std.proofs.Common.{ap}
-use Rattle.docker_model.specs.state.Op.{deleted, lapsed, put_with}
+use Rattle.cif_laws.proofs.Common.{ap, deleted, lapsed, put_with}
 use Rattle.cif_change.specs.Meaning.{body_meant}
 use Rattle.docker_join.specs.Meaning.{op_meant}
 use Rattle.state_lists.proofs.TallyLemmas.{with_none, with_op}

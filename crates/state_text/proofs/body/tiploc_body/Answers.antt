@@ -1,6 +1,4 @@
-use Rattle.std.proofs.Common.{ap, ◌∙◌, arith}
-use Rattle.std.proofs.lemmas.List.{take_all}
-use Rattle.docker_model.specs.file.Change.{tiploc_body}
+use Rattle.cif_laws.proofs.Common.{ap, ◌∙◌, arith, take_all, tiploc_body}
 use Rattle.state_text.proofs.body.tiploc_body.Goals as goal
 
 pub returns : goal.returns

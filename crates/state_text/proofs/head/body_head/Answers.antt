@@ -1,4 +1,4 @@
-use Rattle.std.proofs.Common.{◌+◌, ap}
+use Rattle.cif_laws.proofs.Common.{◌+◌, ap}
 use Rattle.state_text.proofs.HeadLemmas.{body_after}
 use Rattle.state_text.proofs.NoHeadLemmas.{too_short, no_put}
 use Rattle.state_text.proofs.head.body_head.Goals as goal

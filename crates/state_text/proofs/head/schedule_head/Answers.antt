@@ -1,5 +1,4 @@
-use Rattle.std.proofs.Common.{◌∷◌, subst, arith}
-use Rattle.docker_model.specs.state.StatePart.{before_body}
+use Rattle.cif_laws.proofs.Common.{◌∷◌, subst, arith, before_body}
 use Rattle.cif_change.specs.declared.key.Key.{Key}
 use Rattle.cif_change.specs.Meaning.{key_meant}
 use Rattle.docker_join.specs.Meaning.{stamp_meant}

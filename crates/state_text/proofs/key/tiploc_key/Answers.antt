@@ -1,7 +1,4 @@
-use Rattle.std.proofs.Common.{ap, ◌∙◌, arith, refl, subst}
-use Rattle.std.proofs.lemmas.List.{take_all}
-use Rattle.docker_model.specs.file.Change.{tiploc_key}
-use Rattle.docker_model.specs.records.Field.{IsTiploc}
+use Rattle.cif_laws.proofs.Common.{ap, ◌∙◌, arith, refl, subst, take_all, tiploc_key, IsTiploc}
 use Rattle.state_text.proofs.key.tiploc_key.Goals as goal
 
 pub returns : goal.returns

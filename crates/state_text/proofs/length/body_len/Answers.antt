@@ -1,4 +1,4 @@
-use Rattle.std.proofs.Common.{ap}
+use Rattle.cif_laws.proofs.Common.{ap}
 use Rattle.cif_change.specs.Meaning.{body_meant}
 use Rattle.state_text.proofs.LengthLemmas.{schedule_length}
 use Rattle.state_text.proofs.length.body_len.Goals as goal

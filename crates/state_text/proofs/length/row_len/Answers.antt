@@ -1,7 +1,5 @@
-use Rattle.std.proofs.Common.{◌∙◌, ◌+◌}
-use Rattle.docker_join.specs.Meaning.{row_meant}
-use Rattle.state_text.proofs.LengthLemmas.{entry_length}
+use Rattle.cif_laws.proofs.Common.{rules, length-append}
 use Rattle.state_text.proofs.length.row_len.Goals as goal
 
 pub returns-clause-value : goal.returns-clause-value
-returns-clause-value c = (λ i. c.key_len.ensures.value i + 15 + c.op_len.ensures.value i) ∙ entry_length (row_meant c.args.row.now) c.requires
+returns-clause-value c = search (rules, length-append)

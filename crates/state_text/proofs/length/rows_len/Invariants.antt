@@ -1,6 +1,4 @@
-use Rattle.std.proofs.Common.{◌≡◌, ◌*◌, ◌^◌, ◌≤◌, length, take, map}
-use Rattle.std.specs.List.{flat_map}
-use Rattle.docker_model.specs.state.StateText.{entry_bytes}
+use Rattle.cif_laws.proofs.Common.{◌≡◌, ◌*◌, ◌^◌, ◌≤◌, length, take, map, flat_map, entry_bytes}
 use Rattle.docker_join.specs.Meaning.{row_meant}
 use Rattle.state_text.proofs.length.rows_len.Given as goal
 

@@ -1,4 +1,4 @@
-use Rattle.std.proofs.Common.{refl}
+use Rattle.cif_laws.proofs.Common.{refl}
 use Rattle.std.proofs.lemmas.Result.{IfErr-weaker}
 use Rattle.state_text.specs.FaultMeaning.{cause_meant}
 use Rattle.cif_change.specs.Meaning.{schedule_key_meant}
@@ -6,13 +6,10 @@ use Rattle.state_text.proofs.ScheduleLemmas.{lines_up_to, line_refused}
 use Rattle.state_text.proofs.schedule.judged_inner_line.Goals as goal
 
 pub returns-clause-up_to : goal.returns-clause-up_to
-returns-clause-up_to g c = λ ok.
-    lines_up_to c.args.parts.now (schedule_key_meant c.args.key.now) c.args.count c.args.lines.now c.args.bytes.now c.args.bytes.now refl
-    c.requires.lines_of (λ none. absurd (let some = c.if-is_empty.false in let told = c.is_empty.ensures.1 none in cc)) (c.take_inner.ensures.goes_on ok)
+returns-clause-up_to g c = λ ok. lines_up_to c.args.parts.now (schedule_key_meant c.args.key.now) _ _ _ _ refl c.requires.lines_of
+    (λ none. absurd (let some = c.if-is_empty.false in let told = c.is_empty.ensures.1 none in cc)) (c.take_inner.ensures.goes_on ok)
 
 pub returns-clause-err : goal.returns-clause-err
-returns-clause-err g c =
-    IfErr-weaker c.take_inner.result _ _
-    (λ cause. line_refused c.args.parts.now (schedule_key_meant c.args.key.now) c.args.count c.args.lines.now c.args.bytes.now c.args.bytes.now refl
-    c.requires.lines_of (λ none. absurd (let some = c.if-is_empty.false in let told = c.is_empty.ensures.1 none in cc)) (cause_meant cause))
-    c.take_inner.ensures.err
+returns-clause-err g c = IfErr-weaker c.take_inner.result _ _
+    (λ cause. line_refused c.args.parts.now (schedule_key_meant c.args.key.now) c.args.count c.args.lines.now _ _ refl c.requires.lines_of
+    (λ none. absurd (let some = c.if-is_empty.false in let told = c.is_empty.ensures.1 none in cc)) (cause_meant cause)) c.take_inner.ensures.err

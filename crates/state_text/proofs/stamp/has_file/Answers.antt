@@ -1,5 +1,4 @@
-use Rattle.std.proofs.Common.{rules}
-use Rattle.std.proofs.lemmas.Fn.{always_returns_same}
+use Rattle.cif_laws.proofs.Common.{rules, always_returns_same}
 use Rattle.docker_join.specs.Meaning.{file_stamp_meant}
 use Rattle.docker_state.specs.Meaning.{item_meant}
 use Rattle.state_text.proofs.StampLemmas.{stamp_order, file_found, file_missing, stamps_rise}

@@ -1,5 +1,4 @@
-use Rattle.std.proofs.Common.{◌≡◌, map, None, rules}
-use Rattle.docker_model.specs.state.StateText.{stamp_in}
+use Rattle.cif_laws.proofs.Common.{◌≡◌, map, None, rules, stamp_in}
 use Rattle.docker_state.specs.Meaning.{item_meant}
 use Rattle.state_text.proofs.StampLemmas.{day_too_late}
 use Rattle.state_text.proofs.stamp.judged_stamp.Goals as goal

@@ -1,4 +1,4 @@
-use Rattle.std.proofs.Common.{◌∙◌, ap, refl, subst}
+use Rattle.cif_laws.proofs.Common.{◌∙◌, ap, refl, subst}
 use Rattle.state_text.specs.Stage.{IsFresh}
 use Rattle.state_text.specs.declared.stage.Stage.TheVariants as stage
 use Rattle.state_text.proofs.StepLemmas.{judged_at}

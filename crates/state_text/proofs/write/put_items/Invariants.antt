@@ -1,6 +1,4 @@
-use Rattle.std.proofs.Common.{◌≡◌, take, map}
-use Rattle.std.specs.List.{flat_map}
-use Rattle.docker_model.specs.state.StateText.{item_bytes}
+use Rattle.cif_laws.proofs.Common.{◌≡◌, take, map, flat_map, item_bytes}
 use Rattle.docker_state.specs.Meaning.{item_meant}
 use Rattle.state_text.specs.Written.{Gathers}
 use Rattle.state_text.proofs.write.put_items.Given as goal

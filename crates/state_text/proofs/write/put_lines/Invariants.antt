@@ -1,5 +1,4 @@
-use Rattle.std.proofs.Common.{◌≡◌, take}
-use Rattle.std.specs.List.{concat}
+use Rattle.cif_laws.proofs.Common.{◌≡◌, take, concat}
 use Rattle.state_text.specs.Written.{Gathers}
 use Rattle.state_text.proofs.write.put_lines.Given as goal
 

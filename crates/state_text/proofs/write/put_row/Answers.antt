@@ -1,5 +1,4 @@
-use Rattle.std.proofs.Common.{subst, []}
-use Rattle.std.specs.List.{concat}
+use Rattle.cif_laws.proofs.Common.{subst, [], concat}
 use Rattle.docker_join.specs.Meaning.{row_meant}
 use Rattle.state_text.specs.Written.{Gives}
 use Rattle.state_text.proofs.BufferLemmas.{then_gives, fails_first, room_then_add}
@@ -7,9 +6,7 @@ use Rattle.state_text.proofs.WriteLemmas.{entry_text}
 use Rattle.state_text.proofs.write.put_row.Goals as goal
 
 pub returns-in_err-make_room : goal.returns-in_err-make_room
-returns-in_err-make_room g c =
-    fails_first g.K.Sink.taken g.K.Sink.failures c.args.sink.now c.make_room.new.sink c.args.buffer.now.items [] _ c.make_room.new.buffer.items
-    c.from_residual.result _ c.from_residual.ensures.1 c.in_err-make_room.ensures.gives
+returns-in_err-make_room g c = fails_first _ _ _ _ _ [] _ _ _ _ c.from_residual.ensures.1 c.in_err-make_room.ensures.gives
 
 pub returns : goal.returns
 returns g c =

@@ -1,4 +1,4 @@
-use Rattle.std.proofs.Common.{◌≡◌}
+use Rattle.cif_laws.proofs.Common.{◌≡◌}
 use Rattle.train_choice.specs.Along.{chosen_along, AreGoodRows}
 use Rattle.train_choice.proofs.choice.best_of.Given as goal
 

@@ -1,5 +1,4 @@
-use Rattle.std.proofs.Common.{subst}
-use Rattle.docker_model.specs.docker.Choice.{IsChosenOn}
+use Rattle.cif_laws.proofs.Common.{subst, IsChosenOn}
 use Rattle.docker_state.specs.Timetables.{Timetable, live_in}
 use Rattle.train_choice.proofs.choice.chosen.Goals as goal
 

@@ -1,4 +1,4 @@
-use Rattle.std.proofs.Common.{subst}
+use Rattle.cif_laws.proofs.Common.{subst}
 use Rattle.docker_laws.specs.LiveRows.{HasSchedulesOf}
 use Rattle.docker_state.specs.Timetables.{Timetable, live_in}
 use Rattle.train_choice.proofs.Along.{chosen_of_uid}

@@ -1,5 +1,4 @@
-use Rattle.std.proofs.Common.{ap, ◌∙◌, Some}
-use Rattle.docker_model.specs.docker.Choice.{Train}
+use Rattle.cif_laws.proofs.Common.{ap, ◌∙◌, Some, Train}
 use Rattle.cif_change.specs.Meaning.{schedule_key_meant}
 use Rattle.train_choice.specs.Along.{chosen_along}
 use Rattle.train_choice.proofs.Along.{train_from_told}

@@ -1,4 +1,4 @@
-use Rattle.std.proofs.Common.{◌∙◌}
+use Rattle.cif_laws.proofs.Common.{◌∙◌}
 use Rattle.train_choice.proofs.Along.{train_of_rows}
 use Rattle.train_choice.proofs.choice.train_on.Goals as goal
 

@@ -1,4 +1,4 @@
-use Rattle.std.proofs.Common.{sym, ◌∙◌}
+use Rattle.cif_laws.proofs.Common.{sym, ◌∙◌}
 use Rattle.train_choice.proofs.Along.{next_is_one}
 use Rattle.train_choice.proofs.choice.with_row.Goals as goal
 

@@ -1,5 +1,4 @@
-use Rattle.std.proofs.Common.{sym, ◌∙◌}
-use Rattle.std.proofs.lemmas.Result.{on_ok_weaker}
+use Rattle.cif_laws.proofs.Common.{sym, ◌∙◌, on_ok_weaker}
 use Rattle.train_choice.proofs.Along.{next_link_is_one, next_link_is_none}
 use Rattle.train_choice.proofs.day_links.add_row.Goals as goal
 

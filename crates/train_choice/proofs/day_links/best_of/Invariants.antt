@@ -1,6 +1,4 @@
-use Rattle.std.proofs.Common.{◌≡◌, None}
-use Rattle.std.specs.BTreeMap.{get}
-use Rattle.docker_model.specs.docker.Choice.{Group}
+use Rattle.cif_laws.proofs.Common.{◌≡◌, None, get, Group}
 use Rattle.train_choice.specs.Along.{link_along, AreGoodRows}
 use Rattle.train_choice.specs.Known.{group_cmp}
 use Rattle.train_choice.proofs.day_links.best_of.Given as goal

@@ -1,7 +1,5 @@
-use Rattle.std.proofs.Common.{ap, sym, ◌∙◌, inl, inr}
-use Rattle.std.specs.Prelude.{find, codes}
+use Rattle.cif_laws.proofs.Common.{ap, sym, ◌∙◌, inl, inr, find, codes, has_identity}
 use Rattle.std.specs.Option.{option_copied}
-use Rattle.docker_model.specs.docker.Event.{has_identity}
 use Rattle.train_choice.proofs.NoEvents.{no_events}
 use Rattle.train_choice.proofs.ends.ends_of.Goals as goal
 

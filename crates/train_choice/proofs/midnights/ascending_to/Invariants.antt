@@ -1,5 +1,4 @@
-use Rattle.std.proofs.Common.{◌≡◌}
-use Rattle.docker_model.specs.file.Journey.{times_of}
+use Rattle.cif_laws.proofs.Common.{◌≡◌, times_of}
 use Rattle.train_choice.specs.Meaning.{times_meant}
 use Rattle.train_choice.specs.Midnights.{ascends}
 use Rattle.train_choice.proofs.midnights.ascending_to.Given as goal

@@ -1,4 +1,4 @@
-use Rattle.std.proofs.Common.{sym, ◌∙◌}
+use Rattle.cif_laws.proofs.Common.{sym, ◌∙◌}
 use Rattle.train_choice.proofs.Late.{first_good, rest_good, goes_on}
 use Rattle.train_choice.proofs.midnights.falls_along.Goals as goal
 

@@ -1,5 +1,4 @@
-use Rattle.std.proofs.Common.{◌≡◌, All, length}
-use Rattle.docker_model.specs.records.Field.{HasGoodFields}
+use Rattle.cif_laws.proofs.Common.{◌≡◌, All, length, HasGoodFields}
 use Rattle.train_choice.specs.Midnights.{falls_along}
 use Rattle.train_choice.proofs.midnights.falls_along.Given as goal
 

@@ -1,4 +1,4 @@
-use Rattle.std.proofs.Common.{◌≡◌}
+use Rattle.cif_laws.proofs.Common.{◌≡◌}
 use Rattle.train_choice.specs.Falls.{falls_among}
 use Rattle.train_choice.proofs.midnights.falls_among.Given as goal
 

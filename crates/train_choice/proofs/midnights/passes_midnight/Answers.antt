@@ -1,5 +1,4 @@
-use Rattle.std.proofs.Common.{ap, ◌∙◌}
-use Rattle.docker_model.specs.file.File.{first_record}
+use Rattle.cif_laws.proofs.Common.{ap, ◌∙◌, first_record}
 use Rattle.train_choice.specs.Midnights.{falls_along}
 use Rattle.train_choice.specs.UpTo.{up_to_last}
 use Rattle.train_choice.proofs.Late.{late_by_times}

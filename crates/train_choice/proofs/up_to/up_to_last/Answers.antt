@@ -1,4 +1,4 @@
-use Rattle.std.proofs.Common.{ap, sym, ◌∙◌}
+use Rattle.cif_laws.proofs.Common.{ap, sym, ◌∙◌}
 use Rattle.train_choice.specs.UpTo.{up_to_last}
 use Rattle.train_choice.proofs.UpTo.{last_named, last_elsewhere}
 use Rattle.train_choice.proofs.up_to.up_to_last.Goals as goal

@@ -1,4 +1,4 @@
-use Rattle.std.proofs.Common.{◌≡◌, length}
+use Rattle.cif_laws.proofs.Common.{◌≡◌, length}
 use Rattle.train_choice.specs.UpTo.{up_to_last}
 use Rattle.train_choice.proofs.up_to.up_to_last.Given as goal
 

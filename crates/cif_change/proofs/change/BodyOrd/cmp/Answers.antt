@@ -1,5 +1,4 @@
-use Rattle.std.proofs.Common.{ap, sym, ◌∙◌}
-use Rattle.std.specs.Cmp.{tied_itself}
+use Rattle.cif_laws.proofs.Common.{ap, sym, ◌∙◌, tied_itself}
 use Rattle.docker_model.specs.state.Op.{body_cmp}
 use Rattle.cif_laws.proofs.orders.Orders.{body_total}
 use Rattle.cif_change.specs.Meaning.{body_meant}

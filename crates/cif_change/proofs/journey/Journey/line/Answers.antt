@@ -1,5 +1,5 @@
 -- A line that is taken is appended to the lines that were taken before.
-use Rattle.std.proofs.Common.{subst, sym}
+use Rattle.cif_laws.proofs.Common.{subst, sym}
 use Rattle.cif_change.specs.JourneyRead.{HasLines}
 use Rattle.cif_change.proofs.JourneyLemmas.{of_ok}
 use Rattle.cif_change.proofs.journey.Journey.line.Goals as goal

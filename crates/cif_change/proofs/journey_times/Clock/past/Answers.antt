@@ -1,5 +1,5 @@
 -- The midnights passed at a line's three times are counted time by time.
-use Rattle.std.proofs.Common.{◌+◌, ◌∙◌, Some}
+use Rattle.cif_laws.proofs.Common.{◌+◌, ◌∙◌, Some}
 use Rattle.cif_laws.specs.TimesSoFar.{falls_after, later_or}
 use Rattle.cif_line.specs.CallRead.{number_meant}
 use Rattle.cif_change.specs.JourneyRead.{time_list}

@@ -1,4 +1,4 @@
-use Rattle.std.proofs.Common.{nat_eq, sym, ◌∙◌}
+use Rattle.cif_laws.proofs.Common.{nat_eq, sym, ◌∙◌}
 use Rattle.std.specs.Bool.{one_answer}
 use Rattle.std.specs.Cmp.Lexicographic.{pointwise, pointwise_decides, bytes_decides}
 use Rattle.cif_change.proofs.lines.LinesPartialEq.eq.Goals as goal

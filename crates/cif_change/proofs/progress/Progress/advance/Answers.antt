@@ -1,8 +1,5 @@
 -- Whether the next line is taken depends first on the stage and on the line's kind.
-use Rattle.std.proofs.Common.{ap, sym, ◌∙◌, Some}
-use Rattle.std.specs.Prelude.{option_map}
-use Rattle.std.proofs.lemmas.Bool.{false≢true}
-use Rattle.docker_model.specs.records.Record.{kind_of}
+use Rattle.cif_laws.proofs.Common.{ap, sym, ◌∙◌, Some, option_map, false≢true, kind_of}
 use Rattle.cif_laws.specs.RecordCause.{field_cause, first_line_cause}
 use Rattle.cif_change.specs.JourneyRead.{progress_meant, stage_then, stage_meant}
 use Rattle.cif_change.proofs.JourneyLemmas.{judged_ok, judged_err, iff_along, first_test, next_test, next_cause, cause_by, out_of_place, faults_line}

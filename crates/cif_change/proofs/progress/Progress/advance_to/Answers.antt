@@ -1,7 +1,6 @@
 -- A record of the line's kind may come next. Whether the line is taken depends on its fields and
 -- its times. In a deletion it depends on neither.
-use Rattle.std.proofs.Common.{ap, ◌∙◌, refl}
-use Rattle.std.proofs.lemmas.Bool.{false≢true}
+use Rattle.cif_laws.proofs.Common.{ap, ◌∙◌, refl, false≢true}
 use Rattle.cif_line.specs.CallRead.{number_meant}
 use Rattle.cif_change.specs.JourneyRead.{progress_meant, stage_then}
 use Rattle.cif_change.proofs.JourneyLemmas.{deletion_read, sound_by_few, unsound_by_many, sound_read}
@@ -36,7 +35,6 @@ returns-clause-ok c = λ lines has. (
 )
 
 pub returns-clause-read : goal.returns-clause-read
-returns-clause-read c = λ lines has. sound_read _ _ _ _ _ _ _ _ _ has
-    c.requires.«record» (ap (stage_then (progress_meant c.args.self.now).stage) c.requires.kind ∙ c.requires.stage) c.if-self.false
-    (c.in_ok-times.ensures.ok.0 refl)
-    (record { times = c.in_ok-times.ensures.value; falls = c.past-clock.ensures.falls; last = c.past-clock.ensures.last }) c.if-clock-gt-MOST_MIDNIGHTS.false
+returns-clause-read c = λ lines has. sound_read _ _ _ _ _ _ _ _ has c.if-self.false (c.in_ok-times.ensures.ok.0 refl)
+    (record { times = c.in_ok-times.ensures.value; falls = c.past-clock.ensures.falls; last = c.past-clock.ensures.last })
+    _ c.requires.«record» (ap (stage_then (progress_meant c.args.self.now).stage) c.requires.kind ∙ c.requires.stage) c.if-clock-gt-MOST_MIDNIGHTS.false

@@ -1,7 +1,6 @@
 -- The lines that were taken are a whole schedule if and only if a schedule may end at the stage
 -- after them.
-use Rattle.std.proofs.Common.{ap, sym, ◌∙◌}
-use Rattle.std.specs.Prelude.{option_map}
+use Rattle.cif_laws.proofs.Common.{ap, sym, ◌∙◌, option_map}
 use Rattle.cif_change.specs.JourneyRead.{stage_meant, may_end_by}
 use Rattle.cif_change.proofs.JourneyLemmas.{complete_by}
 use Rattle.cif_change.proofs.progress.Progress.complete.Goals as goal

@@ -1,7 +1,5 @@
 -- A line that doesn't begin with the identity of a kind of record can't come next.
-use Rattle.std.proofs.Common.{ap, sym, ◌∙◌}
-use Rattle.std.specs.Prelude.{option_map}
-use Rattle.std.proofs.lemmas.Bool.{false≢true}
+use Rattle.cif_laws.proofs.Common.{ap, sym, ◌∙◌, option_map, false≢true}
 use Rattle.cif_line.specs.Kind.{meaning}
 use Rattle.cif_change.proofs.JourneyLemmas.{unknown_kind}
 use Rattle.cif_change.proofs.progress.Progress.take.Goals as goal

@@ -1,5 +1,5 @@
 -- The result has the counts of the file that was read.
-use Rattle.std.proofs.Common.{sym, subst}
+use Rattle.cif_laws.proofs.Common.{sym, subst}
 use Rattle.cif_file.specs.SourceRead.{CountsText}
 use Rattle.cif_file.proofs.EndedLemmas.{reads_count, reads_counted}
 use Rattle.cif_file.proofs.ReadLemmas.{wants_none}

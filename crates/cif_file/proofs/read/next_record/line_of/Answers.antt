@@ -1,7 +1,5 @@
 -- The cause is `Byte` only if the line has 80 bytes.
-use Rattle.std.proofs.Common.{◌∙◌, ap, sym, cond, Some, Err}
-use Rattle.std.specs.Prelude.{◌==◌}
-use Rattle.docker_model.specs.file.FileFault.{bad_byte, bad_length}
+use Rattle.cif_laws.proofs.Common.{◌∙◌, ap, sym, cond, Some, Err, ◌==◌, bad_byte, bad_length}
 use Rattle.cif_laws.specs.RecordCause.{byte_cause, kind_cause, with_column}
 use Rattle.cif_file.proofs.read.next_record.line_of.Goals as goal
 

@@ -1,7 +1,6 @@
 -- A record after the trailer is refused with the cause `After`. For any other record, the cause
 -- follows from the record's kind and fields.
-use Rattle.std.proofs.Common.{◌∙◌, sym}
-use Rattle.std.proofs.lemmas.Bool.{false≢true}
+use Rattle.cif_laws.proofs.Common.{◌∙◌, sym, false≢true}
 use Rattle.cif_file.proofs.AnswerLemmas.{if_err_by}
 use Rattle.cif_file.proofs.ParserLemmas.{after_cause, front_cause}
 use Rattle.cif_file.proofs.read.next_record.take_within.Goals as goal

@@ -1,5 +1,5 @@
 -- The parser is fed one piece after another.
-use Rattle.std.proofs.lemmas.Result.{IfOk-weaker, err_from_is_err_and}
+use Rattle.cif_laws.proofs.Common.{IfOk-weaker, err_from_is_err_and}
 use Rattle.cif_file.proofs.AnswerLemmas.{if_err_by}
 use Rattle.cif_file.proofs.PiecesLemmas.{read_more, read_all, refused_front}
 use Rattle.cif_file.proofs.read.pieces.read_pieces.Goals as goal

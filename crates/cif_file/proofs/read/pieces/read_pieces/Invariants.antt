@@ -1,6 +1,5 @@
 -- The parser has read all pieces before the current one.
-use Rattle.std.proofs.Common.{map, take}
-use Rattle.std.specs.List.{concat}
+use Rattle.cif_laws.proofs.Common.{map, take, concat}
 use Rattle.cif_file.specs.ParserRead.{HasRead}
 use Rattle.cif_file.proofs.read.pieces.read_pieces.Given as goal
 

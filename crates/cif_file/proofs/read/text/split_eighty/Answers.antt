@@ -1,6 +1,5 @@
 -- The result is the first 80 bytes, if a line end follows them.
-use Rattle.std.proofs.Common.{◌≡◌, ℕ, ◌-◌, ◌≤◌, List, length, take, drop, sym, subst, arith, length-drop}
-use Rattle.std.proofs.lemmas.List.{take_all}
+use Rattle.cif_laws.proofs.Common.{◌≡◌, ℕ, ◌-◌, ◌≤◌, List, length, take, drop, sym, subst, arith, length-drop, take_all}
 use Rattle.cif_file.specs.Cut.{BeginsWithEnd}
 use Rattle.cif_file.proofs.TextLemmas.{begins_at, begins_with}
 use Rattle.cif_file.proofs.read.text.split_eighty.Goals as goal

@@ -1,6 +1,5 @@
 -- The text is cut at its first line feed.
-use Rattle.std.proofs.Common.{◌+◌, ◌-◌, length, take, drop, sym, subst, arith, length-drop}
-use Rattle.std.proofs.lemmas.List.{take_all}
+use Rattle.cif_laws.proofs.Common.{◌+◌, ◌-◌, length, take, drop, sym, subst, arith, length-drop, take_all}
 use Rattle.cif_file.specs.Cut.{IsCut}
 use Rattle.cif_file.proofs.ParserLemmas.{cut_at, no_feed_by}
 use Rattle.cif_file.proofs.read.text.split_line.Goals as goal

@@ -1,8 +1,6 @@
 -- A line beyond the limit is refused with the cause `TooMany`, and a line after the trailer with
 -- the cause `After`. Any other line is refused because it isn't a record.
-use Rattle.std.proofs.Common.{◌≡◌, ap, subst, refl, true, false}
-use Rattle.std.specs.Prelude.{◌↔◌}
-use Rattle.docker_model.specs.file.File.{IsFile}
+use Rattle.cif_laws.proofs.Common.{◌≡◌, ap, subst, refl, true, false, ◌↔◌, IsFile}
 use Rattle.cif_change.specs.Cause.{cause_meant}
 use Rattle.cif_file.proofs.ParserLemmas.{refused_over, refused_within}
 use Rattle.cif_file.proofs.records.Records.refused.Goals as goal

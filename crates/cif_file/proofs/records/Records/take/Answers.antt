@@ -1,5 +1,5 @@
 -- A line that is a record is taken. Any other line is refused for its length or for a byte.
-use Rattle.std.proofs.Common.{refl, subst}
+use Rattle.cif_laws.proofs.Common.{refl, subst}
 use Rattle.cif_file.specs.ParserRead.{CountsNext, FaultsNext}
 use Rattle.cif_file.proofs.AnswerLemmas.{if_err_by}
 use Rattle.cif_file.proofs.FrontLemmas.{on_ok_one}

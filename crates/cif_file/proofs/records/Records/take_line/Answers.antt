@@ -1,5 +1,5 @@
 -- The cause that is returned is a correct cause for the next record.
-use Rattle.std.proofs.Common.{arith}
+use Rattle.cif_laws.proofs.Common.{arith}
 use Rattle.cif_file.proofs.records.Records.take_line.Goals as goal
 
 pub returns-in-Err-clause-err : goal.returns-in-Err-clause-err

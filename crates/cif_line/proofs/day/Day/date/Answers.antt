@@ -1,6 +1,5 @@
-use Rattle.std.proofs.Common.{◌≡◌, pos, subst, unsigned_abs}
+use Rattle.cif_laws.proofs.Common.{◌≡◌, pos, subst, unsigned_abs, day_text, date_text}
 use Rattle.jiff.specs.Words.{IsBetween}
-use Rattle.docker_model.specs.records.PrintedTime.{day_text, date_text}
 use Rattle.cif_line.proofs.CivilDays.{IsDayOf, text_is, day_of_date}
 use Rattle.cif_line.proofs.day.Day.date.Goals as goal
 

@@ -1,6 +1,5 @@
-use Rattle.std.proofs.Common.{ap, ◌∙◌, sym, Some}
+use Rattle.cif_laws.proofs.Common.{ap, ◌∙◌, sym, Some, day_text}
 use Rattle.std.specs.Cmp.Lexicographic.{same_text, other_text}
-use Rattle.docker_model.specs.records.PrintedTime.{day_text}
 use Rattle.cif_line.proofs.DateFields.{digits_in-day_text}
 use Rattle.cif_line.proofs.day.Day.from_iso.Goals as goal
 

@@ -1,7 +1,4 @@
-use Rattle.std.proofs.Common.{arith, List, ◌<◌, ℕ, ◌≡◌, ◌+◌, ◌/◌, ◌%◌, ◌∷◌, [], ◌∙◌, sym}
-use Rattle.std.specs.Prelude.{unsigned_abs}
-use Rattle.std.proofs.lemmas.List.Elements.{All-from_recursion}
-use Rattle.std.proofs.lemmas.Str.Ascii.{IsAscii-from_all}
+use Rattle.cif_laws.proofs.Common.{arith, rules, ◌≡◌, ◌+◌, ◌/◌, ◌%◌, ◌∷◌, [], ◌∙◌, sym, unsigned_abs}
 use Rattle.jiff_core.proofs.SignedLemmas.{signed_casts}
 use Rattle.cif_line.proofs.day.Day.iso.Goals as goal
 
@@ -18,23 +15,4 @@ returns-clause-text c =
     ∙ sym c.date-date.ensures.text
 
 pub returns-clause-ascii : goal.returns-clause-ascii
-returns-clause-ascii c =
-    let bytes : List ℕ =
-    c.digit.result ∷ c.digit-2.result ∷ c.digit-3.result ∷ c.digit-4.result ∷ 45 ∷ c.digit-5.result ∷ c.digit-6.result ∷ 45
-    ∷ c.digit-7.result ∷ c.digit-8.result ∷ [] in
-    IsAscii-from_all bytes (All-from_recursion (λ b. b < 128) bytes (
-      c.digit.ensures.ascii,
-      (
-        c.digit-2.ensures.ascii,
-        (
-          c.digit-3.ensures.ascii,
-          (
-            c.digit-4.ensures.ascii,
-            (
-              omega arith,
-              (c.digit-5.ensures.ascii, (c.digit-6.ensures.ascii, (omega arith, (c.digit-7.ensures.ascii, (c.digit-8.ensures.ascii, tt))))),
-            ),
-          ),
-        ),
-      ),
-    ))
+returns-clause-ascii c = search rules

@@ -1,6 +1,4 @@
-use Rattle.std.proofs.Common.{◌≡◌, sym, ◌∙◌, subst, length, refl, rules}
-use Rattle.docker_model.specs.records.Record.{is_printable}
-use Rattle.std.specs.List.{AllPass}
+use Rattle.cif_laws.proofs.Common.{sym, ◌∙◌, subst, rules, is_printable, AllPass}
 use Rattle.cif_laws.proofs.records.RecordTests.{no_bad_byte}
 use Rattle.cif_line.proofs.line.Line.new.Goals as goal
 
@@ -9,14 +7,10 @@ good : (c : goal.Then-is_printable_line) → AllPass is_printable c.args.bytes.n
 good c = subst (AllPass is_printable) c.in-Ok.ensures.1.same (c.is_printable_line.ensures.0 c.if-is_printable_line.true)
 
 pub returns-then-is_printable_line-clause-ok : goal.returns-then-is_printable_line-clause-ok
-returns-then-is_printable_line-clause-ok c =
-    let long : length c.args.bytes.now ≡ 80 = search rules in
-    (λ ok. (long, good c), λ is. refl)
+returns-then-is_printable_line-clause-ok c = search (rules, good)
 
 pub returns-then-is_printable_line-clause-byte : goal.returns-then-is_printable_line-clause-byte
-returns-then-is_printable_line-clause-byte c column =
-    let none = good c in
-    (λ never. absurd (cc), λ both. let bad = both.1 in search (rules, no_bad_byte))
+returns-then-is_printable_line-clause-byte c = search (rules, good, no_bad_byte)
 
 pub returns-clause-ok : goal.returns-clause-ok
 returns-clause-ok c = (

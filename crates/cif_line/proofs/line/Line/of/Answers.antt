@@ -1,13 +1,10 @@
-use Rattle.std.proofs.Common.{◌≡◌, sym, ◌∙◌, subst, length, refl, rules}
-use Rattle.docker_model.specs.records.Record.{is_printable}
-use Rattle.std.specs.List.{AllPass}
+use Rattle.cif_laws.proofs.Common.{sym, ◌∙◌, subst, refl, rules, is_printable, AllPass}
 use Rattle.cif_line.proofs.line.Line.of.Goals as goal
 
 pub returns-then-is_printable_line-clause-some : goal.returns-then-is_printable_line-clause-some
 returns-then-is_printable_line-clause-some c =
-    let long : length c.args.bytes.now ≡ 80 = search rules in
     let good = subst (AllPass is_printable) c.in-Ok.ensures.1.same (c.is_printable_line.ensures.0 c.if-is_printable_line.true) in
-    (λ some. (long, good), λ is. refl)
+    (λ some. (search rules, good), λ is. refl)
 
 pub returns-clause-some : goal.returns-clause-some
 returns-clause-some c = (

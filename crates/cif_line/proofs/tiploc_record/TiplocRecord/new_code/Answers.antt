@@ -1,6 +1,5 @@
-use Rattle.std.proofs.Common.{◌≡◌, true, false, sym, ◌∙◌, subst}
+use Rattle.cif_laws.proofs.Common.{◌≡◌, true, false, sym, ◌∙◌, subst, tiploc_amend, HasKind}
 use Rattle.cif_line.proofs.GoodFields.{no_new_code}
-use Rattle.docker_model.specs.records.Record.{tiploc_amend, HasKind}
 use Rattle.cif_line.proofs.tiploc_record.TiplocRecord.new_code.Goals as goal
 
 pub returns-else-is_amendment : goal.returns-else-is_amendment

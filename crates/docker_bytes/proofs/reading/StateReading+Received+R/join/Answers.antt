@@ -1,5 +1,4 @@
-use Rattle.std.proofs.Common.{◌≡◌, sym, ap, subst, arith}
-use Rattle.std.specs.Prelude.{is_ok}
+use Rattle.std.proofs.Common.{◌≡◌, sym, ap, subst, arith, is_ok}
 use Rattle.docker_model.specs.state.StatePart.{width}
 use Rattle.state_text.specs.declared.cause.StateCause.{StateCause}
 use Rattle.state_text.specs.FaultMeaning.{cause_meant}

@@ -18,34 +18,24 @@ returns-then-rest-missing-clause-step g c =
 pub returns-in_err-take-clause-err : goal.returns-in_err-take-clause-err
 returns-in_err-take-clause-err g c =
     let same = err_from_is_err_and c.from_residual-in_err-take.result c.from_residual-in_err-take.ensures.1 in
-    let fault = c.in_err-take.field-0.0 in
     rw (same.1, same.2) (told_of_piece _ _ _ _ c.parts.invariant.whole c.parts.invariant.on _ _ _ _ c.split_at.ensures.by_index.0 c.in_err-take.ensures.err)
 
 pub returns-in_err-rest-clause-err : goal.returns-in_err-rest-clause-err
 returns-in_err-rest-clause-err g c =
     let same = err_from_is_err_and c.from_residual-in_err-rest.result c.from_residual-in_err-rest.ensures.1 in
-    let fault = c.in_err-rest.field-0.0 in
-    let behind = c.split_at.result.1.now in
-    let after = c.take_head-after.result.now in
     let further = rest_more _ _ _ _ c.parts.invariant.whole c.split_at.ensures.by_index.0 in
     let on = reads_further _ _ _ _ c.parts.invariant.whole c.parts.invariant.on _ _ _ c.split_at.ensures.by_index.0 (c.in_ok-take.ensures.ok refl) in
-    let split = sym c.take_head-after.ensures.rest in
-    let past = rest_more _ _ _ _ further.1 split in
-    let head = reads_further _ _ _ _ further.1 on _ _ _ split c.take_head-after.ensures.on in
-    rw (same.1, same.2) (told_of_piece _ _ _ _ past.1 head _ _ _ _ (sym (append-nil after)) c.in_err-rest.ensures.err)
+    let past = rest_more _ _ _ _ further.1 (sym c.take_head-after.ensures.rest) in
+    let head = reads_further _ _ _ _ further.1 on _ _ _ (sym c.take_head-after.ensures.rest) c.take_head-after.ensures.on in
+    rw (same.1, same.2) (told_of_piece _ _ _ _ past.1 head _ _ _ _ (sym (append-nil _)) c.in_err-rest.ensures.err)
 
 pub parts-preserved : goal.parts-preserved
 parts-preserved g c =
-    let behind = c.split_at.result.1.now in
-    let after = c.take_head-after.result.now in
     let further = rest_more _ _ _ _ c.parts.invariant.whole c.split_at.ensures.by_index.0 in
     let on = reads_further _ _ _ _ c.parts.invariant.whole c.parts.invariant.on _ _ _ c.split_at.ensures.by_index.0 (c.in_ok-take.ensures.ok refl) in
-    let split = sym c.take_head-after.ensures.rest in
-    let past = rest_more _ _ _ _ further.1 split in
-    let head = reads_further _ _ _ _ further.1 on _ _ _ split c.take_head-after.ensures.on in
-    let rest = c.in_ok-rest.rest.now in
-    let parted = sym c.in_ok-rest.ensures.rest in
+    let past = rest_more _ _ _ _ further.1 (sym c.take_head-after.ensures.rest) in
+    let head = reads_further _ _ _ _ further.1 on _ _ _ (sym c.take_head-after.ensures.rest) c.take_head-after.ensures.on in
     record {
-      whole = (rest_more _ _ _ _ past.1 parted).1;
-      on = reads_further _ _ _ _ past.1 head _ _ _ parted c.in_ok-rest.ensures.on;
+      whole = (rest_more _ _ _ _ past.1 (sym c.in_ok-rest.ensures.rest)).1;
+      on = reads_further _ _ _ _ past.1 head _ _ _ (sym c.in_ok-rest.ensures.rest) c.in_ok-rest.ensures.on;
     }

@@ -1,5 +1,4 @@
-use Rattle.std.proofs.Common.{◌∙◌, ℕ, List, [], length, ap, refl, rules, Some, None}
-use Rattle.std.specs.Borrow.{Bor}
+use Rattle.cif_laws.proofs.Common.{◌∙◌, ℕ, List, [], length, ap, refl, rules, Some, None, Bor}
 use Rattle.docker_cmd.specs.declared.tasks.Subcommand.TheVariants.{New, Day, Take, Merge, Print, Horizon, Migrate}
 use Rattle.docker_cmd.specs.declared.tasks.Task.TheVariants as task
 use Rattle.docker_cmd.specs.Words.{texts}

@@ -1,5 +1,4 @@
-use Rattle.std.proofs.Common.{◌≡◌, ℕ, ◌≤◌, List, [], ◌∷◌, length, take, drop, refl, sym, ◌∙◌, ap, arith, rules, tests, length-drop, ◌-◌}
-use Rattle.std.proofs.lemmas.List.{length-take-le}
+use Rattle.cif_laws.proofs.Common.{◌≡◌, ℕ, ◌≤◌, List, [], ◌∷◌, length, take, drop, refl, sym, ◌∙◌, ap, arith, rules, tests, length-drop, ◌-◌, length-take-le}
 use Rattle.docker_desk.proofs.ahead.Ahead.is_empty.Goals as goal
 
 none_of : (xs : List ℕ) → length xs ≡ 0 → xs ≡ []

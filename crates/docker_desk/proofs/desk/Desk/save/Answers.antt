@@ -1,4 +1,4 @@
-use Rattle.std.proofs.Common.{ap}
+use Rattle.cif_laws.proofs.Common.{ap}
 use Rattle.docker_desk.specs.Desk.{DeskView}
 use Rattle.docker_desk.proofs.HistoryLemmas.{saved_then}
 use Rattle.docker_desk.proofs.desk.Desk.save.Goals as goal

@@ -1,4 +1,4 @@
-use Rattle.std.proofs.Common.{ap, sym, Ok}
+use Rattle.cif_laws.proofs.Common.{ap, sym, Ok}
 use Rattle.docker_desk.specs.Desk.{DeskView, EndsTaking}
 use Rattle.docker_desk.specs.Reading.{StopsInFile}
 use Rattle.docker_desk.proofs.HistoryLemmas.{opens_as}

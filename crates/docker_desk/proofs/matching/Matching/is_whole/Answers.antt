@@ -1,5 +1,4 @@
-use Rattle.std.proofs.Common.{ap, ◌∙◌}
-use Rattle.std.specs.Prelude.{not}
+use Rattle.cif_laws.proofs.Common.{ap, ◌∙◌, not}
 use Rattle.docker_desk.specs.Copying.{MatchView}
 use Rattle.docker_desk.proofs.MatchLemmas.{never_whole}
 use Rattle.docker_desk.proofs.matching.Matching.is_whole.Goals as goal

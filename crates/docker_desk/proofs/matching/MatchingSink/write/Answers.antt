@@ -1,4 +1,4 @@
-use Rattle.std.proofs.Common.{ap, sym, ◌∙◌}
+use Rattle.cif_laws.proofs.Common.{ap, sym, ◌∙◌}
 use Rattle.docker_desk.specs.Copying.{MatchView}
 use Rattle.docker_desk.proofs.MatchLemmas.{goes_on_as}
 use Rattle.docker_desk.proofs.matching.MatchingSink.write.Goals as goal

@@ -1,4 +1,4 @@
-use Rattle.std.proofs.Common.{subst}
+use Rattle.cif_laws.proofs.Common.{subst}
 use Rattle.docker_detail.specs.Known.{MayBeKnownLinks}
 use Rattle.docker_detail.proofs.KnownPairs.{pair_known}
 use Rattle.docker_detail.proofs.link_records.LinkRecords.known_pair.Goals as goal

@@ -1,5 +1,4 @@
-use Rattle.std.proofs.Common.{◌≡◌, ap, sym, ◌∙◌}
-use Rattle.std.proofs.lemmas.Result.{IfOk-weaker}
+use Rattle.cif_laws.proofs.Common.{◌≡◌, ap, sym, ◌∙◌, IfOk-weaker}
 use Rattle.docker_model.specs.docker.DockerLine.{partner}
 use Rattle.docker_laws.specs.LiveRows.{link_in}
 use Rattle.docker_day.specs.Details.{detail_meant}

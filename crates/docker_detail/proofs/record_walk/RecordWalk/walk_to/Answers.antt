@@ -1,4 +1,4 @@
-use Rattle.std.proofs.Common.{◌≡◌, suc, length, ap, ◌∙◌, arith}
+use Rattle.cif_laws.proofs.Common.{◌≡◌, suc, length, ap, ◌∙◌, arith}
 use Rattle.docker_detail.proofs.WalkOn.{next_good, past, rest_good}
 use Rattle.docker_detail.proofs.record_walk.RecordWalk.walk_to.Goals as goal
 

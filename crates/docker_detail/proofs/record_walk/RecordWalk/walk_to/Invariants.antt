@@ -1,4 +1,4 @@
-use Rattle.std.proofs.Common.{◌≡◌, ℕ, ◌≤◌, length}
+use Rattle.cif_laws.proofs.Common.{◌≡◌, ℕ, ◌≤◌, length}
 use Rattle.docker_detail.specs.Meaning.{CanWalk, place_ahead}
 use Rattle.docker_detail.proofs.record_walk.RecordWalk.walk_to.Given as goal
 

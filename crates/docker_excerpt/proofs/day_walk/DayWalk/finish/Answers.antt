@@ -1,7 +1,4 @@
-use Rattle.std.proofs.Common.{List, subst}
-use Rattle.std.proofs.lemmas.Result.{IfOk-weaker}
-use Rattle.docker_model.specs.file.Change.{Key}
-use Rattle.docker_model.specs.state.Op.{Entry}
+use Rattle.cif_laws.proofs.Common.{List, subst, IfOk-weaker, Key, Entry}
 use Rattle.docker_laws.specs.Thinning.{shortened}
 use Rattle.docker_excerpt.specs.ExcerptWalk.{HasWalked}
 use Rattle.docker_excerpt.proofs.day_walk.DayWalk.finish.Goals as goal

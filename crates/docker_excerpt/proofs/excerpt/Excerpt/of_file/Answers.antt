@@ -1,6 +1,6 @@
 -- The needed changes of a file are made for one place and one day, and they result in a state. Each
 -- docker of this state for this place and day is also a docker of the whole file's state.
-use Rattle.std.proofs.Common.{ap, sym, ◌∙◌, subst}
+use Rattle.cif_laws.proofs.Common.{ap, sym, ◌∙◌, subst}
 use Rattle.docker_laws.specs.Thinning.{wanted_changes}
 use Rattle.docker_excerpt.specs.Values.{Excerpt, with_entries, StandsAt}
 use Rattle.docker_excerpt.proofs.ThinExcerpt.{given_is_state, state_is_summary, thin_stands}

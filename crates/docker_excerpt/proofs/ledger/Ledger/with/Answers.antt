@@ -1,5 +1,4 @@
-use Rattle.std.proofs.Common.{◌++◌, ◌∷◌, [], ◌∙◌, ap}
-use Rattle.docker_model.specs.state.State.{State}
+use Rattle.cif_laws.proofs.Common.{◌++◌, ◌∷◌, [], ◌∙◌, ap, State}
 use Rattle.cif_change.specs.Meaning.{key_meant}
 use Rattle.docker_join.specs.Meaning.{entry_meant}
 use Rattle.docker_excerpt.proofs.GivenEntries.{valid_with, last_with}

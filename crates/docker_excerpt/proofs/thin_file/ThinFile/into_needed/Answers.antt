@@ -1,6 +1,5 @@
 -- The remaining parts have the kept changes that the docker needs.
-use Rattle.std.proofs.Common.{List, ℕ, map, filter, refl, subst, Contains}
-use Rattle.std.specs.Prelude.{◌↔◌, ◌≡◌}
+use Rattle.cif_laws.proofs.Common.{List, ℕ, map, filter, refl, subst, Contains, ◌↔◌, ◌≡◌}
 use Rattle.docker_laws.specs.Thinning.{is_wanted}
 use Rattle.cif_change.specs.declared.change.Change.{Change}
 use Rattle.cif_change.specs.declared.key.Key.TheVariants as key

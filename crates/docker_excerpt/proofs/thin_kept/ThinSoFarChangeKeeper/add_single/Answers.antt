@@ -1,5 +1,5 @@
 -- Each of the record's changes was kept if the docker may need it, and dropped otherwise.
-use Rattle.std.proofs.Common.{subst, ◌++◌, ◌∙◌}
+use Rattle.cif_laws.proofs.Common.{subst, ◌++◌, ◌∙◌}
 use Rattle.docker_excerpt.specs.ThinKept.{HasThinned}
 use Rattle.cif_file.proofs.FrontLemmas.{on_ok_one}
 use Rattle.docker_excerpt.proofs.thin_kept.ThinSoFarChangeKeeper.add_single.Goals as goal

@@ -1,5 +1,5 @@
 -- The schedule's change was kept if the docker may need it, and dropped otherwise. No lines remain.
-use Rattle.std.proofs.Common.{◌∙◌, ◌++◌, ◌∷◌, []}
+use Rattle.cif_laws.proofs.Common.{◌∙◌, ◌++◌, ◌∷◌, []}
 use Rattle.cif_file.specs.KeeperRead.{change_renewed}
 use Rattle.docker_excerpt.proofs.thin_kept.ThinSoFarChangeKeeper.close.Goals as goal
 

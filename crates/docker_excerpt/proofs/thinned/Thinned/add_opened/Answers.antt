@@ -1,10 +1,9 @@
 -- A schedule that is a deletion or doesn't run near the day is handled as a deletion. Of any other
 -- schedule, all lines are kept if it may have an event at the place on the day, and otherwise only
 -- the basic schedule.
-use Rattle.std.proofs.Common.{◌≡◌, refl, sym, ap, ◌∙◌, Bool, true, false}
-use Rattle.std.specs.Prelude.{◌||◌, not}
+use Rattle.cif_laws.proofs.Common.{◌≡◌, refl, sym, ap, ◌∙◌, Bool, true, false, rules, ◌||◌, not}
 use Rattle.cif_file.proofs.FrontLemmas.{on_ok_one}
-use Rattle.docker_excerpt.proofs.ThinLemmas.{opened_deletes, opened_whole, opened_elsewhere, first_line, either, neither}
+use Rattle.docker_excerpt.proofs.ThinLemmas.{opened_deletes, opened_whole, opened_elsewhere, first_line, either}
 use Rattle.cif_file.specs.KeeperRead.{change_opened}
 use Rattle.docker_excerpt.proofs.thinned.Thinned.add_opened.Goals as goal
 
@@ -19,7 +18,7 @@ returns-then-is_deletion-runs_near c =
 
 -- if neither `deletion` nor `not runs` is true, both are false
 none : (deletion runs test : Bool) → test ≡ deletion → (test || not runs) ≡ false → (deletion ≡ false) × (runs ≡ true)
-none deletion runs test same fails = neither deletion runs (ap (λ t. t || not runs) (sym same) ∙ fails)
+none = search rules
 
 pub returns-then-may_call_on : goal.returns-then-may_call_on
 returns-then-may_call_on c =
@@ -28,7 +27,7 @@ returns-then-may_call_on c =
     (λ kept. λ place day lines renewed read whole near all has.
     kept place day (change_opened c.args.opened lines) refl
     (opened_whole place day c.args.opened c.args.runs_near lines read whole near stays.0 stays.1 c.args.self.now has.place_is has.day_is
-    c.args.lines.now renewed c.may_call_on.result c.may_call_on.ensures c.in_ok-body.body c.in_ok-body.ensures c.if-may_call_on.true) all has)
+    _ renewed _ c.may_call_on.ensures _ c.in_ok-body.ensures c.if-may_call_on.true) all has)
 
 pub returns : goal.returns
 returns c =
@@ -37,5 +36,4 @@ returns c =
     (λ kept. λ place day lines renewed read whole near all has.
     kept place day (change_opened c.args.opened lines) refl
     (opened_elsewhere place day c.args.opened c.args.runs_near lines read whole near stays.0 stays.1 c.args.self.now has.place_is has.day_is
-    c.args.lines.now renewed c.may_call_on.result c.may_call_on.ensures c.in-Some.basic.now
-    (first_line c.args.lines.now c.in-Some.basic.now c.in-Some.ensures.value) c.if-may_call_on.false) all has)
+    _ renewed _ c.may_call_on.ensures _ (first_line _ _ c.in-Some.ensures.value) c.if-may_call_on.false) all has)

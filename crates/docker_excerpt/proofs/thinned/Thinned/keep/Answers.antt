@@ -1,6 +1,5 @@
 -- The change was appended, and its key was added to the set.
-use Rattle.std.proofs.Common.{◌++◌, ◌∷◌, [], ◌∙◌, ap, sym, subst}
-use Rattle.std.specs.Global.{Vec}
+use Rattle.cif_laws.proofs.Common.{ap, sym, subst, rules, Vec}
 use Rattle.cif_change.specs.Meaning.{change_meant}
 use Rattle.docker_excerpt.specs.declared.elsewhere.Elsewhere.{Elsewhere}
 use Rattle.docker_excerpt.specs.declared.thinned.Thinned.{Thinned}
@@ -11,9 +10,6 @@ pub returns : goal.returns
 returns c = λ place day whole matters same.
     let old = c.args.self.now in
     let known = c.in_ok-know.ensures.same in
-    thin_kept place day old _ whole (change_meant c.args.change) (ap (λ (t : Thinned). t.place) known) (ap (λ (t : Thinned). t.day) known)
-    c.in_ok-know.ensures.known
+    thin_kept place day old _ whole (change_meant c.args.change) (search rules) (search rules) c.in_ok-know.ensures.known
     (subst (λ (others : Vec Elsewhere). KeepsMore place old.made old.elsewhere (change_meant c.args.change) c.push.new.self others)
-    (sym (ap (λ (t : Thinned). t.elsewhere) known))
-    (made_pushed place old.made old.elsewhere c.args.change c.push.new.self
-    (c.in_ok-push.ensures.items ∙ ap (λ (t : Thinned). t.made.items ++ c.args.change ∷ []) known))) matters same
+    (sym (ap (λ (t : Thinned). t.elsewhere) known)) (made_pushed place old.made old.elsewhere c.args.change c.push.new.self (search rules))) matters same

@@ -1,5 +1,5 @@
 -- Before the first change, no change has to be kept.
-use Rattle.std.proofs.Common.{refl}
+use Rattle.cif_laws.proofs.Common.{refl}
 use Rattle.docker_excerpt.proofs.ThinLemmas.{none_thinned}
 use Rattle.docker_excerpt.proofs.thinned.Thinned.new.Goals as goal
 

@@ -1,5 +1,4 @@
-use Rattle.std.specs.Prelude.{⊤}
-use Rattle.std.specs.Cmp.{on_total}
+use Rattle.cif_laws.proofs.Common.{⊤, on_total}
 use Rattle.cif_laws.proofs.orders.Orders.{stamp_total}
 use Rattle.docker_join.specs.Meaning.{stamp_meant}
 use Rattle.cif_laws.proofs.orders.Greater.{greater_max}

@@ -1,4 +1,4 @@
-use Rattle.std.proofs.Common.{List, length, ap, sym, subst, arith}
+use Rattle.cif_laws.proofs.Common.{List, length, ap, sym, subst, arith}
 use Rattle.cif_change.specs.declared.key.Key.{Key}
 use Rattle.docker_join.specs.declared.entry.Entry.{Entry}
 use Rattle.docker_join.specs.Rows.{AreAscending}

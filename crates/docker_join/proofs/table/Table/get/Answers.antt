@@ -1,5 +1,4 @@
-use Rattle.std.proofs.Common.{rules}
-use Rattle.std.proofs.lemmas.Fn.{always_returns_same}
+use Rattle.cif_laws.proofs.Common.{rules, always_returns_same}
 use Rattle.cif_change.specs.Meaning.{key_meant}
 use Rattle.docker_join.proofs.Lookup.{by_key, row_found, row_missing, rows_rise}
 use Rattle.docker_join.proofs.table.Table.get.Goals as goal

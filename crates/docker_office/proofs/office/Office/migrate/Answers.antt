@@ -1,6 +1,4 @@
 use Rattle.std.proofs.lemmas.Result.{err_from_is_err_and}
-use Rattle.docker_model.specs.state.StateText.{dks_1}
-use Rattle.docker_bytes.specs.SourceRead.{WantsMemory}
 use Rattle.docker_office.proofs.OfficeLemmas.{unread_by_office}
 use Rattle.docker_office.proofs.office.Office.migrate.Goals as goal
 
@@ -10,5 +8,4 @@ returns-clause-reads g c = c.in_ok-self-inside.ensures.reads
 pub returns-in_err-self-inside-clause-reads : goal.returns-in_err-self-inside-clause-reads
 returns-in_err-self-inside-clause-reads g c =
     let same = err_from_is_err_and c.from_residual.result c.from_residual.ensures.1 in
-    rw (same.1, same.2) (unread_by_office WantsMemory dks_1 c.args.limit (g.S.Source.left c.args.source.now) (g.S.Source.left c.migrate.new.source)
-    (g.S.Source.failures c.args.source.now) (g.S.Source.failures c.migrate.new.source) _ c.in_err-self-inside.ensures.reads)
+    rw (same.1, same.2) (unread_by_office g.S.Source.left g.S.Source.failures _ _ _ _ _ c.in_err-self-inside.ensures.reads)

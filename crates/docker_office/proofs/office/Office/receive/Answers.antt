@@ -2,7 +2,7 @@ use Rattle.std.proofs.Common.{subst}
 use Rattle.std.proofs.lemmas.Result.{err_from_is_err_and}
 use Rattle.docker_model.specs.state.State.{State}
 use Rattle.docker_model.specs.state.StateText.{dks_2}
-use Rattle.docker_bytes.specs.SourceRead.{JoinsState, WantsMemory}
+use Rattle.docker_bytes.specs.SourceRead.{JoinsState}
 use Rattle.docker_office.proofs.OfficeLemmas.{joins_summaries, unread_by_office}
 use Rattle.docker_office.proofs.office.Office.receive.Goals as goal
 
@@ -24,5 +24,4 @@ returns-clause-summary g c = λ done. joins_summaries _ _ _ _
 pub returns-in_err-join_state-clause-reads : goal.returns-in_err-join_state-clause-reads
 returns-in_err-join_state-clause-reads g c =
     let same = err_from_is_err_and c.from_residual.result c.from_residual.ensures.1 in
-    rw (same.1, same.2) (unread_by_office WantsMemory dks_2 c.args.limit (g.S.Source.left c.args.source.now) (g.S.Source.left c.join_state.new.source)
-    (g.S.Source.failures c.args.source.now) (g.S.Source.failures c.join_state.new.source) _ c.in_err-join_state.ensures.reads)
+    rw (same.1, same.2) (unread_by_office g.S.Source.left g.S.Source.failures _ _ _ _ _ c.in_err-join_state.ensures.reads)

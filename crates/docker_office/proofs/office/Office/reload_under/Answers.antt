@@ -1,6 +1,4 @@
 use Rattle.std.proofs.lemmas.Result.{err_from_is_err_and}
-use Rattle.docker_model.specs.state.StateText.{dks_2}
-use Rattle.docker_bytes.specs.SourceRead.{WantsMemory}
 use Rattle.docker_office.proofs.OfficeLemmas.{one_raised, unread_by_office}
 use Rattle.docker_office.proofs.office.Office.reload_under.Goals as goal
 
@@ -13,5 +11,4 @@ returns-clause-sent g c = λ done sent holds. one_raised _ _ _ _ _ _ c.in_ok-sel
 pub returns-in_err-self-inside-clause-reads : goal.returns-in_err-self-inside-clause-reads
 returns-in_err-self-inside-clause-reads g c =
     let same = err_from_is_err_and c.from_residual.result c.from_residual.ensures.1 in
-    rw (same.1, same.2) (unread_by_office WantsMemory dks_2 c.args.limit (g.S.Source.left c.args.source.now) (g.S.Source.left c.read_raised.new.source)
-    (g.S.Source.failures c.args.source.now) (g.S.Source.failures c.read_raised.new.source) _ c.in_err-self-inside.ensures.reads)
+    rw (same.1, same.2) (unread_by_office g.S.Source.left g.S.Source.failures _ _ _ _ _ c.in_err-self-inside.ensures.reads)

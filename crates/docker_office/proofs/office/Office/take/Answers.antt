@@ -1,5 +1,5 @@
-use Rattle.std.proofs.Common.{inr, refl, subst, sym}
-use Rattle.std.specs.Prelude.{IsOk, ⊤}
+use Rattle.std.proofs.Common.{inr, refl, subst, sym, IsOk}
+use Rattle.std.specs.Prelude.{⊤}
 use Rattle.std.proofs.lemmas.Result.{err_from_is_err_and}
 use Rattle.docker_office.specs.Office.{TakesFile}
 use Rattle.docker_office.proofs.OfficeLemmas.{holds_file, knows_file_too, taken_whole, takes_file, untaken}
@@ -22,11 +22,9 @@ returns-in_default-clause-takes g c = record {
 
 pub returns-clause-takes : goal.returns-clause-takes
 returns-clause-takes g c =
-    let left = g.S.Source.left c.args.source.now in
     taken_whole _ _ _ _ _ _ _ _ c.in_ok-file.ensures.reads (λ _ is. takes_file _ _ _ _ _ _ c.in_ok-file.ensures.reads.outcome.0
     c.in-Ok.ensures.ok (c.join.ensures.ok (subst IsOk (sym is) refl))) c.join.ensures.only
 
 pub returns-clause-summary : goal.returns-clause-summary
 returns-clause-summary g c = λ done files horizon is.
-    let left = g.S.Source.left c.args.source.now in
     knows_file_too _ _ _ _ _ _ (takes_file _ _ _ _ _ _ c.in_ok-file.ensures.reads.outcome.0 c.in-Ok.ensures.ok (c.join.ensures.ok done)) is

@@ -1,7 +1,7 @@
+use Rattle.std.proofs.Common.{ap}
 use Rattle.std.proofs.lemmas.Result.{err_from_is_err_and}
-use Rattle.docker_model.specs.state.StateText.{dks_2}
-use Rattle.docker_bytes.specs.SourceRead.{WantsMemory}
-use Rattle.docker_office.proofs.OfficeLemmas.{day_read, one_excerpt, place_read, state_read, unread_by_office}
+use Rattle.docker_excerpt.specs.Values.{Excerpt}
+use Rattle.docker_office.proofs.OfficeLemmas.{one_excerpt, state_read, unread_by_office}
 use Rattle.docker_office.proofs.place_office.PlaceOffice.read.Goals as goal
 
 pub returns-clause-reads : goal.returns-clause-reads
@@ -17,13 +17,12 @@ pub returns-clause-sent : goal.returns-clause-sent
 returns-clause-sent g c = one_excerpt _ _ _ _ _ c.in_ok-excerpt.ensures.reads.outcome
 
 pub returns-clause-place : goal.returns-clause-place
-returns-clause-place g c = place_read _ _ _ _ _ c.in_ok-excerpt.ensures.reads.outcome
+returns-clause-place g c = ap (λ (it : Excerpt). it.place) c.in_ok-excerpt.ensures.reads.outcome.of.made_of
 
 pub returns-clause-day : goal.returns-clause-day
-returns-clause-day g c = day_read _ _ _ _ _ c.in_ok-excerpt.ensures.reads.outcome
+returns-clause-day g c = ap (λ (it : Excerpt). it.day) c.in_ok-excerpt.ensures.reads.outcome.of.made_of
 
 pub returns-in_err-excerpt-clause-reads : goal.returns-in_err-excerpt-clause-reads
 returns-in_err-excerpt-clause-reads g c =
     let same = err_from_is_err_and c.from_residual.result c.from_residual.ensures.1 in
-    rw (same.1, same.2) (unread_by_office WantsMemory dks_2 c.args.limit (g.S.Source.left c.args.source.now) (g.S.Source.left c.read_excerpt.new.source)
-    (g.S.Source.failures c.args.source.now) (g.S.Source.failures c.read_excerpt.new.source) _ c.in_err-excerpt.ensures.reads)
+    rw (same.1, same.2) (unread_by_office g.S.Source.left g.S.Source.failures _ _ _ _ _ c.in_err-excerpt.ensures.reads)

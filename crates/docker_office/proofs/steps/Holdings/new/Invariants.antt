@@ -1,5 +1,4 @@
-use Rattle.std.proofs.Common.{◌≡◌, ◌≤◌, [], length}
-use Rattle.std.specs.Prelude.{All, vec_capacity}
+use Rattle.std.proofs.Common.{◌≡◌, ◌≤◌, [], length, All, vec_capacity}
 use Rattle.docker_model.specs.state.Summary.{IsSummary}
 use Rattle.docker_office.proofs.steps.Holdings.new.Given as goal
 

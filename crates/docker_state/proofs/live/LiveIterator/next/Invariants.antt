@@ -1,4 +1,4 @@
-use Rattle.std.proofs.Common.{◌≡◌, map, length}
+use Rattle.cif_laws.proofs.Common.{◌≡◌, map, length}
 use Rattle.docker_join.specs.Meaning.{row_meant}
 use Rattle.docker_state.specs.Live.{live_rows}
 use Rattle.docker_state.proofs.live.LiveIterator.next.Given as goal

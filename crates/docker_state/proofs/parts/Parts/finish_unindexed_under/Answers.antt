@@ -1,5 +1,4 @@
-use Rattle.std.proofs.Common.{ap, sym, subst, ◌∙◌}
-use Rattle.docker_model.specs.state.State.{State, IsValid}
+use Rattle.cif_laws.proofs.Common.{ap, sym, subst, ◌∙◌, State, IsValid}
 use Rattle.docker_state.specs.Meaning.{state_meant}
 use Rattle.docker_state.specs.Parts.{under}
 use Rattle.docker_state.proofs.parts.Parts.finish_unindexed_under.Goals as goal

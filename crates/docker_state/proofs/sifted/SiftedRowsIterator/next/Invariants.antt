@@ -1,4 +1,4 @@
-use Rattle.std.proofs.Common.{◌≡◌, length, map}
+use Rattle.cif_laws.proofs.Common.{◌≡◌, length, map}
 use Rattle.docker_join.specs.Meaning.{row_meant}
 use Rattle.docker_state.specs.PlaceRows.{rows_here}
 use Rattle.docker_state.proofs.sifted.SiftedRowsIterator.next.Given as goal

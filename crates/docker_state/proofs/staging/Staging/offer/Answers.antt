@@ -1,4 +1,4 @@
-use Rattle.std.proofs.Common.{ap}
+use Rattle.cif_laws.proofs.Common.{ap}
 use Rattle.state_laws.specs.Staging.{staged_state}
 use Rattle.docker_state.specs.Staging.{Staging}
 use Rattle.docker_state.proofs.PartsLemmas.{valid_with_entry}

@@ -1,5 +1,4 @@
-use Rattle.std.proofs.Common.{rules, map, ap, ◌∙◌, subst}
-use Rattle.docker_model.specs.state.State.{State, IsJoin}
+use Rattle.cif_laws.proofs.Common.{rules, map, ap, ◌∙◌, subst, State, IsJoin}
 use Rattle.state_laws.specs.Staging.{staged_state}
 use Rattle.state_laws.proofs.joins.StagedState.{join_with_staged}
 use Rattle.docker_state.specs.Meaning.{item_meant}

@@ -1,5 +1,4 @@
-use Rattle.std.proofs.Common.{◌∙◌, false, length, map, ap, subst}
-use Rattle.docker_model.specs.state.State.{State, IsValid, live_table}
+use Rattle.cif_laws.proofs.Common.{◌∙◌, false, length, map, ap, subst, State, IsValid, live_table}
 use Rattle.docker_join.specs.Meaning.{row_meant}
 use Rattle.state_index.specs.Counts.{IsCallingCount}
 use Rattle.docker_state.specs.Indexed.{IsIndexIfAny}

@@ -1,4 +1,4 @@
-use Rattle.std.proofs.Common.{arith}
+use Rattle.cif_laws.proofs.Common.{arith}
 use Rattle.state_laws.proofs.texts.LedgerGrown.{no_items}
 use Rattle.state_laws.proofs.texts.StateGrown.{valid_without}
 use Rattle.docker_state.proofs.state.State.empty.Goals as goal

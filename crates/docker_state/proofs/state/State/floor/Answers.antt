@@ -1,6 +1,4 @@
-use Rattle.std.proofs.Common.{List, map, subst}
-use Rattle.docker_model.specs.state.Stamp.{IsFloor}
-use Rattle.docker_model.specs.state.State.{State}
+use Rattle.cif_laws.proofs.Common.{List, map, subst, IsFloor, State}
 use Rattle.docker_state.specs.declared.item.LedgerItem.{LedgerItem}
 use Rattle.docker_join.specs.Meaning.{floor_meant}
 use Rattle.docker_state.specs.Meaning.{item_meant}

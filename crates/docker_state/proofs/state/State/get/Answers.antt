@@ -1,5 +1,4 @@
-use Rattle.std.proofs.Common.{ap, ◌∙◌}
-use Rattle.std.specs.Option.{option_map}
+use Rattle.cif_laws.proofs.Common.{ap, ◌∙◌, option_map}
 use Rattle.cif_change.specs.Meaning.{key_meant}
 use Rattle.docker_join.specs.Meaning.{entry_meant}
 use Rattle.docker_state.proofs.StateLemmas.{entry_of_rows}

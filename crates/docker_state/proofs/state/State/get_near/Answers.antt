@@ -1,5 +1,4 @@
-use Rattle.std.proofs.Common.{ap, ◌∙◌, List}
-use Rattle.std.specs.Option.{option_map}
+use Rattle.cif_laws.proofs.Common.{ap, ◌∙◌, List, option_map}
 use Rattle.cif_change.specs.Meaning.{key_meant}
 use Rattle.cif_change.specs.declared.key.Key.{Key}
 use Rattle.docker_join.specs.declared.entry.Entry.{Entry}

@@ -1,7 +1,4 @@
-use Rattle.std.proofs.Common.{List, ◌++◌, map, max, ap, subst, sym, ◌∙◌}
-use Rattle.docker_model.specs.state.Stamp.{IsFloor}
-use Rattle.docker_model.specs.state.State.{State, IsJoin}
-use Rattle.docker_model.specs.state.Lapse.{lapse_entries}
+use Rattle.cif_laws.proofs.Common.{List, ◌++◌, map, max, ap, subst, sym, ◌∙◌, IsFloor, State, IsJoin, lapse_entries}
 use Rattle.state_laws.proofs.joins.JoinValid.{join_is_valid}
 use Rattle.docker_join.proofs.MeantOrder.{meant_ascending}
 use Rattle.docker_join.specs.Meaning.{row_meant, floor_meant}

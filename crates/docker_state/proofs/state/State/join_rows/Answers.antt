@@ -1,6 +1,4 @@
-use Rattle.std.proofs.Common.{◌++◌, subst, sym}
-use Rattle.docker_model.specs.state.Stamp.{IsFloor}
-use Rattle.docker_model.specs.state.State.{State, IsJoin}
+use Rattle.cif_laws.proofs.Common.{◌++◌, subst, sym, IsFloor, State, IsJoin}
 use Rattle.docker_join.specs.Meaning.{floor_meant}
 use Rattle.docker_state.proofs.state.State.join_rows.Goals as goal
 

@@ -1,5 +1,4 @@
-use Rattle.std.proofs.Common.{◌∙◌, true, map, ap, sym, subst}
-use Rattle.docker_model.specs.state.State.{State, IsValid, live_table}
+use Rattle.cif_laws.proofs.Common.{◌∙◌, true, map, ap, sym, subst, State, IsValid, live_table}
 use Rattle.state_laws.specs.Index.{AreLinked}
 use Rattle.docker_join.specs.Meaning.{row_meant}
 use Rattle.docker_state.specs.PlaceRows.{rows_here}

@@ -1,5 +1,4 @@
-use Rattle.std.proofs.Common.{map, ap, ◌∙◌, subst}
-use Rattle.docker_model.specs.state.State.{State, IsValid}
+use Rattle.cif_laws.proofs.Common.{map, ap, ◌∙◌, subst, State, IsValid}
 use Rattle.state_laws.proofs.states.PlainLive.{live_table_is_plain, live_is_lapsed_plain}
 use Rattle.docker_join.specs.Meaning.{row_meant}
 use Rattle.docker_state.specs.Live.{live_rows}

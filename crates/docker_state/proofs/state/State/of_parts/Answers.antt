@@ -1,7 +1,6 @@
 -- The item made from the header is the ledger item of the parts, so the state that the item and the
 -- changes make is the state that the parts make.
-use Rattle.std.proofs.Common.{◌∷◌, [], map, subst, sym}
-use Rattle.docker_model.specs.state.Stamp.{LedgerItem}
+use Rattle.cif_laws.proofs.Common.{◌∷◌, [], map, subst, sym, LedgerItem}
 use Rattle.cif_change.specs.Meaning.{change_meant}
 use Rattle.docker_state.specs.MadeState.{IsMadeState, MakeValid}
 use Rattle.docker_state.proofs.state.State.of_parts.Goals as goal

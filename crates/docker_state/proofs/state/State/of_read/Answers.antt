@@ -1,6 +1,5 @@
 -- The result is the state that all changes of the file make.
-use Rattle.std.proofs.Common.{List, map, subst, sym, ◌∙◌}
-use Rattle.docker_model.specs.file.Change.{Change}
+use Rattle.cif_laws.proofs.Common.{List, map, subst, sym, ◌∙◌, Change}
 use Rattle.cif_change.specs.Meaning.{change_meant}
 use Rattle.state_index.specs.Rooms.{changed_items}
 use Rattle.docker_state.specs.Indexed.{HasRoomIfAny}

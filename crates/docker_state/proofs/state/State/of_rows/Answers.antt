@@ -1,6 +1,6 @@
 use Rattle.docker_model.specs.file.Change as model
 use Rattle.docker_model.specs.state.Op as ops
-use Rattle.docker_model.specs.state.Op.{key_cmp}
+use Rattle.cif_laws.proofs.Common.{key_cmp}
 use Rattle.docker_join.proofs.MeantOrder.{meant_ascending}
 use Rattle.docker_join.specs.Meaning.{row_meant}
 use Rattle.docker_state.proofs.state.State.of_rows.Goals as goal

@@ -1,5 +1,4 @@
-use Rattle.std.proofs.Common.{map, ap, ◌∙◌, subst}
-use Rattle.docker_model.specs.state.State.{State, IsValid}
+use Rattle.cif_laws.proofs.Common.{map, ap, ◌∙◌, subst, State, IsValid}
 use Rattle.docker_join.specs.Meaning.{row_meant}
 use Rattle.docker_state.proofs.UidRows.{live_of_uid}
 use Rattle.docker_state.proofs.state.State.of_uid_near.Goals as goal

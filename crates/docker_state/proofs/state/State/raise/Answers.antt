@@ -1,11 +1,10 @@
-use Rattle.std.proofs.Common.{◌≡◌, ◌≤◌, List, map, ap, sym, ◌∙◌, subst, arith}
+use Rattle.cif_laws.proofs.Common.{◌≡◌, ◌≤◌, List, map, ap, sym, ◌∙◌, subst, arith, State, IsValid, raise_horizon}
 use Rattle.cif_change.specs.declared.key.Key.{Key}
 use Rattle.docker_join.specs.declared.entry.Entry.{Entry}
 use Rattle.docker_join.specs.Meaning.{row_meant}
 use Rattle.state_index.specs.Rooms.{items_of}
 use Rattle.docker_state.specs.Indexed.{HasRoomIfAny, IsIndexIfAny}
 use Rattle.docker_state.proofs.IndexRooms.{room_of_lapsed}
-use Rattle.docker_model.specs.state.State.{State, IsValid, raise_horizon}
 use Rattle.state_laws.proofs.joins.RaisedHorizon.{not_greater}
 use Rattle.docker_state.proofs.HorizonLemmas.{rows_raised, raised_valid, same_index, same_room}
 use Rattle.docker_state.proofs.state.State.raise.Goals as goal

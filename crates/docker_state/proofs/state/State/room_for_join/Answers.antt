@@ -1,5 +1,4 @@
-use Rattle.std.proofs.Common.{List, ◌++◌, ◌∙◌, map, ap, subst}
-use Rattle.docker_model.specs.state.State.{State}
+use Rattle.cif_laws.proofs.Common.{List, ◌++◌, ◌∙◌, map, ap, subst, State}
 use Rattle.docker_join.specs.Meaning.{row_meant}
 use Rattle.state_index.specs.Rooms.{HasRoomFor, items_of}
 use Rattle.docker_state.proofs.IndexRooms.{Keyed, room_of_join, room_of_turned_join}

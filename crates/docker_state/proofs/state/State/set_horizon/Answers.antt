@@ -1,7 +1,4 @@
-use Rattle.std.proofs.Common.{ap, sym, ◌∙◌, subst}
-use Rattle.std.specs.Prelude.{max}
-use Rattle.docker_model.specs.state.State.{raise_horizon}
-use Rattle.docker_model.specs.state.Summary.{IsSummary}
+use Rattle.cif_laws.proofs.Common.{ap, sym, ◌∙◌, subst, max, raise_horizon, IsSummary}
 use Rattle.state_laws.proofs.states.SummaryLaws.{raised_summary}
 use Rattle.docker_state.proofs.state.State.set_horizon.Goals as goal
 

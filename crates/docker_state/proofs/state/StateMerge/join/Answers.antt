@@ -1,6 +1,4 @@
-use Rattle.std.proofs.Common.{subst, sym, ◌∙◌}
-use Rattle.std.proofs.lemmas.Result.{IfOk-weaker}
-use Rattle.docker_model.specs.state.State.{IsJoin, raise_horizon}
+use Rattle.cif_laws.proofs.Common.{subst, sym, ◌∙◌, IfOk-weaker, IsJoin, raise_horizon}
 use Rattle.state_laws.proofs.joins.JoinLaws.{join_commutes}
 use Rattle.state_laws.proofs.states.SummaryLaws.{join_is_summary}
 use Rattle.docker_state.proofs.state.StateMerge.join.Goals as goal

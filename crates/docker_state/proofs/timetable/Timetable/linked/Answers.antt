@@ -1,7 +1,5 @@
-use Rattle.std.proofs.Common.{List, sym, subst}
-use Rattle.docker_model.specs.state.State.{IsValid, live_table}
+use Rattle.cif_laws.proofs.Common.{List, sym, subst, IsValid, live_table, Row}
 use Rattle.state_laws.specs.Index.{AreLinked}
-use Rattle.docker_model.specs.state.Row.{Row}
 use Rattle.state_laws.specs.CountedRows.{counted_table}
 use Rattle.state_laws.proofs.states.CountedRows.{counted_linked}
 use Rattle.docker_state.specs.Timetables.{Timetable, counts, live_in}

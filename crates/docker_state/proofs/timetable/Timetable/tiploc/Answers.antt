@@ -1,5 +1,4 @@
-use Rattle.std.proofs.Common.{subst}
-use Rattle.docker_model.specs.state.State.{IsValid}
+use Rattle.cif_laws.proofs.Common.{subst, IsValid}
 use Rattle.docker_state.specs.Timetables.{Timetable}
 use Rattle.docker_state.proofs.Timetables.{timetable_good}
 use Rattle.docker_state.proofs.timetable.Timetable.tiploc.Goals as goal

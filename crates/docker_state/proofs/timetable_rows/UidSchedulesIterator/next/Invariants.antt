@@ -1,4 +1,4 @@
-use Rattle.std.proofs.Common.{◌≡◌, length}
+use Rattle.cif_laws.proofs.Common.{◌≡◌, length}
 use Rattle.state_laws.specs.CountedRows.{counted_rows}
 use Rattle.docker_state.specs.Timetables.{counts}
 use Rattle.docker_state.proofs.timetable_rows.UidSchedulesIterator.next.Given as goal

@@ -1,4 +1,4 @@
-use Rattle.std.proofs.Common.{length, refl}
+use Rattle.cif_laws.proofs.Common.{length, refl}
 use Rattle.state_index.specs.Spots.{spots_in}
 use Rattle.state_index.proofs.CountedCalls.{calling_counted}
 use Rattle.state_index.proofs.index.Index.count_calling.Goals as goal

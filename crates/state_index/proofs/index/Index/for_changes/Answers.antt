@@ -1,4 +1,4 @@
-use Rattle.std.proofs.Common.{map, refl}
+use Rattle.cif_laws.proofs.Common.{map, refl}
 use Rattle.cif_change.specs.Meaning.{change_meant}
 use Rattle.state_index.specs.Rooms.{changed_items}
 use Rattle.state_index.proofs.index.Index.for_changes.Goals as goal

@@ -1,4 +1,4 @@
-use Rattle.std.proofs.Common.{◌++◌, ◌∙◌, map, refl, subst, sym}
+use Rattle.cif_laws.proofs.Common.{◌++◌, ◌∙◌, map, refl, subst, sym}
 use Rattle.state_index.specs.NamedPlaces.{call_places, link_places}
 use Rattle.docker_join.specs.Meaning.{row_meant}
 use Rattle.state_index.specs.Rooms.{Includes, items_of, places_in}

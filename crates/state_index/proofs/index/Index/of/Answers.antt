@@ -1,4 +1,4 @@
-use Rattle.std.proofs.Common.{map, refl}
+use Rattle.cif_laws.proofs.Common.{map, refl}
 use Rattle.docker_join.specs.Meaning.{row_meant}
 use Rattle.state_index.specs.Rooms.{items_of}
 use Rattle.state_index.proofs.index.Index.of.Goals as goal

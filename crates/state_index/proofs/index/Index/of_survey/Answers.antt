@@ -1,4 +1,4 @@
-use Rattle.std.proofs.Common.{◌<◌, ◌^◌, length, rules}
+use Rattle.cif_laws.proofs.Common.{◌<◌, ◌^◌, length, rules}
 use Rattle.state_index.proofs.Surveyed.{room_of_survey}
 use Rattle.state_index.proofs.index.Index.of_survey.Goals as goal
 

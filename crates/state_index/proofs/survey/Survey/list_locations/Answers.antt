@@ -1,6 +1,4 @@
-use Rattle.std.proofs.Common.{◌≡◌, ◌∙◌, ◌++◌, ℕ, List, [], ◌∷◌, map, ap, refl, rules, sym, subst}
-use Rattle.std.proofs.lemmas.List.Elements.{Contains-append_right}
-use Rattle.docker_model.specs.records.Record.{columns}
+use Rattle.cif_laws.proofs.Common.{◌≡◌, ◌∙◌, ◌++◌, ℕ, List, [], ◌∷◌, map, ap, refl, rules, sym, subst, Contains-append_right, columns}
 use Rattle.state_index.specs.NamedPlaces.{location_lines}
 use Rattle.state_index.specs.Rooms.{Includes}
 use Rattle.state_index.proofs.Positions.{none_left}

@@ -1,5 +1,4 @@
-use Rattle.std.proofs.Common.{◌≡◌, ◌++◌, length, map}
-use Rattle.docker_model.specs.records.Record.{columns}
+use Rattle.cif_laws.proofs.Common.{◌≡◌, ◌++◌, length, map, columns}
 use Rattle.state_index.specs.NamedPlaces.{location_lines}
 use Rattle.state_index.specs.Rooms.{Includes}
 use Rattle.state_index.proofs.survey.Survey.list_locations.Given as goal

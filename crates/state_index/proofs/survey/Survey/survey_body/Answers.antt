@@ -1,5 +1,4 @@
-use Rattle.std.proofs.Common.{◌≡◌, ℕ, List, [], ◌∷◌, ap, length, refl, rules, subst, arith}
-use Rattle.docker_model.specs.file.Change.{schedule_body}
+use Rattle.cif_laws.proofs.Common.{◌≡◌, ℕ, List, [], ◌∷◌, ap, length, refl, rules, subst, arith, schedule_body}
 use Rattle.cif_change.specs.Meaning.{body_meant, key_meant}
 use Rattle.state_index.specs.Rooms.{Includes}
 use Rattle.state_index.proofs.Surveyed.{grown_association, grown_schedule, still_listed}

@@ -1,4 +1,4 @@
-use Rattle.std.proofs.Common.{◌≡◌, List, ◌∷◌, map, refl, rules, sym, subst}
+use Rattle.cif_laws.proofs.Common.{◌≡◌, List, ◌∷◌, map, refl, rules, sym, subst}
 use Rattle.cif_change.specs.declared.change.Change.{Change}
 use Rattle.cif_change.specs.Meaning.{change_meant}
 use Rattle.state_index.specs.Rooms.{HasGrownBy, changed_items}

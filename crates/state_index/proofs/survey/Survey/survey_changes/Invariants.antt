@@ -1,4 +1,4 @@
-use Rattle.std.proofs.Common.{length, map}
+use Rattle.cif_laws.proofs.Common.{length, map}
 use Rattle.cif_change.specs.Meaning.{change_meant}
 use Rattle.state_index.specs.declared.survey.Survey.{Survey}
 use Rattle.state_index.specs.Rooms.{HasGrownBy, changed_items}

@@ -1,6 +1,4 @@
-use Rattle.std.proofs.Common.{ap, sym, subst}
-use Rattle.docker_model.specs.state.Op.{Entry}
-use Rattle.docker_model.specs.state.StatePart.{IsStampHere}
+use Rattle.cif_laws.proofs.Common.{ap, sym, subst, Entry, IsStampHere}
 use Rattle.cif_change.specs.Meaning.{key_meant}
 use Rattle.docker_join.specs.Meaning.{stamp_meant}
 use Rattle.state_text.proofs.LapsingLemmas.{kept_here}

@@ -1,6 +1,5 @@
-use Rattle.std.proofs.Common.{sym, ap, ◌∙◌, subst}
+use Rattle.cif_laws.proofs.Common.{sym, ap, ◌∙◌, subst, IsJoin}
 use Rattle.docker_state.specs.Staging.{Staging}
-use Rattle.docker_model.specs.state.State.{IsJoin}
 use Rattle.state_text.specs.Receiving.{items_of, given_of, IsStagedOf}
 use Rattle.state_text.proofs.ReceivingLemmas.{commit_joins, none_staged}
 use Rattle.state_text.proofs.receiving.Receiving.finish.Goals as goal
@@ -10,11 +9,11 @@ pub returns-clause-ok : goal.returns-clause-ok
 returns-clause-ok g c = λ ok horizon valid.
     let it = c.args.self in
     subst (λ own. IsJoin own (given_of it) c.commit-done.new.self) c.requires.own_is (elim c.match-staging.branch [
-      | in-Some w ↦ commit_joins it.own c.commit-done.new.self it.items.items it.staging it.given.entries c.match-staging.staging horizon c.requires.valid
-          valid (ap (items_of it.items.items) w.in-Some.is ∙ ap (λ (s : Staging). s.items) (sym w.staging-is))
+      | in-Some w ↦ commit_joins _ _ it.items.items it.staging _ c.match-staging.staging horizon c.requires.valid valid
+          (ap (items_of it.items.items) w.in-Some.is ∙ ap (λ (s : Staging). s.items) (sym w.staging-is))
           (subst (λ s. IsStagedOf it.own s it.given.entries) (sym w.staging-is) (c.requires.some _ w.in-Some.is)) (c.commit-done.ensures.commit ok)
-      | in-None+in-Ok w ↦ commit_joins it.own c.commit-done.new.self it.items.items it.staging it.given.entries c.match-staging.staging horizon c.requires.valid
-          valid (ap (items_of it.items.items) w.in-None.is ∙ sym w.in-Ok.ensures.items ∙ ap (λ (s : Staging). s.items) (sym w.staging-is))
+      | in-None+in-Ok w ↦ commit_joins _ _ it.items.items it.staging _ c.match-staging.staging horizon c.requires.valid valid
+          (ap (items_of it.items.items) w.in-None.is ∙ sym w.in-Ok.ensures.items ∙ ap (λ (s : Staging). s.items) (sym w.staging-is))
           (subst (λ s. IsStagedOf it.own s it.given.entries) (sym w.staging-is)
           (none_staged it.own _ it.given.entries (c.requires.none w.in-None.is) w.in-Ok.ensures.staged w.in-Ok.ensures.floor)) (c.commit-done.ensures.commit ok)
     ])

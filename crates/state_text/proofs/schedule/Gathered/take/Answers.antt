@@ -1,5 +1,4 @@
-use Rattle.std.proofs.Common.{rules, inl, inr, subst, ◌∷◌, ◌++◌, []}
-use Rattle.std.specs.Prelude.{IsOk}
+use Rattle.cif_laws.proofs.Common.{rules, inl, inr, subst, ◌∷◌, ◌++◌, [], IsOk}
 use Rattle.cif_change.specs.JourneyRead.{HasLines}
 use Rattle.state_text.proofs.ScheduleLemmas.{incomplete, begin_up_to}
 use Rattle.state_text.proofs.schedule.Gathered.take.Goals as goal
@@ -8,9 +7,8 @@ use Rattle.state_text.proofs.schedule.Gathered.take.Goals.{else-is_last-via-then
 pub returns-then-not-complete-clause-err : goal.returns-then-not-complete-clause-err
 returns-then-not-complete-clause-err c =
     let ok : IsOk c.line.result = search rules in
-    let has = c.line.ensures.read c.args.self.now (subst (HasLines c.self.inside.journey) c.self.view_is c.self.invariant) ok in
-    incomplete c.args.count c.args.self.now c.args.line.now c.has_more-is_last.result c.complete.result c.has_more-is_last.ensures c.requires c.if-is_last.true
-    (c.complete.ensures (c.args.self.now ++ c.args.line.now ∷ []) has) c.if-not-complete.true
+    let has = c.line.ensures.read _ (subst (HasLines c.self.inside.journey) c.self.view_is c.self.invariant) ok in
+    incomplete _ _ _ _ _ c.has_more-is_last.ensures c.requires c.if-is_last.true (c.complete.ensures _ has) c.if-not-complete.true
 
 pub returns-clause-goes_on : goal.returns-clause-goes_on
 returns-clause-goes_on c = λ done.
@@ -33,16 +31,10 @@ returns-then-is_err-2-clause-err c =
     ])
 
 pub returns-then-not-complete-clause-kept : goal.returns-then-not-complete-clause-kept
-returns-then-not-complete-clause-kept c = λ none.
-    let ok : IsOk c.line.result = search rules in
-    absurd (none ((c.line.ensures.ok c.args.self.now (subst (HasLines c.self.inside.journey) c.self.view_is c.self.invariant)).0 ok))
+returns-then-not-complete-clause-kept c = let here = subst (HasLines c.self.inside.journey) c.self.view_is c.self.invariant in search rules
 
 pub returns-clause-kept : goal.returns-clause-kept
-returns-clause-kept c = λ none.
-    let ok : IsOk c.line.result = search rules in
-    absurd (none ((c.line.ensures.ok c.args.self.now (subst (HasLines c.self.inside.journey) c.self.view_is c.self.invariant)).0 ok))
+returns-clause-kept c = let here = subst (HasLines c.self.inside.journey) c.self.view_is c.self.invariant in search rules
 
 pub returns-then-is_err-2-clause-kept : goal.returns-then-is_err-2-clause-kept
-returns-then-is_err-2-clause-kept c = λ none.
-    let ok : IsOk c.line.result = search rules in
-    absurd (none ((c.line.ensures.ok c.args.self.now (subst (HasLines c.self.inside.journey) c.self.view_is c.self.invariant)).0 ok))
+returns-then-is_err-2-clause-kept c = let here = subst (HasLines c.self.inside.journey) c.self.view_is c.self.invariant in search rules

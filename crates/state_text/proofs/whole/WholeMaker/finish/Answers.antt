@@ -1,5 +1,4 @@
-use Rattle.std.proofs.Common.{sym, ap, ◌∙◌, subst}
-use Rattle.docker_model.specs.state.State.{IsValid}
+use Rattle.cif_laws.proofs.Common.{sym, ap, ◌∙◌, subst, IsValid}
 use Rattle.docker_state.specs.Parts.{under}
 use Rattle.state_text.specs.PartsSoFar.{horizon_meant}
 use Rattle.state_text.proofs.PartsSoFarLemmas.{under_none}

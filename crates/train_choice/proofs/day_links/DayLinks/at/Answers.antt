@@ -1,4 +1,4 @@
-use Rattle.std.proofs.Common.{sym, subst}
+use Rattle.cif_laws.proofs.Common.{sym, subst}
 use Rattle.docker_state.specs.Timetables.{Timetable, live_in}
 use Rattle.train_choice.specs.Known.{AreDayLinks}
 use Rattle.train_choice.proofs.Along.{link_of_group, link_of_rows}

@@ -1,12 +1,6 @@
-use Rattle.std.proofs.Common.{◌≡◌, List, ap, sym, ◌∙◌, subst, rules}
-use Rattle.std.specs.BTreeMap.{get}
-use Rattle.std.specs.Ordering.{is_eq}
-use Rattle.docker_model.specs.docker.Choice.{Group, group_of}
+use Rattle.cif_laws.proofs.Common.{◌≡◌, List, ap, sym, ◌∙◌, subst, rules, get, is_eq, Group, group_of, AssociationKey, association_key_cmp, Row, AreRowsOf}
 use Rattle.docker_laws.specs.Gathering.{counts_as}
 use Rattle.docker_laws.specs.LiveRows.{link_in}
-use Rattle.docker_model.specs.file.Change.{AssociationKey}
-use Rattle.docker_model.specs.state.Op.{association_key_cmp}
-use Rattle.docker_model.specs.state.Row.{Row, AreRowsOf}
 use Rattle.docker_state.specs.Timetables.{live_in}
 use Rattle.cif_change.specs.Meaning.{association_key_meant}
 use Rattle.train_choice.specs.Known.{PlaceDay, group_cmp}

@@ -1,8 +1,4 @@
-use Rattle.std.proofs.Common.{◌≡◌, List, Some, ap, refl, ◌∙◌, subst}
-use Rattle.std.specs.Prelude.{option_map}
-use Rattle.std.specs.BTreeMap.{get}
-use Rattle.docker_model.specs.docker.Choice.{Group}
-use Rattle.docker_model.specs.state.Row.{Row, AreRowsOf}
+use Rattle.cif_laws.proofs.Common.{◌≡◌, List, Some, ap, refl, ◌∙◌, subst, option_map, get, Group, Row, AreRowsOf}
 use Rattle.docker_laws.specs.LiveRows.{Link, link_in}
 use Rattle.docker_state.specs.Timetables.{live_in}
 use Rattle.train_choice.specs.Known.{PlaceDay, group_cmp}

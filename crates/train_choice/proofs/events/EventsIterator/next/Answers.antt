@@ -1,5 +1,6 @@
-use Rattle.std.proofs.Common.{◌*◌, length, ◌∙◌}
-use Rattle.train_choice.proofs.WalkOn.{next_good, goes_on, still_can}
+use Rattle.cif_laws.proofs.Common.{◌*◌, length, ◌∙◌}
+use Rattle.train_choice.proofs.Late.{first_good}
+use Rattle.train_choice.proofs.WalkOn.{goes_on, still_can}
 use Rattle.train_choice.proofs.events.EventsIterator.next.Goals as goal
 
 pub invariant_of-self : goal.invariant_of-self
@@ -10,7 +11,7 @@ invariant_of-self c = record {
 
 pub advance-requires : goal.advance-requires
 advance-requires c = record {
-  good = next_good _ _ _ _ c.in_ok-line.ensures.cases.0 c.lines.invariant.can;
+  good = first_good _ _ _ c.lines.invariant.can.good c.in_ok-line.ensures.cases.0;
 }
 
 pub lines-preserved : goal.lines-preserved

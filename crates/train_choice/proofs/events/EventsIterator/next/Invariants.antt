@@ -1,4 +1,4 @@
-use Rattle.std.proofs.Common.{◌≡◌, length}
+use Rattle.cif_laws.proofs.Common.{◌≡◌, length}
 use Rattle.train_choice.specs.EventWalk.{events_left, CanWalk}
 use Rattle.train_choice.proofs.events.EventsIterator.next.Given as goal
 

@@ -1,4 +1,4 @@
-use Rattle.std.proofs.Common.{ap, ◌∙◌}
+use Rattle.cif_laws.proofs.Common.{ap, ◌∙◌}
 use Rattle.docker_laws.specs.Gathering.{identity_of}
 use Rattle.docker_state.specs.Timetables.{live_in}
 use Rattle.train_choice.proofs.Known.{one_more_identity}

@@ -1,6 +1,4 @@
-use Rattle.std.proofs.Common.{ap, ◌∙◌}
-use Rattle.docker_model.specs.docker.Choice.{Train}
-use Rattle.docker_model.specs.state.State.{IsScheduleOf}
+use Rattle.cif_laws.proofs.Common.{ap, ◌∙◌, Train, IsScheduleOf}
 use Rattle.train_choice.proofs.KeptLines.{falls_few}
 use Rattle.train_choice.proofs.Occurrences.{events_met}
 use Rattle.train_choice.proofs.schedule_view.ScheduleView.events.Goals as goal

@@ -1,5 +1,4 @@
-use Rattle.std.proofs.Common.{◌<◌, ◌^◌, List, ℕ, length, ap, sym, ◌∙◌, subst, All}
-use Rattle.docker_model.specs.records.Field.{HasGoodFields}
+use Rattle.cif_laws.proofs.Common.{◌<◌, ◌^◌, List, ℕ, length, ap, sym, ◌∙◌, subst, All, HasGoodFields}
 use Rattle.cif_change.specs.Meaning.{schedule_key_meant}
 use Rattle.train_choice.specs.UpTo.{up_to_last}
 use Rattle.train_choice.proofs.UpTo.{lines_to_good, lines_to_few}

@@ -1,6 +1,4 @@
-use Rattle.std.proofs.Common.{ap, sym, ◌∙◌, subst}
-use Rattle.docker_model.specs.docker.Choice.{Train}
-use Rattle.docker_model.specs.state.State.{IsScheduleOf}
+use Rattle.cif_laws.proofs.Common.{ap, sym, ◌∙◌, subst, Train, IsScheduleOf}
 use Rattle.train_choice.proofs.RecentDays.{recent_runs_told, never_told}
 use Rattle.train_choice.proofs.schedule_view.ScheduleView.recent_runs.Goals as goal
 

@@ -1,5 +1,5 @@
 -- All lines that come before the rest of the piece were taken.
-use Rattle.std.proofs.Common.{length}
+use Rattle.cif_laws.proofs.Common.{length}
 use Rattle.cif_file.specs.ParserRead.{IsReading, TakesUpTo}
 use Rattle.cif_file.proofs.read.parser.FileReading.feed.Given as goal
 

@@ -1,8 +1,7 @@
 -- The records at the start of the text are taken one by one.
-use Rattle.std.proofs.Common.{refl}
-use Rattle.std.proofs.lemmas.Result.{err_from_is_err_and}
+use Rattle.cif_laws.proofs.Common.{refl}
 use Rattle.cif_file.specs.ParserRead.{IsReading}
-use Rattle.cif_file.proofs.ParserLemmas.{empty_is, takes_none, fault_of_rest, record_read, record_fault, later_next, later_piece}
+use Rattle.cif_file.proofs.ParserLemmas.{empty_is, takes_none, record_read, record_fault, fault_in_rest, passed_on}
 use Rattle.cif_file.proofs.read.parser.FileReading.take_records.Goals as goal
 
 pub returns-then-not-is_empty-clause-read : goal.returns-then-not-is_empty-clause-read
@@ -14,16 +13,10 @@ loop-front-init g c = record {
   none = empty_is c.args.self.now c.if-not-is_empty.ensures;
 }
 
-pub returns-in_err-take_line-clause-err : goal.returns-in_err-take_line-clause-err
-returns-in_err-take_line-clause-err g c =
-    let same = err_from_is_err_and c.from_residual.result c.from_residual.ensures.1 in
-    rw (same.1, same.2) (fault_of_rest _ _ _ _ _ c.loop-front.invariant.taken (record_fault _ _ _ _ _ _ _ _
+pub returns-in_err-take_line : goal.returns-in_err-take_line
+returns-in_err-take_line g c = passed_on _ _ _ _ _ _ _ c.from_residual.ensures.1 (fault_in_rest _ _ _ _ _ _ _ c.loop-front.invariant.taken
+    (record_fault _ _ _ _ _ _ _ _
     c.in-Some.ensures c.in-Some-of.ensures.value (c.in-Some-of.ensures.some.0 refl) c.loop-front.invariant.none c.in_err-take_line.ensures.err))
-
-pub returns-in_err-take_line-clause-later : goal.returns-in_err-take_line-clause-later
-returns-in_err-take_line-clause-later g c =
-    let same = err_from_is_err_and c.from_residual.result c.from_residual.ensures.1 in
-    rw (same.1, same.2) (later_piece _ _ _ _ _ _ c.loop-front.invariant.taken.read (later_next _ _ _ _ _ c.in_err-take_line.ensures.err))
 
 pub loop-front-preserved : goal.loop-front-preserved
 loop-front-preserved g c = record {

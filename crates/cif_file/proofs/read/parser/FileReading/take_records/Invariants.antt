@@ -1,5 +1,5 @@
 -- All records that come before the rest of the text were taken, and no line is unfinished.
-use Rattle.std.proofs.Common.{◌≡◌, [], length}
+use Rattle.cif_laws.proofs.Common.{◌≡◌, [], length}
 use Rattle.cif_file.specs.ParserRead.{IsReading, TakesUpTo}
 use Rattle.cif_file.proofs.read.parser.FileReading.take_records.Given as goal
 

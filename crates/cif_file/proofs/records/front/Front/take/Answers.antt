@@ -1,13 +1,12 @@
 -- Whether a record may come next depends on how far the reader has come in the file.
-use Rattle.std.proofs.Common.{◌∙◌, ap, sym}
-use Rattle.std.specs.Prelude.{option_map}
+use Rattle.cif_laws.proofs.Common.{◌∙◌, ap, sym, refl, option_map}
 use Rattle.cif_line.specs.Kind.{meaning}
 use Rattle.cif_file.proofs.AnswerLemmas.{if_err_by}
-use Rattle.cif_file.proofs.FrontLemmas.{no_kind, file_at_end, on_ok_one}
+use Rattle.cif_file.proofs.FrontLemmas.{no_kind, ended_iff, on_ok_one}
 use Rattle.cif_file.proofs.records.front.Front.take.Goals as goal
 
 pub returns-in_default-clause-err : goal.returns-in_default-clause-err
-returns-in_default-clause-err g c = λ records has unended. no_kind _ _ _ _ has unended c.bytes-record.ensures.«record»
+returns-in_default-clause-err g c = λ records has unended. no_kind _ _ _ _ has c.bytes-record.ensures.«record» unended
     (sym c.kind.ensures ∙ ap (option_map meaning) c.in_default.is)
 
 pub returns-in-BeforeHeader-clause-err : goal.returns-in-BeforeHeader-clause-err
@@ -20,7 +19,7 @@ pub returns-in-InSchedule-clause-err : goal.returns-in-InSchedule-clause-err
 returns-in-InSchedule-clause-err g c = if_err_by c.take_after.result (λ cause told. λ records has unended. told records has) c.take_after.ensures.err
 
 pub returns-in-AfterEnd-clause-err : goal.returns-in-AfterEnd-clause-err
-returns-in-AfterEnd-clause-err g c = λ records has unended. absurd (unended (file_at_end g.K.ChangeKeeper.keeps c.args.self.now records has c.in-AfterEnd.is))
+returns-in-AfterEnd-clause-err g c = λ records has unended. absurd (unended ((ended_iff _ _ _ _ c.in-AfterEnd.is has).0 refl))
 
 pub returns-in-BeforeHeader-clause-read : goal.returns-in-BeforeHeader-clause-read
 returns-in-BeforeHeader-clause-read g c = on_ok_one c.take_header.result c.take_header.ensures.read (λ taken. λ records has counted. taken records has)
