@@ -1,7 +1,9 @@
 //! The joined bytes of several lines, which are compared without copying them into one buffer.
 ghost use Rattle.std.specs.Prelude.{◌≡◌, ◌++◌};
 ghost use Rattle.std.specs.List.{concat};
+ghost use Rattle.std.specs.Iterator.{YieldsFirst, item_count};
 ghost use Rattle.docker_model.specs.state.Order.{bytes_cmp};
+ghost use Rattle.cif_change.specs.Joined.{joined_bytes};
 
 use cif_line::Line;
 use std::cmp::Ordering;
@@ -15,8 +17,6 @@ pub(crate) struct Joined<'a> {
 }
 
 impl<'a> Joined<'a> {
-    ghost use Rattle.cif_change.specs.Joined.{joined_bytes};
-
     pub(crate) fn new(front: &'a [u8], lines: &'a [Line]) -> Joined<'a>
         ensures { joined_bytes result ≡ front.now ++ concat lines.now }
     {
@@ -32,9 +32,6 @@ impl<'a> Joined<'a> {
 }
 
 impl<'a> Iterator for Joined<'a> {
-    ghost use Rattle.std.specs.Iterator.{YieldsFirst, item_count};
-    ghost use Rattle.cif_change.specs.Joined.{joined_bytes};
-
     type Item = u8;
 
     ghost next_gives = { YieldsFirst joined_bytes };

@@ -1,6 +1,6 @@
 //! A reader of the lines of one schedule.
 ghost use Rattle.std.specs.Prelude.{◌≡◌, ℕ, IsTrue, IsOk, IsErr, IfErr, List, [], ◌∷◌, ◌++◌};
-ghost use Rattle.cif_change.specs.JourneyRead.{HasLines, IsScheduleCause, JudgesLine, JudgesWhole};
+ghost use Rattle.cif_change.specs.JourneyRead.{HasLines, IsScheduleCause, JourneyState, JudgesLine, JudgesWhole, progress_meant};
 ghost use Rattle.cif_change.specs.Cause.{cause_meant};
 
 use crate::cause::FileCause;
@@ -17,8 +17,6 @@ pub struct Journey {
 }
 
 impl Model for Journey {
-    ghost use Rattle.cif_change.specs.JourneyRead.{JourneyState, progress_meant};
-
     ghost Value = { JourneyState };
 
     ghost view = { λ journey. progress_meant journey.progress };

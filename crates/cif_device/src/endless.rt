@@ -1,6 +1,6 @@
 //! A source in memory that never ends.
 ghost use Rattle.std.specs.Prelude.{◌≡◌, ◌<◌, ◌≤◌, min, [], ◌∷◌, length, take, false, None, Ok, IfOk};
-ghost use Rattle.cif_device.specs.Device.{Ends, Goes};
+ghost use Rattle.cif_device.specs.Device.{Ends, Goes, Round};
 
 use crate::device::{Failed, Source};
 use std::marker::Model;
@@ -16,9 +16,6 @@ pub struct Endless<'a> {
 }
 
 impl<'a> Model for Endless<'a> {
-    ghost use Rattle.std.specs.Prelude.{◌<◌, length};
-    ghost use Rattle.cif_device.specs.Device.{Round};
-
     ghost Value = { Round };
 
     ghost view = { λ endless. record {

@@ -1,6 +1,6 @@
 //! A device in memory that fails at one chosen call.
 ghost use Rattle.std.specs.Prelude.{◌≡◌, ◌⊎◌, ◌+◌, ◌-◌, ◌^◌, ◌<◌, ◌≤◌, ◌↔◌, min, [], ◌++◌, length, take, Some, IsTrue, IfOk, IsErr, OnOk, OnErr};
-ghost use Rattle.cif_device.specs.Device.{Ends, room_left};
+ghost use Rattle.cif_device.specs.Device.{Ends, Fused, room_left};
 
 use crate::device::{Failed, Sink, Source};
 use crate::memory::{Bytes, Kept};
@@ -15,8 +15,6 @@ pub struct Fuse<D> {
 }
 
 impl<D> Model for Fuse<D> {
-    ghost use Rattle.cif_device.specs.Device.{Fused};
-
     ghost Value = { Fused D };
 
     ghost view = { λ fuse. record {

@@ -1,7 +1,7 @@
 //! A source and a sink in memory.
 ghost use Rattle.std.specs.Prelude.{◌≡◌, ◌+◌, ◌-◌, ◌^◌, ◌<◌, ◌≤◌, ◌↔◌, min, [], ◌∷◌, ◌++◌, length};
-ghost use Rattle.std.specs.Prelude.{take, false, Some, Ok, IsTrue, IfOk, IsOk, IsErr, OnOk, OnErr};
-ghost use Rattle.cif_device.specs.Device.{Ends, read_count, room_left};
+ghost use Rattle.std.specs.Prelude.{take, false, Some, Ok, IsTrue, IfOk, IsOk, IsErr, OnOk, OnErr, vec_capacity};
+ghost use Rattle.cif_device.specs.Device.{Ends, Feed, Store, read_count, room_left};
 
 use crate::device::{Failed, Memory, Sink, Source};
 use std::alloc::Global;
@@ -17,9 +17,6 @@ pub struct Bytes<'a> {
 }
 
 impl<'a> Model for Bytes<'a> {
-    ghost use Rattle.std.specs.Prelude.{◌<◌};
-    ghost use Rattle.cif_device.specs.Device.{Feed};
-
     ghost Value = { Feed };
 
     ghost view = { λ bytes. record {
@@ -101,9 +98,6 @@ pub struct Kept {
 }
 
 impl Model for Kept {
-    ghost use Rattle.std.specs.Prelude.{◌≤◌, length, vec_capacity};
-    ghost use Rattle.cif_device.specs.Device.{Store};
-
     ghost Value = { Store };
 
     ghost view = { λ kept. record {

@@ -1,7 +1,7 @@
 //! A CIF file that was read, with its changes.
 ghost use Rattle.std.specs.Prelude.{◌≡◌, map};
 ghost use Rattle.cif_change.specs.Meaning.{change_meant};
-ghost use Rattle.cif_file.specs.FileRead.{IsRead};
+ghost use Rattle.cif_file.specs.FileRead.{FileRead, IsRead};
 ghost use Rattle.cif_file.specs.MadeChanges.{ArePartsOfFile, file_of_parts};
 
 pub(crate) mod count;
@@ -21,9 +21,6 @@ pub struct CifFile {
 }
 
 impl Model for CifFile {
-    ghost use Rattle.cif_file.specs.FileRead.{FileRead};
-    ghost use Rattle.cif_file.specs.MadeChanges.{ArePartsOfFile, file_of_parts};
-
     ghost Value = { FileRead };
 
     ghost view = { λ file. file_of_parts file.parts };

@@ -6,6 +6,7 @@ ghost use Rattle.docker_model.specs.file.Text.{lines_of};
 ghost use Rattle.cif_file.specs.FileEnds.{EndsReadingFile};
 ghost use Rattle.cif_file.specs.ParserRead.{IsReading, WantsMemoryAt, EndsBy};
 ghost use Rattle.cif_file.specs.SourceRead.{IsFaultOf, ReadsEnded, ReadsText, WantsMemory, WantsMemoryBy};
+ghost use Rattle.cif_file.specs.FileTaken.{TakesFile, RefusesPiece, taken_is_bounded};
 
 pub(crate) mod judge;
 pub(crate) mod next_record;
@@ -47,9 +48,6 @@ pub fn read_file<S: Source>(
 }
 
 impl<K: ChangeKeeper> Taker for FileReading<K> {
-    ghost use Rattle.std.specs.Prelude.{ℕ};
-    ghost use Rattle.cif_file.specs.FileTaken.{TakesFile, RefusesPiece, taken_is_bounded};
-
     type Fault = FileFault;
 
     ghost Settings = { ℕ };

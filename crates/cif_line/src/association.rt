@@ -1,5 +1,5 @@
 //! An association between two trains: an AA record.
-ghost use Rattle.std.specs.Prelude.{◌≡◌};
+ghost use Rattle.std.specs.Prelude.{◌≡◌, ℕ, List};
 ghost use Rattle.docker_model.specs.records.Record.{association, columns, column, IsTextOfLength};
 ghost use Rattle.docker_model.specs.records.Date.{date_number, end_number};
 ghost use Rattle.cif_line.specs.View.{IsGood};
@@ -23,10 +23,6 @@ pub struct Assoc<'a> {
 }
 
 impl<'a> Model for Assoc<'a> {
-    ghost use Rattle.std.specs.Prelude.{List, ℕ};
-    ghost use Rattle.docker_model.specs.records.Record.{association};
-    ghost use Rattle.cif_line.specs.View.{IsGood};
-
     ghost Value = { List ℕ };
 
     ghost view = { λ assoc. assoc.line.now };

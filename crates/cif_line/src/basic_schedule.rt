@@ -1,5 +1,5 @@
 //! A basic schedule: a BS record, the first record of a schedule.
-ghost use Rattle.std.specs.Prelude.{◌≡◌};
+ghost use Rattle.std.specs.Prelude.{◌≡◌, ℕ, List};
 ghost use Rattle.docker_model.specs.records.Record.{basic_schedule, columns, column, IsTextOfLength};
 ghost use Rattle.docker_model.specs.records.Date.{date_number, end_number};
 ghost use Rattle.cif_line.specs.View.{IsGood};
@@ -22,10 +22,6 @@ pub struct Basic<'a> {
 }
 
 impl<'a> Model for Basic<'a> {
-    ghost use Rattle.std.specs.Prelude.{List, ℕ};
-    ghost use Rattle.docker_model.specs.records.Record.{basic_schedule};
-    ghost use Rattle.cif_line.specs.View.{IsGood};
-
     ghost Value = { List ℕ };
 
     ghost view = { λ basic. basic.line.now };

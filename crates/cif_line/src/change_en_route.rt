@@ -1,5 +1,5 @@
 //! A change en route: a CR record of a schedule.
-ghost use Rattle.std.specs.Prelude.{◌≡◌};
+ghost use Rattle.std.specs.Prelude.{◌≡◌, ℕ, List};
 ghost use Rattle.docker_model.specs.records.Record.{change_en_route, columns, IsTextOfLength};
 ghost use Rattle.cif_line.specs.View.{IsGood};
 
@@ -13,10 +13,6 @@ pub struct ChangeEnRoute<'a> {
 }
 
 impl<'a> Model for ChangeEnRoute<'a> {
-    ghost use Rattle.std.specs.Prelude.{List, ℕ};
-    ghost use Rattle.docker_model.specs.records.Record.{change_en_route};
-    ghost use Rattle.cif_line.specs.View.{IsGood};
-
     ghost Value = { List ℕ };
 
     ghost view = { λ change. change.line.now };

@@ -1,5 +1,5 @@
 //! The weekdays on which a basic schedule (BS) or an association (AA) runs.
-ghost use Rattle.std.specs.Prelude.{◌≡◌, ℕ, ◌<◌, ◌≤◌, ◌==◌, ◌||◌, ◌↔◌, length, take, true, IsTrue, IsSome, IfSome};
+ghost use Rattle.std.specs.Prelude.{◌≡◌, ℕ, ◌<◌, ◌≤◌, ◌==◌, ◌||◌, ◌↔◌, length, take, true, IsTrue, IsSome, IfSome, List};
 ghost use Rattle.docker_model.specs.records.Date.{is_days, runs_on_weekday};
 
 use std::marker::Model;
@@ -13,9 +13,6 @@ pub struct Days {
 }
 
 impl Model for Days {
-    ghost use Rattle.std.specs.Prelude.{ℕ, List, IsTrue};
-    ghost use Rattle.docker_model.specs.records.Date.{is_days};
-
     ghost Value = { List ℕ };
 
     ghost view = { λ days. days.flags };

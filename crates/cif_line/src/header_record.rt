@@ -1,5 +1,5 @@
 //! The header of an extract: an HD record.
-ghost use Rattle.std.specs.Prelude.{◌≡◌, ◌<◌};
+ghost use Rattle.std.specs.Prelude.{◌≡◌, ◌<◌, ℕ, List};
 ghost use Rattle.docker_model.specs.records.Record.{header, columns, column, IsTextOfLength};
 ghost use Rattle.docker_model.specs.records.Date.{date_number_day_first};
 ghost use Rattle.docker_model.specs.records.Clock.{minute_of};
@@ -19,10 +19,6 @@ pub struct Header<'a> {
 }
 
 impl<'a> Model for Header<'a> {
-    ghost use Rattle.std.specs.Prelude.{List, ℕ};
-    ghost use Rattle.docker_model.specs.records.Record.{header};
-    ghost use Rattle.cif_line.specs.View.{IsGood};
-
     ghost Value = { List ℕ };
 
     ghost view = { λ head. head.line.now };

@@ -1,10 +1,10 @@
 //! An intermediate location of a schedule: an LI record.
-ghost use Rattle.std.specs.Prelude.{◌≡◌};
+ghost use Rattle.std.specs.Prelude.{◌≡◌, ℕ, List};
 ghost use Rattle.docker_model.specs.records.Record.{intermediate_location, columns, column, IsTextOfLength};
 ghost use Rattle.docker_model.specs.records.Clock.{scheduled_time};
 ghost use Rattle.docker_model.specs.records.PrintedTime.{shown_public};
 ghost use Rattle.cif_line.specs.FieldRead.{public_half_minutes, public_text};
-ghost use Rattle.cif_line.specs.CallRead.{number_meant};
+ghost use Rattle.cif_line.specs.CallRead.{AreTimesOf, number_meant};
 ghost use Rattle.cif_line.specs.View.{IsGood};
 
 use crate::line::Line;
@@ -30,11 +30,6 @@ pub struct Call<'a> {
 }
 
 impl<'a> Model for Call<'a> {
-    ghost use Rattle.std.specs.Prelude.{List, ℕ};
-    ghost use Rattle.docker_model.specs.records.Record.{intermediate_location};
-    ghost use Rattle.cif_line.specs.View.{IsGood};
-    ghost use Rattle.cif_line.specs.CallRead.{AreTimesOf};
-
     ghost Value = { List ℕ };
 
     ghost view = { λ call. call.line.now };
@@ -45,8 +40,6 @@ impl<'a> Model for Call<'a> {
 
 #[tactic(auto, using(crate::proofs::GoodFields::call_fields))]
 impl<'a> Call<'a> {
-    ghost use Rattle.cif_line.specs.CallRead.{AreTimesOf};
-
     /// Makes a view of a line whose fields have already been checked. `times` are the line's
     /// scheduled times.
     pub(crate) fn of(line: &'a Line, times: CallTimes) -> Call<'a>

@@ -1,5 +1,6 @@
 //! A line of a CIF file: 80 printable bytes.
 ghost use Rattle.std.specs.Prelude.{◌≡◌, ℕ, ◌↔◌, ◌<◌, length, IsTrue, IsOk, IfOk, Ok, Err, Some, IsSome, IsNone, IfSome, position, not, ◌≤◌, ◌-◌, ◌+◌, true};
+ghost use Rattle.std.specs.Prelude.{List};
 ghost use Rattle.std.specs.List.{AllPass};
 ghost use Rattle.docker_model.specs.records.Field.{as_new};
 ghost use Rattle.docker_model.specs.records.Record.{IsTextOfLength, IsRecord, leftmost_bad_byte, is_printable, column};
@@ -16,9 +17,6 @@ pub struct Line {
 }
 
 impl Model for Line {
-    ghost use Rattle.std.specs.Prelude.{List, ℕ};
-    ghost use Rattle.docker_model.specs.records.Record.{IsRecord};
-
     ghost Value = { List ℕ };
 
     ghost view = { λ line. line.bytes };

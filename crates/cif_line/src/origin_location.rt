@@ -1,5 +1,5 @@
 //! The origin of a schedule: an LO record.
-ghost use Rattle.std.specs.Prelude.{◌≡◌};
+ghost use Rattle.std.specs.Prelude.{◌≡◌, ℕ, List};
 ghost use Rattle.docker_model.specs.records.Record.{origin_location, columns, column, IsTextOfLength};
 ghost use Rattle.docker_model.specs.records.Clock.{half_minutes};
 ghost use Rattle.docker_model.specs.records.PrintedTime.{shown_public};
@@ -20,11 +20,6 @@ pub struct Origin<'a> {
 }
 
 impl<'a> Model for Origin<'a> {
-    ghost use Rattle.std.specs.Prelude.{List, ℕ, ◌≡◌};
-    ghost use Rattle.docker_model.specs.records.Record.{origin_location, columns};
-    ghost use Rattle.docker_model.specs.records.Clock.{half_minutes};
-    ghost use Rattle.cif_line.specs.View.{IsGood};
-
     ghost Value = { List ℕ };
 
     ghost view = { λ origin. origin.line.now };

@@ -1,5 +1,5 @@
 //! The terminus of a schedule: an LT record.
-ghost use Rattle.std.specs.Prelude.{◌≡◌};
+ghost use Rattle.std.specs.Prelude.{◌≡◌, ℕ, List};
 ghost use Rattle.docker_model.specs.records.Record.{terminating_location, columns, column, IsTextOfLength};
 ghost use Rattle.docker_model.specs.records.Clock.{half_minutes};
 ghost use Rattle.docker_model.specs.records.PrintedTime.{shown_public};
@@ -20,11 +20,6 @@ pub struct Terminus<'a> {
 }
 
 impl<'a> Model for Terminus<'a> {
-    ghost use Rattle.std.specs.Prelude.{List, ℕ, ◌≡◌};
-    ghost use Rattle.docker_model.specs.records.Record.{terminating_location, columns};
-    ghost use Rattle.docker_model.specs.records.Clock.{half_minutes};
-    ghost use Rattle.cif_line.specs.View.{IsGood};
-
     ghost Value = { List ℕ };
 
     ghost view = { λ terminus. terminus.line.now };

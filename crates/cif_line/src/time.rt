@@ -1,5 +1,6 @@
 //! Times of day in location records (LO, LI and LT).
 ghost use Rattle.std.specs.Prelude.{◌≡◌, ◌↔◌, ◌≤◌, ◌<◌, ◌+◌, length, IsSome, is_some, IfSome, IsTrue, ◌*◌, true, nat_lt, Some, None, if◌then◌else◌};
+ghost use Rattle.std.specs.Prelude.{ℕ};
 ghost use Rattle.docker_model.specs.records.Date.{two_digits};
 ghost use Rattle.docker_model.specs.records.Clock.{is_clock, minute_of, is_present_time, half_minutes, is_scheduled_time, scheduled_time, is_public_time};
 ghost use Rattle.docker_model.specs.records.PrintedTime.{shown_public, time_text};
@@ -16,8 +17,6 @@ pub struct Time {
 }
 
 impl Model for Time {
-    ghost use Rattle.std.specs.Prelude.{ℕ, ◌<◌};
-
     ghost Value = { ℕ };
 
     ghost view = { λ time. time.half_minutes };

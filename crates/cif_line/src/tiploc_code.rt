@@ -1,5 +1,5 @@
 //! TIPLOCs: codes of timing points, in TIPLOC records (TI, TA and TD) and in location records.
-ghost use Rattle.std.specs.Prelude.{◌≡◌, ◌↔◌, ◌-◌, ◌++◌, length, IsSome, IfSome};
+ghost use Rattle.std.specs.Prelude.{◌≡◌, ◌↔◌, ◌-◌, ◌++◌, ℕ, length, IsSome, IfSome, List};
 ghost use Rattle.docker_model.specs.records.Field.{IsTiploc};
 ghost use Rattle.docker_model.specs.records.PrintedTime.{spaces};
 ghost use Rattle.cif_line.specs.Tiploc.{IsTiplocText};
@@ -15,9 +15,6 @@ pub struct Tiploc {
 }
 
 impl Model for Tiploc {
-    ghost use Rattle.std.specs.Prelude.{List, ℕ};
-    ghost use Rattle.docker_model.specs.records.Field.{IsTiploc};
-
     ghost Value = { List ℕ };
 
     ghost view = { λ tiploc. tiploc.bytes };

@@ -1,5 +1,5 @@
 //! A TIPLOC record, TI, TA or TD, which describes a timing point.
-ghost use Rattle.std.specs.Prelude.{◌≡◌};
+ghost use Rattle.std.specs.Prelude.{◌≡◌, ℕ, List};
 ghost use Rattle.docker_model.specs.records.Record.{kind_of, columns, IsTextOfLength};
 ghost use Rattle.cif_line.specs.View.{IsGoodTiploc, new_code_of};
 
@@ -15,9 +15,6 @@ pub struct TiplocRecord<'a> {
 }
 
 impl<'a> Model for TiplocRecord<'a> {
-    ghost use Rattle.std.specs.Prelude.{List, ℕ};
-    ghost use Rattle.cif_line.specs.View.{IsGoodTiploc};
-
     ghost Value = { List ℕ };
 
     ghost view = { λ tiploc. tiploc.line.now };

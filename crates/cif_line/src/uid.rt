@@ -1,5 +1,5 @@
 //! The UIDs of trains, in basic schedules (BS) and associations (AA).
-ghost use Rattle.std.specs.Prelude.{◌≡◌, ◌↔◌, IsSome, IfSome};
+ghost use Rattle.std.specs.Prelude.{◌≡◌, ◌↔◌, ℕ, IsSome, IfSome, List};
 ghost use Rattle.docker_model.specs.records.Record.{IsTextOfLength};
 
 use crate::line::are_printable;
@@ -12,9 +12,6 @@ pub struct Uid {
 }
 
 impl Model for Uid {
-    ghost use Rattle.std.specs.Prelude.{List, ℕ};
-    ghost use Rattle.docker_model.specs.records.Record.{IsTextOfLength};
-
     ghost Value = { List ℕ };
 
     ghost view = { λ uid. uid.bytes };

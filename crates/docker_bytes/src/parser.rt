@@ -4,7 +4,7 @@ ghost use Rattle.std.specs.Prelude.{◌≡◌, ℕ, ◌+◌, ◌≤◌, List, []
 ghost use Rattle.docker_model.specs.state.StateText as formats;
 ghost use Rattle.state_text.specs.FormatMeaning.{format_meant};
 ghost use Rattle.docker_bytes.specs.StateReading.{IsFaultReported, IsUnended, IsStep, IsMadeOf, IsWhole, JoinsText};
-ghost use Rattle.docker_bytes.specs.ParserRead.{HasRead, HasFailed};
+ghost use Rattle.docker_bytes.specs.ParserRead.{HasRead, HasFailed, ParserState, IsSound};
 
 use crate::fault::{StateFault, Step};
 use crate::reading::StateReading;
@@ -22,8 +22,6 @@ pub(crate) struct Parser<K: PartKeeper> {
 }
 
 impl<K: PartKeeper> Model for Parser<K> {
-    ghost use Rattle.docker_bytes.specs.ParserRead.{ParserState, IsSound};
-
     ghost Value = { ParserState K };
 
     ghost view = { λ parser. record { reading = parser.reading; fault = parser.fault } };

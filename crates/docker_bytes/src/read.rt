@@ -9,6 +9,7 @@ ghost use Rattle.docker_bytes.specs.ReadEnds.{EndsReading, EndsReadingBy, EndsTe
 ghost use Rattle.docker_bytes.specs.ReadFaultText.{read_fault_text};
 ghost use Rattle.docker_bytes.specs.SourceRead.{IsFaultOf, ReadsAll, ReadsMade, ReadsState, WantsSoFar};
 ghost use Rattle.docker_bytes.specs.StateReading.{format_of, IsMadeOf, IsWanting};
+ghost use Rattle.docker_bytes.specs.StateTaken.{RefusesPart, StateSettings, TakesState, taken_is_bounded};
 
 use crate::fault::StateFault;
 use crate::parser::Parser;
@@ -124,8 +125,6 @@ pub(crate) fn read_pieces<S: Source, K: PartKeeper>(
 }
 
 impl<K: PartKeeper> Taker for Parser<K> {
-    ghost use Rattle.docker_bytes.specs.StateTaken.{RefusesPart, StateSettings, TakesState, taken_is_bounded};
-
     type Fault = ReadFault;
 
     ghost Settings = { StateSettings };

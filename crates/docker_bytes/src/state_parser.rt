@@ -3,8 +3,9 @@ ghost use Rattle.std.specs.Prelude.{◌≡◌, ℕ, ◌+◌, ◌≤◌, List, []
 ghost use Rattle.docker_model.specs.state.StateText.{dks_2};
 ghost use Rattle.docker_model.specs.state.StateText as formats;
 ghost use Rattle.docker_model.specs.state.StateFault.{IsStateText};
+ghost use Rattle.docker_model.specs.state.State as states;
 ghost use Rattle.docker_bytes.specs.StateReading.{IsFaultReported, IsUnended, IsStep, IsWhole};
-ghost use Rattle.docker_bytes.specs.ParserRead.{HasRead, HasFailed};
+ghost use Rattle.docker_bytes.specs.ParserRead.{HasRead, HasFailed, ParserState};
 
 use crate::fault::{StateFault, Step};
 use crate::parser::Parser;
@@ -21,9 +22,6 @@ pub struct StateParser {
 }
 
 impl Model for StateParser {
-    ghost use Rattle.docker_bytes.specs.ParserRead.{ParserState};
-    ghost use Rattle.docker_model.specs.state.State as states;
-
     ghost Value = { ParserState states.State };
 
     ghost view = { λ it. it.parser };

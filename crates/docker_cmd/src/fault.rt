@@ -1,4 +1,7 @@
 //! The faults that end the program before it has finished its job.
+ghost use Rattle.std.specs.Prelude.{◌≡◌};
+ghost use Rattle.docker_cmd.specs.declared.fault.Fault.TheVariants.{Job, Office};
+
 use crate::job_fault::JobFault;
 use docker_office::OfficeFault;
 use thiserror::Error;
@@ -16,9 +19,6 @@ pub enum Fault {
 }
 
 impl From<JobFault> for Fault {
-    ghost use Rattle.docker_cmd.specs.declared.fault.Fault.TheVariants.{Job};
-    ghost use Rattle.std.specs.Prelude.{◌≡◌};
-
     ghost from_gives = { λ cause fault. fault ≡ Job cause };
 
     fn from(cause: JobFault) -> Fault {
@@ -27,9 +27,6 @@ impl From<JobFault> for Fault {
 }
 
 impl From<OfficeFault> for Fault {
-    ghost use Rattle.docker_cmd.specs.declared.fault.Fault.TheVariants.{Office};
-    ghost use Rattle.std.specs.Prelude.{◌≡◌};
-
     ghost from_gives = { λ cause fault. fault ≡ Office cause };
 
     fn from(cause: OfficeFault) -> Fault {

@@ -1,4 +1,7 @@
 //! The reasons why no job was found.
+ghost use Rattle.std.specs.Prelude.{◌≡◌};
+ghost use Rattle.docker_cmd.specs.declared.job_fault.JobFault.TheVariants.{Memory};
+
 use std::alloc::AllocError;
 use thiserror::Error;
 
@@ -17,9 +20,6 @@ pub enum JobFault {
 }
 
 impl From<AllocError> for JobFault {
-    ghost use Rattle.docker_cmd.specs.declared.job_fault.JobFault.TheVariants.{Memory};
-    ghost use Rattle.std.specs.Prelude.{◌≡◌};
-
     ghost from_gives = { λ _ fault. fault ≡ Memory };
 
     fn from(_refused: AllocError) -> JobFault {

@@ -1,6 +1,7 @@
 //! A job: what the words of a command ask for.
 ghost use Rattle.std.specs.Prelude.{◌≡◌, length, map, string_bytes};
 ghost use Rattle.docker_cmd.specs.Tasks.{day_of, ids_of, subcommand_of, task_meant, tiploc_of};
+ghost use Rattle.docker_cmd.specs.Job.{JobView};
 
 use crate::tasks::{Subcommand, Task};
 use cif_line::{Day, Tiploc};
@@ -14,10 +15,6 @@ pub struct Job {
 }
 
 impl Model for Job {
-    ghost use Rattle.std.specs.Prelude.{◌≡◌, length, map, string_bytes};
-    ghost use Rattle.docker_cmd.specs.Job.{JobView};
-    ghost use Rattle.docker_cmd.specs.Tasks.{ids_of, subcommand_of, task_meant};
-
     ghost Value = { JobView };
 
     ghost view = { λ job. record {

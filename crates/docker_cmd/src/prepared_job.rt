@@ -2,7 +2,7 @@
 ghost use Rattle.std.specs.Prelude.{◌≡◌, ◌-◌, ◌^◌, ◌<◌, IfOk};
 ghost use Rattle.cif_device.specs.Device.{IsNotPassed};
 ghost use Rattle.docker_cmd.specs.Holding.{IsWrittenFrom, held_meant};
-ghost use Rattle.docker_cmd.specs.Prepared.{EndsReadingSources, IsOfOneFile, IsPreparedFor};
+ghost use Rattle.docker_cmd.specs.Prepared.{EndsReadingSources, IsOfOneFile, IsPreparedFor, PreparedView};
 ghost use Rattle.docker_cmd.specs.Tasks.{output_of, sources_of};
 ghost use Rattle.docker_cmd.specs.Reads.{taken_file};
 
@@ -21,10 +21,6 @@ pub struct Prepared<'a> {
 }
 
 impl<'a> Model for Prepared<'a> {
-    ghost use Rattle.docker_cmd.specs.Prepared.{PreparedView};
-    ghost use Rattle.docker_cmd.specs.Holding.{IsWrittenFrom, held_meant};
-    ghost use Rattle.docker_cmd.specs.Tasks.{output_of};
-
     ghost Value = { PreparedView };
 
     ghost view = { λ prepared. record {

@@ -5,6 +5,7 @@ ghost use Rattle.docker_cmd.specs.Job.{IsTaskOf};
 ghost use Rattle.docker_cmd.specs.Reads.{sources_meant};
 ghost use Rattle.docker_cmd.specs.Tasks.{day_of, ids_of, row_meant, row_of, sources_of, subcommand_of, task_meant, tiploc_of, usage_line, writes_of};
 ghost use Rattle.docker_cmd.specs.Words.{texts};
+ghost use Rattle.docker_cmd.specs.Tasks as tasks;
 
 use crate::named::{TableWord, place_and_day};
 use crate::reads::Sources;
@@ -70,8 +71,6 @@ impl<'a> Row<'a> {
 }
 
 impl TableWord for Subcommand {
-    ghost use Rattle.docker_cmd.specs.Tasks as tasks;
-
     ghost words = { tasks.subcommands };
 
     ghost name_of = { tasks.name_of };

@@ -5,8 +5,9 @@ ghost use Rattle.std.specs.BTreeMap.{get};
 ghost use Rattle.std.specs.Ordering.{nat_cmp};
 ghost use Rattle.docker_model.specs.state.Row.{Row, AreRowsOf};
 ghost use Rattle.docker_laws.specs.LiveRows.{train_in};
-ghost use Rattle.docker_day.specs.Bases.{first_call, meant_if};
+ghost use Rattle.docker_day.specs.Bases.{AreKnownCalls, first_call, meant_if};
 ghost use Rattle.docker_state.specs.Timetables.{live_in};
+ghost use Rattle.train_choice.specs.Known.{PlaceDay};
 
 use crate::base_calls::{BaseCalls, first_calls};
 use crate::first_event::FirstEvent;
@@ -30,10 +31,6 @@ pub(crate) struct Bases<'a> {
 }
 
 impl<'a> Model for Bases<'a> {
-    ghost use Rattle.docker_state.specs.Timetables.{live_in};
-    ghost use Rattle.train_choice.specs.Known.{PlaceDay};
-    ghost use Rattle.docker_day.specs.Bases.{AreKnownCalls};
-
     ghost Value = { PlaceDay };
 
     ghost view = { λ bases. record {

@@ -5,6 +5,7 @@ ghost use Rattle.std.specs.Cmp.{partial_equiv_from_equiv, eq_by_cmp_equiv, parti
 ghost use Rattle.std.proofs.Common.{refl};
 ghost use Rattle.docker_model.specs.file.Change.{ScheduleKey};
 ghost use Rattle.docker_model.specs.docker.DockerLine.{docker_line_cmp};
+ghost use Rattle.docker_model.specs.docker.DockerLine as lines;
 ghost use Rattle.cif_laws.proofs.orders.Orders.{docker_line_total};
 ghost use Rattle.cif_line.specs.Letter.{stp_letter};
 ghost use Rattle.train_choice.specs.Meaning.{occasion_meant};
@@ -40,11 +41,6 @@ pub struct DockerLine<'a> {
 }
 
 impl<'a> Model for DockerLine<'a> {
-    ghost use Rattle.docker_model.specs.docker.DockerLine as lines;
-    ghost use Rattle.cif_line.specs.Letter.{stp_letter};
-    ghost use Rattle.train_choice.specs.Meaning.{occasion_meant};
-    ghost use Rattle.docker_day.specs.Details.{detail_meant};
-
     ghost Value = { lines.DockerLine };
 
     ghost view = { λ line. record {

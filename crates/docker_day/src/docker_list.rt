@@ -1,5 +1,6 @@
 //! A docker: its timing point, its day and its lines.
 ghost use Rattle.std.specs.Prelude.{◌≡◌};
+ghost use Rattle.docker_day.specs.DockerValue as value;
 
 use crate::docker_line::DockerLine;
 use cif_line::{Day, Tiploc};
@@ -15,8 +16,6 @@ pub struct Docker<'a> {
 }
 
 impl<'a> Model for Docker<'a> {
-    ghost use Rattle.docker_day.specs.DockerValue as value;
-
     ghost Value = { value.Docker };
 
     ghost view = { λ docker. record {

@@ -1,6 +1,8 @@
 //! The first event of a call, in a form that can be stored in a map.
 ghost use Rattle.std.specs.Prelude.{◌≡◌};
 ghost use Rattle.train_choice.specs.EventWalk.{occurrence_meant};
+ghost use Rattle.train_choice.specs.Meaning.{occasion_meant};
+ghost use Rattle.train_choice.specs.Occurrences as events;
 
 use cif_line::{Line, Time};
 use std::marker::Model;
@@ -18,9 +20,6 @@ pub(crate) struct FirstEvent<'a> {
 }
 
 impl<'a> Model for FirstEvent<'a> {
-    ghost use Rattle.train_choice.specs.Meaning.{occasion_meant};
-    ghost use Rattle.train_choice.specs.Occurrences as events;
-
     ghost Value = { events.Occurrence };
 
     ghost view = { λ call. record {

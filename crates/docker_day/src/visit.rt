@@ -9,6 +9,8 @@ ghost use Rattle.docker_laws.specs.LiveRows.{train_in, link_in};
 ghost use Rattle.train_choice.specs.Along.{IsLiveTrain};
 ghost use Rattle.cif_change.specs.Meaning.{association_key_meant};
 ghost use Rattle.docker_day.specs.Bases.{first_call, meant_if};
+ghost use Rattle.docker_day.specs.Visits as visits;
+ghost use Rattle.docker_day.specs.Visits.{IsOnePlace};
 ghost use Rattle.docker_state.specs.Timetables.{live_in};
 
 use crate::bases::Bases;
@@ -35,9 +37,6 @@ pub(crate) struct Visit<'a> {
 }
 
 impl<'a> Model for Visit<'a> {
-    ghost use Rattle.docker_day.specs.Visits as visits;
-    ghost use Rattle.docker_day.specs.Visits.{IsOnePlace};
-
     ghost Value = { visits.Visit };
 
     ghost view = { λ visit. record {

@@ -2,7 +2,7 @@
 //! place on that day.
 ghost use Rattle.std.specs.Prelude.{◌≡◌, IfOk};
 ghost use Rattle.train_choice.specs.Known.{PlaceDay};
-ghost use Rattle.docker_day.specs.Visits.{visit_back};
+ghost use Rattle.docker_day.specs.Visits.{AreVisits, visit_back};
 
 use crate::visit::Visit;
 use cif_line::{Day, Memory, Tiploc};
@@ -21,9 +21,6 @@ pub(crate) struct Visits<'a> {
 }
 
 impl<'a> Model for Visits<'a> {
-    ghost use Rattle.train_choice.specs.Known.{PlaceDay};
-    ghost use Rattle.docker_day.specs.Visits.{AreVisits};
-
     ghost Value = { PlaceDay };
 
     ghost view = { λ visits. record {

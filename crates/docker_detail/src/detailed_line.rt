@@ -1,5 +1,6 @@
 //! A docker line, with where it comes from.
-ghost use Rattle.std.specs.Prelude.{◌≡◌};
+ghost use Rattle.std.specs.Prelude.{◌≡◌, ℕ, List};
+ghost use Rattle.docker_model.specs.docker.DockerLine as lines;
 ghost use Rattle.docker_detail.specs.Meaning.{origin_meant};
 
 use crate::origin::LineOrigin;
@@ -14,10 +15,6 @@ pub struct DetailedLine<'a> {
 }
 
 impl<'a> Model for DetailedLine<'a> {
-    ghost use Rattle.std.specs.Prelude.{List, ℕ};
-    ghost use Rattle.docker_model.specs.docker.DockerLine as lines;
-    ghost use Rattle.docker_detail.specs.Meaning.{origin_meant};
-
     ghost Value = { lines.DockerLine × List ℕ };
 
     ghost view = { λ detailed. (detailed.line, origin_meant detailed.origin) };

@@ -1,5 +1,6 @@
 //! A detailed docker: its timing point, its day and its lines.
 ghost use Rattle.std.specs.Prelude.{◌≡◌};
+ghost use Rattle.docker_detail.specs.DetailedValue as value;
 
 use crate::detailed_line::DetailedLine;
 use cif_line::{Day, Tiploc};
@@ -15,8 +16,6 @@ pub struct DetailedDocker<'a> {
 }
 
 impl<'a> Model for DetailedDocker<'a> {
-    ghost use Rattle.docker_detail.specs.DetailedValue as value;
-
     ghost Value = { value.DetailedDocker };
 
     ghost view = { λ docker. record {

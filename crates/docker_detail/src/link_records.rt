@@ -7,6 +7,7 @@ ghost use Rattle.docker_model.specs.docker.DockerLine.{partner};
 ghost use Rattle.docker_laws.specs.LiveRows.{link_in};
 ghost use Rattle.docker_state.specs.Timetables.{live_in};
 ghost use Rattle.docker_detail.specs.Finding.{association_by};
+ghost use Rattle.docker_detail.specs.Known.{AtPlace, MayBeKnownLinks};
 
 use cif_line::{Day, Line, Memory, Tiploc, Uid};
 use docker_day::{Detail, DockerLine};
@@ -34,8 +35,6 @@ pub(crate) struct LinkRecords<'a> {
 }
 
 impl<'a> Model for LinkRecords<'a> {
-    ghost use Rattle.docker_detail.specs.Known.{AtPlace, MayBeKnownLinks};
-
     ghost Value = { AtPlace };
 
     ghost view = { λ records. record {

@@ -4,6 +4,7 @@ ghost use Rattle.std.specs.List.Sorted.{IsPermutation, IsSorted};
 ghost use Rattle.docker_model.specs.docker.DockerLine.{docker_line_cmp};
 ghost use Rattle.docker_state.specs.Timetables.{live_in};
 ghost use Rattle.docker_detail.specs.Finding.{AreFound, IsLineFound, firsts};
+ghost use Rattle.docker_detail.specs.Known.{AtPlace};
 
 use crate::detailed_line::DetailedLine;
 use crate::link_records::LinkRecords;
@@ -25,9 +26,6 @@ struct Finder<'a> {
 }
 
 impl<'a> Model for Finder<'a> {
-    ghost use Rattle.std.specs.Prelude.{◌≡◌};
-    ghost use Rattle.docker_detail.specs.Known.{AtPlace};
-
     ghost Value = { AtPlace };
 
     ghost view = { λ finder. finder.links };

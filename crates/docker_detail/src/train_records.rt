@@ -4,8 +4,9 @@ ghost use Rattle.std.specs.Prelude.{◌≡◌, ◌≤◌, List};
 ghost use Rattle.docker_model.specs.state.Row.{Row, AreRowsOf};
 ghost use Rattle.docker_laws.specs.LiveRows.{train_in};
 ghost use Rattle.docker_state.specs.Timetables.{live_in};
+ghost use Rattle.docker_state.specs.Timetables as timetables;
 ghost use Rattle.docker_detail.specs.Finding.{records_of_train};
-ghost use Rattle.docker_detail.specs.Known.{IsKnownTrain};
+ghost use Rattle.docker_detail.specs.Known.{IsKnownTrain, MayBeKnownTrain};
 ghost use Rattle.docker_detail.specs.Meaning.{records_meant};
 ghost use Rattle.docker_detail.specs.Records.{records_of};
 
@@ -25,10 +26,6 @@ pub(crate) struct TrainRecords<'a> {
 }
 
 impl<'a> Model for TrainRecords<'a> {
-    ghost use Rattle.docker_state.specs.Timetables as timetables;
-    ghost use Rattle.docker_state.specs.Timetables.{live_in};
-    ghost use Rattle.docker_detail.specs.Known.{MayBeKnownTrain};
-
     ghost Value = { timetables.Timetable };
 
     ghost view = { λ records. records.timetable };

@@ -1,9 +1,11 @@
 //! All changes of the records that were read until now, whether the changes are kept or dropped.
 //! These values exist only for proofs: they take no memory, and their methods do nothing at run
 //! time.
-ghost use Rattle.std.specs.Prelude.{◌≡◌, List};
+ghost use Rattle.std.specs.Prelude.{◌≡◌, [], ◌∷◌, ◌++◌, List};
 ghost use Rattle.std.specs.Borrow.{ftrue};
 ghost use Rattle.docker_model.specs.file.Change as model;
+ghost use Rattle.cif_file.specs.KeeperRead.{change_renewed};
+ghost use Rattle.cif_file.specs.SingleChanges.{listed};
 
 use cif_file::{Opened, SingleChanges};
 use cif_line::Line;
@@ -33,10 +35,6 @@ impl fmt::Debug for ChangesSoFar {
 }
 
 impl ChangesSoFar {
-    ghost use Rattle.std.specs.Prelude.{[], ◌∷◌, ◌++◌};
-    ghost use Rattle.cif_file.specs.KeeperRead.{change_renewed};
-    ghost use Rattle.cif_file.specs.SingleChanges.{listed};
-
     /// Returns an empty list of changes: no record has been read yet.
     pub(crate) fn new() -> ChangesSoFar
         ensures { result.changes ≡ [] }

@@ -3,6 +3,7 @@ ghost use Rattle.std.specs.Prelude.{◌≡◌, ℕ, List, IfOk, false};
 ghost use Rattle.docker_laws.specs.FileSummary.{summary_of};
 ghost use Rattle.cif_file.specs.FileRead.{IsOfRecords};
 ghost use Rattle.docker_excerpt.specs.Values.{with_entries, StandsAt};
+ghost use Rattle.docker_excerpt.specs.Values as values;
 
 use crate::given_file::given_of;
 use crate::thin_file::ThinFile;
@@ -25,9 +26,6 @@ pub struct Excerpt {
 }
 
 impl Model for Excerpt {
-    ghost use Rattle.docker_excerpt.specs.Values as values;
-    ghost use Rattle.docker_excerpt.specs.Values.{with_entries, StandsAt};
-
     ghost Value = { values.Excerpt };
 
     ghost view = { λ it. record {

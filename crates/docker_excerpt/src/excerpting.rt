@@ -9,6 +9,8 @@ ghost use Rattle.docker_state.specs.Meaning.{item_meant};
 ghost use Rattle.docker_state.specs.Parts.{last_key, under};
 ghost use Rattle.state_text.specs.PartsSoFar.{horizon_meant, with_item, with_row};
 ghost use Rattle.docker_excerpt.specs.Values.{with_entries};
+ghost use Rattle.docker_excerpt.specs.Values as values;
+ghost use Rattle.docker_excerpt.specs.DayWalk.{HasPassed};
 
 use crate::day_walk::DayWalk;
 use crate::excerpt::Excerpt;
@@ -33,9 +35,6 @@ pub struct Excerpting {
 }
 
 impl Model for Excerpting {
-    ghost use Rattle.docker_excerpt.specs.Values as values;
-    ghost use Rattle.docker_excerpt.specs.DayWalk.{HasPassed};
-
     ghost Value = { values.Excerpting };
 
     ghost view = { λ it. record {

@@ -1,6 +1,7 @@
 //! The part of a state that is kept to list the state's files.
 ghost use Rattle.std.specs.Prelude.{◌≡◌, map};
 ghost use Rattle.docker_model.specs.state.State.{IsValid};
+ghost use Rattle.docker_model.specs.state.State as states;
 ghost use Rattle.docker_state.specs.Meaning.{item_meant};
 ghost use Rattle.docker_state.specs.Parts.{under};
 ghost use Rattle.state_text.specs.PartsSoFar.{horizon_meant};
@@ -20,11 +21,6 @@ pub struct KeptLedger {
 }
 
 impl Model for KeptLedger {
-    ghost use Rattle.docker_model.specs.state.State as states;
-    ghost use Rattle.docker_model.specs.state.State.{IsValid};
-    ghost use Rattle.docker_state.specs.Parts.{under};
-    ghost use Rattle.state_text.specs.PartsSoFar.{horizon_meant};
-
     ghost Value = { states.State };
 
     ghost view = { λ it. under (horizon_meant it.horizon) it.ledger };
@@ -51,8 +47,6 @@ impl KeptLedger {
 }
 
 impl Maker for Ledger {
-    ghost use Rattle.std.specs.Prelude.{◌≡◌};
-
     type Made = KeptLedger;
 
     ghost makes = { λ made state. made ≡ state };

@@ -3,12 +3,14 @@ ghost use Rattle.std.specs.Prelude.{◌≡◌, ◌+◌, ◌-◌, ◌^◌, ◌<�
 ghost use Rattle.std.specs.Option.{option_copied, option_map};
 ghost use Rattle.docker_model.specs.state.State.{IsLedger, IsOpOf, IsValid};
 ghost use Rattle.docker_model.specs.state.StatePart.{IsStampHere};
+ghost use Rattle.docker_model.specs.state.State as states;
 ghost use Rattle.cif_change.specs.Meaning.{key_meant};
 ghost use Rattle.docker_join.specs.Meaning.{entry_meant};
 ghost use Rattle.docker_state.specs.Meaning.{item_meant};
 ghost use Rattle.docker_state.specs.Parts.{last_key};
 ghost use Rattle.state_text.specs.PartsSoFar.{with_item};
 ghost use Rattle.docker_excerpt.specs.Values.{with_entries};
+ghost use Rattle.docker_excerpt.specs.Ledger.{IsLedgerOf};
 
 use cif_change::Key;
 use cif_line::Memory;
@@ -29,10 +31,6 @@ pub struct Ledger {
 }
 
 impl Model for Ledger {
-    ghost use Rattle.docker_model.specs.state.State as states;
-    ghost use Rattle.docker_excerpt.specs.Values.{with_entries};
-    ghost use Rattle.docker_excerpt.specs.Ledger.{IsLedgerOf};
-
     ghost Value = { states.State };
 
     ghost view = { λ it. with_entries it.parts it.given.entries };

@@ -1,6 +1,7 @@
 //! An excerpt whose place and day are determined by its type. A reader passes a state's parts to an
 //! `ExcerptingAt`, as to any `PartKeeper`.
 ghost use Rattle.std.specs.Prelude.{◌≡◌, []};
+ghost use Rattle.docker_model.specs.state.State as states;
 
 use crate::excerpt::Excerpt;
 use crate::excerpting::Excerpting;
@@ -19,9 +20,6 @@ pub struct ExcerptingAt<P: PlaceDay> {
 }
 
 impl<P: PlaceDay> Model for ExcerptingAt<P> {
-    ghost use Rattle.std.specs.Prelude.{◌≡◌};
-    ghost use Rattle.docker_model.specs.state.State as states;
-
     ghost Value = { states.State };
 
     ghost view = { λ it. it.excerpting.told };
@@ -69,8 +67,6 @@ impl<P: PlaceDay> PartKeeper for ExcerptingAt<P> {
 }
 
 impl<P: PlaceDay> Maker for ExcerptingAt<P> {
-    ghost use Rattle.std.specs.Prelude.{◌≡◌};
-
     type Made = Excerpt;
 
     ghost makes = { λ made state. made

@@ -1,5 +1,5 @@
 //! The place and the day of a docker, as a type for proofs.
-ghost use Rattle.std.specs.Prelude.{ℕ, List};
+ghost use Rattle.std.specs.Prelude.{ℕ, [], List};
 
 use std::marker::Brand;
 
@@ -15,8 +15,6 @@ pub trait PlaceDay {
 }
 
 impl PlaceDay for Brand {
-    ghost use Rattle.std.specs.Prelude.{[]};
-
     ghost place = { [] };
 
     ghost day = { 0 };

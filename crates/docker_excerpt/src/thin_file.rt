@@ -1,6 +1,6 @@
 //! Thin files: what was kept of a CIF file for the docker of one place on one day.
 ghost use Rattle.std.specs.Prelude.{◌≡◌, IfOk};
-ghost use Rattle.docker_excerpt.specs.ThinRead.{AreThinParts, AreNeededParts, IsThinRead, thin_of_parts};
+ghost use Rattle.docker_excerpt.specs.ThinRead.{AreThinParts, AreNeededParts, IsThinRead, thin_of_parts, ThinRead};
 ghost use Rattle.docker_excerpt.specs.ThinEnded.{thin_parts_ended, thin_ended};
 
 use crate::changes_so_far::ChangesSoFar;
@@ -27,8 +27,6 @@ pub struct ThinFile {
 }
 
 impl Model for ThinFile {
-    ghost use Rattle.docker_excerpt.specs.ThinRead.{ThinRead, AreThinParts, thin_of_parts};
-
     ghost Value = { ThinRead };
 
     ghost view = { λ thin.

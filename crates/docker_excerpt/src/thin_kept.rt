@@ -1,5 +1,5 @@
 //! The keeper that keeps only what the docker of one place on one day may need.
-ghost use Rattle.std.specs.Prelude.{◌≡◌, []};
+ghost use Rattle.std.specs.Prelude.{◌≡◌, [], ⊤};
 ghost use Rattle.docker_excerpt.specs.ThinKept.{KeepsThin};
 
 use crate::changes_so_far::{ChangesSoFar, OpenLines};
@@ -56,8 +56,6 @@ impl<P: PlaceDay> ThinSoFar<P> {
 }
 
 impl<P: PlaceDay> ChangeKeeper for ThinSoFar<P> {
-    ghost use Rattle.std.specs.Prelude.{⊤};
-
     ghost keeps = { KeepsThin P.place P.day };
 
     ghost wants = { ⊤ };

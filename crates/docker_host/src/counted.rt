@@ -1,7 +1,8 @@
 //! A history whose events are counted at run time.
-ghost use Rattle.std.specs.Prelude.{◌≡◌, ℕ, ◌+◌, [], ◌∷◌, ◌++◌, length};
+ghost use Rattle.std.specs.Prelude.{◌≡◌, ℕ, ◌+◌, [], ◌∷◌, ◌++◌, length, List};
 ghost use Rattle.docker_host.specs.Counts.{IsCountOf};
 ghost use Rattle.docker_host.specs.Notes.{event_of};
+ghost use Rattle.docker_host.specs.History.{Event};
 
 use crate::history::{History, Note, Position};
 use std::marker::Model;
@@ -14,10 +15,6 @@ pub(crate) struct CountedHistory {
 }
 
 impl Model for CountedHistory {
-    ghost use Rattle.std.specs.Prelude.{List, length};
-    ghost use Rattle.docker_host.specs.Counts.{IsCountOf};
-    ghost use Rattle.docker_host.specs.History.{Event};
-
     ghost Value = { List Event };
 
     ghost view = { λ counted. counted.history.events };

@@ -4,6 +4,7 @@
 //! decides which of these is done. What came under the name after the look is never written to.
 ghost use Rattle.std.specs.Prelude.{◌≡◌, ◌+◌, ◌-◌, ◌^◌, ◌<◌, ◌≤◌, None, IfOk, OnOk, OnErr, length};
 ghost use Rattle.std.specs.Io.KnownBytes.{WriteAppends};
+ghost use Rattle.docker_host.specs.RealDevices.{OutputView};
 
 use crate::draft_place::DraftPlace;
 use crate::folder::OpenFault;
@@ -34,8 +35,6 @@ pub(crate) struct Placed {
 }
 
 impl<W> Model for DraftFile<W> {
-    ghost use Rattle.docker_host.specs.RealDevices.{OutputView};
-
     ghost Value = { OutputView W };
 
     ghost view = { λ draft. draft.file };

@@ -3,6 +3,7 @@
 ghost use Rattle.std.specs.Prelude.{◌≡◌, List, [], ◌∷◌, ◌++◌};
 ghost use Rattle.std.specs.Borrow.{ftrue};
 ghost use Rattle.docker_host.specs.Exchanges.{Exchange};
+ghost use Rattle.docker_host.specs.Calls.{exchange_of};
 
 use std::marker::Model;
 
@@ -30,8 +31,6 @@ pub enum StreamCall<'a> {
 }
 
 impl Exchanges {
-    ghost use Rattle.docker_host.specs.Calls.{exchange_of};
-
     /// Returns a history without exchanges.
     pub fn new() -> Exchanges
         ensures { result.events ≡ [] }

@@ -1,8 +1,12 @@
 //! A folder: a device whose files are looked at, opened, and replaced by drafts.
-ghost use Rattle.std.specs.Prelude.{◌≡◌, ℕ, ◌+◌, ◌-◌, ◌^◌, ◌<◌, Bool, false, List, [], ◌∷◌, ◌++◌, length, IfOk, IsErr, OnOk, OnErr, Err, Option};
+ghost use Rattle.std.specs.Prelude.{◌≡◌, ℕ, ◌+◌, ◌-◌, ◌^◌, ◌<◌, [], ◌∷◌, ◌++◌, ◌↔◌, Bool, false, List, length, IfOk, IsErr, OnOk, OnErr, Err, Option};
+ghost use Rattle.std.specs.IoError.{error_kind};
+ghost use Rattle.std.specs.declared.io.ErrorKind.TheVariants.{OutOfMemory};
 ghost use Rattle.cif_device.specs.Device.{CountsFailure};
 ghost use Rattle.docker_host.specs.Standing.{IsStill};
 ghost use Rattle.docker_host.specs.History.{Event, looked, opened, unopened, closed, drafted, undrafted, placed, unplaced, dropped, named_if};
+ghost use Rattle.docker_host.specs.Opening.{one_of};
+ghost use Rattle.docker_host.specs.declared.folder.OpenFault.TheVariants.{Memory};
 
 use cif_device::{Failed, Sink, Source};
 use std::alloc::AllocError;
@@ -20,9 +24,6 @@ pub enum OpenFault {
 }
 
 impl OpenFault {
-    ghost use Rattle.docker_host.specs.Opening.{one_of};
-    ghost use Rattle.std.specs.Prelude.{◌≡◌};
-
     /// Returns one of two values, chosen by the fault: `failed` if the device failed, `memory` if
     /// memory ran out.
     pub fn one_of<T: Copy>(self, failed: T, memory: T) -> T
@@ -36,11 +37,6 @@ impl OpenFault {
 }
 
 impl From<io::Error> for OpenFault {
-    ghost use Rattle.docker_host.specs.declared.folder.OpenFault.TheVariants.{Memory};
-    ghost use Rattle.std.specs.IoError.{error_kind};
-    ghost use Rattle.std.specs.Prelude.{◌≡◌, ◌↔◌};
-    ghost use Rattle.std.specs.declared.io.ErrorKind.TheVariants.{OutOfMemory};
-
     ghost from_gives = { λ error fault.
         (fault ≡ Memory) ↔ (error_kind error ≡ OutOfMemory) };
 
@@ -53,9 +49,6 @@ impl From<io::Error> for OpenFault {
 }
 
 impl From<AllocError> for OpenFault {
-    ghost use Rattle.docker_host.specs.declared.folder.OpenFault.TheVariants.{Memory};
-    ghost use Rattle.std.specs.Prelude.{◌≡◌};
-
     ghost from_gives = { λ _ fault. fault ≡ Memory };
 
     fn from(_refused: AllocError) -> OpenFault {

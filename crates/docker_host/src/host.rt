@@ -1,4 +1,6 @@
 //! One value for all devices of a program.
+ghost use Rattle.docker_host.specs.Host.{HostView};
+
 use crate::folder::Folder;
 use cif_device::{Sink, Source};
 use std::marker::Model;
@@ -17,8 +19,6 @@ pub struct Host<S: Source, D: Folder, K: Sink, L: Sink> {
 }
 
 impl<S: Source, D: Folder, K: Sink, L: Sink> Model for Host<S, D, K, L> {
-    ghost use Rattle.docker_host.specs.Host.{HostView};
-
     ghost Value = { HostView };
 
     ghost view = { λ host. record {

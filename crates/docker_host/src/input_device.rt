@@ -2,6 +2,7 @@
 ghost use Rattle.std.specs.Prelude.{◌≡◌, ◌+◌, ◌-◌, ◌^◌, ◌<◌, ◌≤◌, None, IfOk, OnOk, OnErr, false, length};
 ghost use Rattle.std.specs.Io.KnownBytes.{ReadConsumes};
 ghost use Rattle.cif_device.specs.Device.{Ends};
+ghost use Rattle.docker_host.specs.RealDevices.{InputView};
 
 use crate::folder::OpenFault;
 use crate::transfers::read_some;
@@ -21,8 +22,6 @@ pub struct InputDevice<R> {
 }
 
 impl<R> Model for InputDevice<R> {
-    ghost use Rattle.docker_host.specs.RealDevices.{InputView};
-
     ghost Value = { InputView R };
 
     ghost view = { λ input. record {

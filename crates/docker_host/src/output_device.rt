@@ -1,6 +1,7 @@
 //! A sink over a writer of the standard library, such as standard output or the file of a draft.
 ghost use Rattle.std.specs.Prelude.{◌≡◌, ◌+◌, ◌-◌, ◌^◌, ◌<◌, ◌≤◌, None, IfOk, OnOk, OnErr, length};
 ghost use Rattle.std.specs.Io.KnownBytes.{WriteAppends};
+ghost use Rattle.docker_host.specs.RealDevices.{OutputView};
 
 use crate::transfers::write_some;
 use cif_device::{Failed, Sink};
@@ -15,8 +16,6 @@ pub struct OutputDevice<W> {
 }
 
 impl<W> Model for OutputDevice<W> {
-    ghost use Rattle.docker_host.specs.RealDevices.{OutputView};
-
     ghost Value = { OutputView W };
 
     ghost view = { λ output. record {

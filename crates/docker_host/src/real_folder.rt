@@ -3,6 +3,7 @@
 ghost use Rattle.std.specs.Prelude.{◌≡◌, ◌+◌, ◌-◌, ◌^◌, ◌<◌, [], ◌∷◌, ◌++◌, false, None, IsErr, OnOk, OnErr};
 ghost use Rattle.cif_device.specs.Device.{CountsFailure};
 ghost use Rattle.docker_host.specs.History.{placed, unplaced, dropped};
+ghost use Rattle.docker_host.specs.Folder.{FolderView};
 
 use crate::draft_file::{DraftFile, Placed};
 use crate::folder::{Drafted, Folder, OpenFault};
@@ -32,8 +33,6 @@ pub struct RealFolder {
 }
 
 impl Model for RealFolder {
-    ghost use Rattle.docker_host.specs.Folder.{FolderView};
-
     ghost Value = { FolderView };
 
     ghost view = { λ folder. record {

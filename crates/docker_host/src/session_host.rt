@@ -1,4 +1,7 @@
 //! One value for all devices of a session.
+ghost use Rattle.docker_host.specs.FaultSink.{faults_view};
+ghost use Rattle.docker_host.specs.SessionHost.{SessionHostView};
+
 use crate::folder::Folder;
 use crate::streams::Streams;
 use cif_device::{Sink, Source};
@@ -16,9 +19,6 @@ pub struct SessionHost<S: Source, D: Folder, K: Sink, L: Sink> {
 }
 
 impl<S: Source, D: Folder, K: Sink, L: Sink> Model for SessionHost<S, D, K, L> {
-    ghost use Rattle.docker_host.specs.FaultSink.{faults_view};
-    ghost use Rattle.docker_host.specs.SessionHost.{SessionHostView};
-
     ghost Value = { SessionHostView };
 
     ghost view = { λ host. record {

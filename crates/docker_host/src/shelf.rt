@@ -1,10 +1,12 @@
 //! A folder in memory.
 ghost use Rattle.std.specs.Prelude.{◌≡◌, ◌≢◌, ◌+◌, ◌-◌, ◌^◌, ◌<◌, [], ◌∷◌, ◌++◌, length, false, true, Some, None, IfOk, IfErr, IsErr, OnOk, OnErr, Err, option_map};
+ghost use Rattle.std.specs.Prelude.{ℕ};
 ghost use Rattle.cif_device.specs.Device.{CountsFailure};
 ghost use Rattle.docker_host.specs.History.{looked, opened, unopened, closed, drafted, undrafted, placed, unplaced, dropped};
 ghost use Rattle.docker_host.specs.Standing.{IsStandingOf, IsStill};
-ghost use Rattle.docker_host.specs.Shelf.{IsSetAs, IsShelfHistory, MakesDraft, OpensFile, RefusesDraft, RefusesFile, last_put, room_of, shelf_standing, sound_of, text_under};
-ghost use Rattle.docker_host.specs.Places.{since_when, texts_of};
+ghost use Rattle.docker_host.specs.Shelf.{IsSetAs, IsShelfHistory, MakesDraft, OpensFile, RefusesDraft, RefusesFile, ShelfView, last_put, room_of, shelf_standing, sound_of, text_under};
+ghost use Rattle.docker_host.specs.Places.{IsKept, since_when, texts_of};
+ghost use Rattle.docker_host.specs.Counts.{IsCountOf};
 
 use crate::counted::{CountedHistory, next_count};
 use crate::folder::{Drafted, Folder, OpenFault};
@@ -53,9 +55,6 @@ pub struct Sight {
 }
 
 impl Model for Sight {
-    ghost use Rattle.std.specs.Prelude.{ℕ};
-    ghost use Rattle.docker_host.specs.Counts.{IsCountOf};
-
     ghost Value = { ℕ };
 
     ghost view = { λ sight. sight.position.at };
@@ -76,9 +75,6 @@ pub struct Shelf {
 }
 
 impl Model for Shelf {
-    ghost use Rattle.docker_host.specs.Shelf.{ShelfView};
-    ghost use Rattle.docker_host.specs.Places.{IsKept};
-
     ghost Value = { ShelfView };
 
     ghost view = { λ shelf. record {

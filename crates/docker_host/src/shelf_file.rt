@@ -1,7 +1,7 @@
 //! An opened file of a folder in memory.
-ghost use Rattle.std.specs.Prelude.{◌≡◌, ◌+◌, ◌-◌, ◌^◌, ◌<◌, ◌≤◌, ◌↔◌, min, [], ◌++◌, length, take, false, Some, IfOk, IsErr, OnOk, OnErr};
+ghost use Rattle.std.specs.Prelude.{◌≡◌, ◌+◌, ◌-◌, ◌^◌, ◌<◌, ◌≤◌, ◌↔◌, [], ◌++◌, min, length, take, false, Some, IfOk, IsErr, OnOk, OnErr, drop};
 ghost use Rattle.cif_device.specs.Device.{Ends};
-ghost use Rattle.docker_host.specs.Shelf.{read_count};
+ghost use Rattle.docker_host.specs.Shelf.{ShelfFileView, read_count};
 
 use cif_device::{Failed, Source};
 use std::marker::Model;
@@ -22,9 +22,6 @@ pub struct ShelfFile {
 }
 
 impl Model for ShelfFile {
-    ghost use Rattle.std.specs.Prelude.{◌≤◌, drop, length};
-    ghost use Rattle.docker_host.specs.Shelf.{ShelfFileView};
-
     ghost Value = { ShelfFileView };
 
     ghost view = { λ file. record {

@@ -1,7 +1,7 @@
 //! An input and an output that record the order of the calls to them.
 ghost use Rattle.std.specs.Prelude.{◌≡◌, ◌-◌, ◌^◌, ◌<◌, ◌≤◌, [], ◌∷◌, length, take, IfOk, OnErr};
 ghost use Rattle.docker_host.specs.Exchanges.{wrote};
-ghost use Rattle.docker_host.specs.Streams.{EndsWriting, ReadsOnce, Writes, after_unread, after_unwritten};
+ghost use Rattle.docker_host.specs.Streams.{EndsWriting, ReadsOnce, StreamsView, Writes, after_unread, after_unwritten};
 
 use crate::exchanges::{Exchanges, StreamCall};
 use cif_device::{Failed, Sink, Source};
@@ -18,8 +18,6 @@ pub struct Streams<S: Source, K: Sink> {
 }
 
 impl<S: Source, K: Sink> Model for Streams<S, K> {
-    ghost use Rattle.docker_host.specs.Streams.{StreamsView};
-
     ghost Value = { StreamsView };
 
     ghost view = { λ streams. record {

@@ -1,5 +1,6 @@
 //! The result of a run.
 ghost use Rattle.std.specs.Prelude.{◌≡◌, All, map};
+ghost use Rattle.docker_model.specs.run.Run as model;
 ghost use Rattle.docker_office.specs.RunMeaning.{IsRunReply, reply_meant, texts_of};
 
 use crate::office::Office;
@@ -16,10 +17,6 @@ pub struct Exchange {
 }
 
 impl Model for Exchange {
-    ghost use Rattle.std.specs.Prelude.{All, map};
-    ghost use Rattle.docker_model.specs.run.Run as model;
-    ghost use Rattle.docker_office.specs.RunMeaning.{IsRunReply, reply_meant, texts_of};
-
     ghost Value = { model.Exchange };
 
     ghost view = { λ exchange. record {

@@ -1,4 +1,7 @@
 //! The reasons why an office refuses a request.
+ghost use Rattle.std.specs.Prelude.{◌≡◌};
+ghost use Rattle.docker_office.specs.Faults.{office_fault_of_file, office_fault_of_state, office_fault_of_docker};
+
 use cif_file::FileFault;
 use docker_bytes::StateFault;
 use docker_day::DockerFault;
@@ -30,9 +33,6 @@ pub enum OfficeFault {
 }
 
 impl From<cif_file::FileReadFault> for OfficeFault {
-    ghost use Rattle.docker_office.specs.Faults.{office_fault_of_file};
-    ghost use Rattle.std.specs.Prelude.{◌≡◌};
-
     ghost from_gives = { λ cause fault. fault ≡ office_fault_of_file cause };
 
     fn from(cause: cif_file::FileReadFault) -> OfficeFault {
@@ -45,9 +45,6 @@ impl From<cif_file::FileReadFault> for OfficeFault {
 }
 
 impl From<docker_bytes::ReadFault> for OfficeFault {
-    ghost use Rattle.docker_office.specs.Faults.{office_fault_of_state};
-    ghost use Rattle.std.specs.Prelude.{◌≡◌};
-
     ghost from_gives = { λ cause fault. fault ≡ office_fault_of_state cause };
 
     fn from(cause: docker_bytes::ReadFault) -> OfficeFault {
@@ -60,9 +57,6 @@ impl From<docker_bytes::ReadFault> for OfficeFault {
 }
 
 impl From<DockerFault> for OfficeFault {
-    ghost use Rattle.docker_office.specs.Faults.{office_fault_of_docker};
-    ghost use Rattle.std.specs.Prelude.{◌≡◌};
-
     ghost from_gives = { λ cause fault. fault ≡ office_fault_of_docker cause };
 
     fn from(cause: DockerFault) -> OfficeFault {

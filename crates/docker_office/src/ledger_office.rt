@@ -24,8 +24,6 @@ pub struct LedgerOffice {
 }
 
 impl Model for LedgerOffice {
-    ghost use Rattle.docker_model.specs.state.State as states;
-
     ghost Value = { states.State };
 
     ghost view = { λ office. office.ledger };

@@ -33,8 +33,6 @@ pub struct Office {
 }
 
 impl Model for Office {
-    ghost use Rattle.docker_model.specs.state.State as states;
-
     ghost Value = { states.State };
 
     ghost view = { λ office. office.state };

@@ -7,6 +7,7 @@ ghost use Rattle.docker_bytes.specs.SourceRead.{ReadsState};
 ghost use Rattle.docker_model.specs.state.Lapse.{IsDayRefused};
 ghost use Rattle.docker_model.specs.state.State as states;
 ghost use Rattle.docker_model.specs.state.StateText.{dks_2};
+ghost use Rattle.docker_excerpt.specs.Values as values;
 ghost use Rattle.docker_office.specs.Faults.{IsOfDocker};
 ghost use Rattle.docker_office.specs.Office.{HoldsState, PrintsDocker, PrintsPart, TakesFile, no_state};
 ghost use Rattle.docker_office.specs.OfficeReads.{EndsReadingState, EndsTakingFile};
@@ -32,8 +33,6 @@ pub struct PlaceOffice {
 }
 
 impl Model for PlaceOffice {
-    ghost use Rattle.docker_excerpt.specs.Values as values;
-
     ghost Value = { values.Excerpt };
 
     ghost view = { λ office. office.excerpt };

@@ -1,6 +1,7 @@
 //! An iterator over the live keys of a state.
-ghost use Rattle.std.specs.Prelude.{◌≡◌, map};
+ghost use Rattle.std.specs.Prelude.{◌≡◌, map, List};
 ghost use Rattle.std.specs.Iterator.{YieldsFirstBy, item_count};
+ghost use Rattle.docker_model.specs.file.Change as model;
 ghost use Rattle.cif_change.specs.Meaning.{key_meant, body_meant};
 ghost use Rattle.docker_join.specs.Meaning.{row_meant};
 ghost use Rattle.docker_state.specs.Live.{live_rows};
@@ -16,11 +17,6 @@ pub struct Live<'a> {
 }
 
 impl<'a> Model for Live<'a> {
-    ghost use Rattle.std.specs.Prelude.{List, map};
-    ghost use Rattle.docker_model.specs.file.Change as model;
-    ghost use Rattle.docker_join.specs.Meaning.{row_meant};
-    ghost use Rattle.docker_state.specs.Live.{live_rows};
-
     ghost Value = { List (model.Key × model.Body) };
 
     ghost view = { λ live. live_rows (map row_meant live.rows.now) };

@@ -3,6 +3,7 @@ ghost use Rattle.std.specs.Prelude.{◌≡◌, ◌++◌, [], ◌∷◌, ◌-◌,
 ghost use Rattle.std.specs.Option.{option_copied, option_map};
 ghost use Rattle.docker_model.specs.state.State.{IsLedger, IsOpOf, IsValid};
 ghost use Rattle.docker_model.specs.state.StatePart.{IsStampHere};
+ghost use Rattle.docker_model.specs.state.State as states;
 ghost use Rattle.cif_change.specs.Meaning.{key_meant};
 ghost use Rattle.docker_join.specs.Meaning.{entry_meant, row_meant};
 ghost use Rattle.docker_state.specs.Meaning.{item_meant, state_meant};
@@ -26,10 +27,6 @@ pub struct Parts {
 }
 
 impl Model for Parts {
-    ghost use Rattle.docker_model.specs.state.State as states;
-    ghost use Rattle.docker_model.specs.state.State.{IsValid};
-    ghost use Rattle.docker_state.specs.Meaning.{state_meant};
-
     ghost Value = { states.State };
 
     ghost view = { λ parts. state_meant 0 parts.ledger.items parts.entries.items };

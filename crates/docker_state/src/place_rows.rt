@@ -1,6 +1,7 @@
 //! An iterator over the live rows at a place, found in an index or among all rows.
-ghost use Rattle.std.specs.Prelude.{◌≡◌};
+ghost use Rattle.std.specs.Prelude.{◌≡◌, List};
 ghost use Rattle.std.specs.Iterator.{YieldsFirstBy, item_count};
+ghost use Rattle.docker_model.specs.state.Row.{Row};
 ghost use Rattle.cif_change.specs.Meaning.{key_meant, body_meant};
 ghost use Rattle.docker_state.specs.Walked.{rows_walked};
 
@@ -40,10 +41,6 @@ pub struct PlaceRows<'a> {
 }
 
 impl<'a> Model for PlaceRows<'a> {
-    ghost use Rattle.std.specs.Prelude.{List};
-    ghost use Rattle.docker_model.specs.state.Row.{Row};
-    ghost use Rattle.docker_state.specs.Walked.{rows_walked};
-
     ghost Value = { List Row };
 
     ghost view = { λ rows. rows_walked rows.walk };

@@ -1,7 +1,8 @@
 //! The live rows at a place, found by a walk over all rows.
-ghost use Rattle.std.specs.Prelude.{◌≡◌, false, length, map};
+ghost use Rattle.std.specs.Prelude.{◌≡◌, false, length, map, List};
 ghost use Rattle.std.specs.Iterator.{YieldsFirstBy, item_count};
 ghost use Rattle.std.specs.Option.{option_map};
+ghost use Rattle.docker_model.specs.state.Row.{Row};
 ghost use Rattle.cif_change.specs.Meaning.{key_meant, body_meant};
 ghost use Rattle.docker_join.specs.Meaning.{row_meant};
 ghost use Rattle.docker_state.specs.PlaceRows.{is_call, is_here, is_link, row_here, rows_here};
@@ -23,11 +24,6 @@ pub(crate) struct SiftedRows<'a> {
 }
 
 impl<'a> Model for SiftedRows<'a> {
-    ghost use Rattle.std.specs.Prelude.{List, map};
-    ghost use Rattle.docker_model.specs.state.Row.{Row};
-    ghost use Rattle.docker_join.specs.Meaning.{row_meant};
-    ghost use Rattle.docker_state.specs.PlaceRows.{rows_here};
-
     ghost Value = { List Row };
 
     ghost view = { λ sifted.

@@ -9,8 +9,9 @@ ghost use Rattle.docker_model.specs.state.State.{IsLedger, IsGoodEntry, IsJoin, 
 ghost use Rattle.state_laws.specs.Staging.{IsToStage, IsStaged, IsCommit, staged_state};
 ghost use Rattle.cif_change.specs.Meaning.{key_meant};
 ghost use Rattle.docker_join.specs.Meaning.{entry_meant, floor_meant};
-ghost use Rattle.docker_state.specs.Meaning.{item_meant};
-ghost use Rattle.docker_state.specs.Staging.{IsAboveStaged, IsOffered, HasNothingNew, with_staged};
+ghost use Rattle.docker_state.specs.Meaning.{item_meant, state_meant};
+ghost use Rattle.docker_state.specs.Staging.{IsAboveStaged, IsOffered, HasNothingNew, with_staged, staging_meant};
+ghost use Rattle.docker_state.specs.Staging as received;
 
 use crate::floor::{common_floor, floor_of};
 use crate::item::LedgerItem;
@@ -36,12 +37,6 @@ pub struct Staging {
 }
 
 impl Model for Staging {
-    ghost use Rattle.std.specs.Prelude.{map};
-    ghost use Rattle.docker_model.specs.state.State.{IsValid};
-    ghost use Rattle.docker_state.specs.Meaning.{state_meant};
-    ghost use Rattle.docker_state.specs.Staging as received;
-    ghost use Rattle.docker_state.specs.Staging.{staging_meant};
-
     ghost Value = { received.Staging };
 
     ghost view = { λ it. staging_meant it.floor it.items.items it.staged.items };

@@ -19,7 +19,7 @@ ghost use Rattle.docker_model.specs.state.Table as tables;
 ghost use Rattle.docker_model.specs.state.Table.{IsPlainTable};
 ghost use Rattle.cif_file.specs.FileRead.{IsOfRecords};
 ghost use Rattle.cif_change.specs.Meaning.{change_meant};
-ghost use Rattle.docker_state.specs.Indexed.{HasRoomIfAny, IsIndexIfAny};
+ghost use Rattle.docker_state.specs.Indexed.{HasRoomIfAny, IsIndexIfAny, IsIndexed};
 ghost use Rattle.docker_state.specs.MadeState.{HaveRecords, IsMadeState, MakeValid};
 ghost use Rattle.docker_state.specs.Live.{live_rows, AreInKeyOrder};
 ghost use Rattle.docker_state.specs.Meaning.{item_meant, state_meant};
@@ -53,10 +53,6 @@ pub struct State {
 }
 
 impl Model for State {
-    ghost use Rattle.docker_model.specs.state.State as states;
-    ghost use Rattle.docker_state.specs.Indexed.{IsIndexed};
-    ghost use Rattle.docker_state.specs.Meaning.{state_meant};
-
     ghost Value = { states.State };
 
     ghost view = { λ state. state_meant state.horizon state.ledger.items state.entries };

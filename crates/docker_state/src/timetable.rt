@@ -6,8 +6,10 @@ ghost use Rattle.cif_change.specs.Meaning.{body_meant};
 ghost use Rattle.docker_model.specs.file.Change.{tiploc_key};
 ghost use Rattle.docker_model.specs.records.Date.{IsDay};
 ghost use Rattle.docker_model.specs.state.Op.{body_of};
+ghost use Rattle.docker_model.specs.state.State.{IsValid};
 ghost use Rattle.state_laws.specs.CountedRows.{IsOfGoodRows};
 ghost use Rattle.docker_state.specs.Timetables.{live_in};
+ghost use Rattle.docker_state.specs.Timetables as timetables;
 ghost use Rattle.state_laws.specs.Index.{AreCalling, AreLinked, AreOfUid};
 ghost use Rattle.docker_join.specs.Meaning.{op_meant};
 
@@ -28,9 +30,6 @@ pub struct Timetable<'a> {
 }
 
 impl<'a> Model for Timetable<'a> {
-    ghost use Rattle.docker_model.specs.state.State.{IsValid};
-    ghost use Rattle.docker_state.specs.Timetables as timetables;
-
     ghost Value = { timetables.Timetable };
 
     ghost view = { λ timetable. record {

@@ -1,8 +1,9 @@
 //! Iterators over those rows that count in a timetable.
-ghost use Rattle.std.specs.Prelude.{◌≡◌};
+ghost use Rattle.std.specs.Prelude.{◌≡◌, List};
 ghost use Rattle.std.specs.Iterator.{YieldsFirstBy, item_count};
 ghost use Rattle.cif_change.specs.Meaning.{key_meant, body_meant};
 ghost use Rattle.docker_model.specs.docker.Permanent.{is_permanent};
+ghost use Rattle.docker_model.specs.state.Row.{Row};
 ghost use Rattle.state_laws.specs.CountedRows.{counted_rows};
 ghost use Rattle.docker_state.specs.Timetables.{counts};
 
@@ -22,11 +23,6 @@ pub struct TimetableRows<'a> {
 }
 
 impl<'a> Model for TimetableRows<'a> {
-    ghost use Rattle.std.specs.Prelude.{List};
-    ghost use Rattle.docker_model.specs.state.Row.{Row};
-    ghost use Rattle.state_laws.specs.CountedRows.{counted_rows};
-    ghost use Rattle.docker_state.specs.Timetables.{counts};
-
     ghost Value = { List Row };
 
     ghost view = { λ walk. counted_rows (counts walk.permanent) walk.rows };
@@ -69,11 +65,6 @@ pub struct UidSchedules<'a> {
 }
 
 impl<'a> Model for UidSchedules<'a> {
-    ghost use Rattle.std.specs.Prelude.{List};
-    ghost use Rattle.docker_model.specs.state.Row.{Row};
-    ghost use Rattle.state_laws.specs.CountedRows.{counted_rows};
-    ghost use Rattle.docker_state.specs.Timetables.{counts};
-
     ghost Value = { List Row };
 
     ghost view = { λ walk. counted_rows (counts walk.permanent) walk.rows };

@@ -4,6 +4,7 @@ ghost use Rattle.std.specs.Option.{option_copied, option_map};
 ghost use Rattle.docker_join.specs.Meaning.{stamp_meant};
 ghost use Rattle.docker_model.specs.lists.TrainText.{found_lines};
 ghost use Rattle.docker_model.specs.lists.TrainText as text;
+ghost use Rattle.docker_train.specs.Answer as answer;
 
 use crate::stamped::Stamped;
 use cif_line::{Day, Line, Uid};
@@ -20,8 +21,6 @@ pub struct ChosenTrain<'a> {
 }
 
 impl<'a> Model for ChosenTrain<'a> {
-    ghost use Rattle.docker_train.specs.Answer as answer;
-
     ghost Value = { answer.Answer };
 
     ghost view = { λ train. record {

@@ -6,6 +6,7 @@ ghost use Rattle.docker_state.specs.Timetables.{live_in};
 ghost use Rattle.train_choice.specs.Along.{IsLiveTrain};
 ghost use Rattle.docker_model.specs.lists.TrainsText.{gives_identity, is_identified};
 ghost use Rattle.docker_train.specs.TrainRows.{is_listed};
+ghost use Rattle.docker_train.specs.TrainRows as rows;
 
 use cif_line::{Day, Kind, Line, kind};
 use docker_state::{State, Timetable};
@@ -21,9 +22,6 @@ pub(crate) struct Listing<'a> {
 }
 
 impl<'a> Model for Listing<'a> {
-    ghost use Rattle.std.specs.Prelude.{◌≡◌};
-    ghost use Rattle.docker_train.specs.TrainRows as rows;
-
     ghost Value = { rows.Listing };
 
     ghost view = { λ listing. record {

@@ -1,5 +1,6 @@
 //! A schedule with its stamp. The stamp identifies the extract that the schedule came from.
 ghost use Rattle.std.specs.Prelude.{◌≡◌, ◌<◌};
+ghost use Rattle.docker_model.specs.lists.TrainText as text;
 ghost use Rattle.docker_join.specs.Meaning.{stamp_meant};
 
 use docker_join::Stamp;
@@ -14,10 +15,6 @@ pub(crate) struct Stamped<'a> {
 }
 
 impl<'a> Model for Stamped<'a> {
-    ghost use Rattle.std.specs.Prelude.{◌<◌};
-    ghost use Rattle.docker_join.specs.Meaning.{stamp_meant};
-    ghost use Rattle.docker_model.specs.lists.TrainText as text;
-
     ghost Value = { text.Stamped };
 
     ghost view = { λ stamped. record {

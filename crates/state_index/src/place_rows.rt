@@ -9,6 +9,7 @@ ghost use Rattle.std.specs.Ordering.{is_lt, is_le, nat_cmp};
 ghost use Rattle.docker_model.specs.state.Order.{bytes_cmp, IsStrictlyAscending};
 ghost use Rattle.docker_model.specs.file.Change as model;
 ghost use Rattle.docker_model.specs.state.Op as ops;
+ghost use Rattle.docker_model.specs.state.Row.{Row};
 ghost use Rattle.state_index.specs.Spots.{spots_in};
 ghost use Rattle.state_index.specs.PostingOrder.{posting_cmp};
 ghost use Rattle.state_index.specs.PlaceRows.{rows_at_spots, rows_at_postings, live_at_posting, IsPieceAt, IsPieceOf};
@@ -29,11 +30,6 @@ pub struct IndexedRows<'a> {
 }
 
 impl<'a> Model for IndexedRows<'a> {
-    ghost use Rattle.std.specs.Prelude.{List, map};
-    ghost use Rattle.docker_model.specs.state.Row.{Row};
-    ghost use Rattle.docker_join.specs.Meaning.{row_meant};
-    ghost use Rattle.state_index.specs.PlaceRows.{rows_at_postings};
-
     ghost Value = { List Row };
 
     ghost view = { λ it. rows_at_postings (map row_meant it.rows.now) it.postings.now };

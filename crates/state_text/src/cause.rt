@@ -1,6 +1,7 @@
 //! Causes: the reasons why bytes aren't the text of a state.
 ghost use Rattle.std.specs.Prelude.{◌≡◌, ◌≤◌, Some, length};
 ghost use Rattle.state_text.specs.CauseText.{cause_text};
+ghost use Rattle.state_text.specs.declared.cause.StateCause.TheVariants.{Memory as wanting};
 
 use cif_line::Memory;
 use std::alloc::AllocError;
@@ -73,9 +74,6 @@ impl fmt::Display for StateCause {
 impl Error for StateCause {}
 
 impl From<AllocError> for StateCause {
-    ghost use Rattle.state_text.specs.declared.cause.StateCause.TheVariants.{Memory as wanting};
-    ghost use Rattle.std.specs.Prelude.{◌≡◌};
-
     ghost from_gives = { λ _ cause. cause ≡ wanting };
 
     fn from(_refused: AllocError) -> StateCause {
@@ -84,9 +82,6 @@ impl From<AllocError> for StateCause {
 }
 
 impl From<Memory> for StateCause {
-    ghost use Rattle.state_text.specs.declared.cause.StateCause.TheVariants.{Memory as wanting};
-    ghost use Rattle.std.specs.Prelude.{◌≡◌};
-
     ghost from_gives = { λ _ cause. cause ≡ wanting };
 
     fn from(_wanting: Memory) -> StateCause {

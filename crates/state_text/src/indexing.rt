@@ -1,5 +1,6 @@
 //! A keeper that keeps all parts and makes a state with an index from them.
 ghost use Rattle.std.specs.Prelude.{◌≡◌, []};
+ghost use Rattle.docker_model.specs.state.State as states;
 
 use crate::keeper::{Maker, PartKeeper};
 use crate::whole::Whole;
@@ -18,8 +19,6 @@ pub struct Indexing {
 }
 
 impl Model for Indexing {
-    ghost use Rattle.docker_model.specs.state.State as states;
-
     ghost Value = { states.State };
 
     ghost view = { λ indexing. indexing.whole };
@@ -62,8 +61,6 @@ impl PartKeeper for Indexing {
 }
 
 impl Maker for Indexing {
-    ghost use Rattle.std.specs.Prelude.{◌≡◌};
-
     type Made = State;
 
     ghost makes = { λ made state. made ≡ state };

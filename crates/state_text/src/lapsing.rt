@@ -2,7 +2,11 @@
 //! the keeper is given the entry.
 ghost use Rattle.std.specs.Prelude.{◌≡◌, ℕ, [], max};
 ghost use Rattle.docker_model.specs.records.Date.{IsDay};
+ghost use Rattle.docker_model.specs.state.State as states;
+ghost use Rattle.docker_model.specs.state.State.{raise_horizon};
 ghost use Rattle.state_text.specs.PartsSoFar.{horizon_meant};
+ghost use Rattle.state_text.specs.Lapsing.{HasLapsed};
+ghost use Rattle.state_text.specs.Receiving.{given_state};
 
 use crate::given::Given;
 use crate::keeper::{Maker, PartKeeper};
@@ -36,10 +40,6 @@ pub struct Lapsing<D: HorizonDay> {
 }
 
 impl<D: HorizonDay> Model for Lapsing<D> {
-    ghost use Rattle.docker_model.specs.state.State as states;
-    ghost use Rattle.state_text.specs.Lapsing.{HasLapsed};
-    ghost use Rattle.state_text.specs.Receiving.{given_state};
-
     ghost Value = { states.State };
 
     ghost view = { λ it. given_state it.parts.ledger it.given.entries };
@@ -102,9 +102,6 @@ impl<D: HorizonDay> PartKeeper for Lapsing<D> {
 }
 
 impl<D: HorizonDay> Maker for Lapsing<D> {
-    ghost use Rattle.std.specs.Prelude.{◌≡◌};
-    ghost use Rattle.docker_model.specs.state.State.{raise_horizon};
-
     type Made = State;
 
     ghost makes = { λ made state. made ≡ raise_horizon D.day state };

@@ -3,11 +3,12 @@ ghost use Rattle.std.specs.Prelude.{◌≡◌, ◌-◌, ◌^◌, ◌<◌, [], �
 ghost use Rattle.std.specs.Option.{option_copied, option_map};
 ghost use Rattle.docker_model.specs.state.State.{IsLedger, IsOpOf, IsValid, IsJoin};
 ghost use Rattle.docker_model.specs.state.StatePart.{IsStampHere};
+ghost use Rattle.docker_model.specs.state.State as states;
 ghost use Rattle.cif_change.specs.Meaning.{key_meant};
 ghost use Rattle.docker_join.specs.Meaning.{entry_meant};
 ghost use Rattle.docker_state.specs.Meaning.{item_meant};
 ghost use Rattle.docker_state.specs.Parts.{last_key, under};
-ghost use Rattle.state_text.specs.PartsSoFar.{with_item, with_row};
+ghost use Rattle.state_text.specs.PartsSoFar.{horizon_meant, with_item, with_row};
 
 use crate::keeper::{Maker, PartKeeper};
 use crate::received::Received;
@@ -26,10 +27,6 @@ pub struct PartsSoFar<K: PartKeeper> {
 }
 
 impl<K: PartKeeper> Model for PartsSoFar<K> {
-    ghost use Rattle.docker_model.specs.state.State as states;
-    ghost use Rattle.docker_state.specs.Parts.{under};
-    ghost use Rattle.state_text.specs.PartsSoFar.{horizon_meant};
-
     ghost Value = { states.State };
 
     ghost view = { λ it. under (horizon_meant it.horizon) (K.given it.keeper) };

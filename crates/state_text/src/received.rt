@@ -1,8 +1,10 @@
 //! A keeper that passes the parts to a state, which receives them.
 ghost use Rattle.std.specs.Prelude.{◌≡◌, [], IsOk, IsErr};
 ghost use Rattle.docker_model.specs.state.State.{State, IsValid, IsJoin};
+ghost use Rattle.docker_model.specs.state.State as states;
 ghost use Rattle.docker_state.specs.Parts.{under};
 ghost use Rattle.state_text.specs.PartsSoFar.{horizon_meant};
+ghost use Rattle.state_text.specs.Receiving.{given_of, IsReceiving};
 
 use crate::keeper::PartKeeper;
 use crate::receiving::{Receiver, Receiving};
@@ -20,9 +22,6 @@ pub struct Received<R: Receiver> {
 }
 
 impl<R: Receiver> Model for Received<R> {
-    ghost use Rattle.docker_model.specs.state.State as states;
-    ghost use Rattle.state_text.specs.Receiving.{given_of, IsReceiving};
-
     ghost Value = { states.State };
 
     ghost view = { λ received. given_of received.receiving };

@@ -30,8 +30,6 @@ pub trait Receiver {
 }
 
 impl Receiver for Brand {
-    ghost use Rattle.std.specs.Prelude.{[]};
-
     ghost own = { record { horizon = 0; ledger = []; entries = [] } };
 }
 

@@ -1,5 +1,5 @@
 //! Reads the lines of a schedule.
-ghost use Rattle.std.specs.Prelude.{◌≡◌, ◌+◌, ◌-◌, ◌<◌, ◌↔◌, ◌⊎◌, [], ◌∷◌, ◌++◌, length, false, IsTrue, IsOk, IfOk, IfErr};
+ghost use Rattle.std.specs.Prelude.{◌≡◌, ◌+◌, ◌-◌, ◌<◌, ◌↔◌, ◌⊎◌, [], ◌∷◌, ◌++◌, ℕ, length, false, IsTrue, IsOk, IfOk, IfErr, List};
 ghost use Rattle.cif_change.specs.JourneyRead.{HasLines};
 ghost use Rattle.docker_model.specs.file.File.{BeginsSchedule};
 ghost use Rattle.cif_change.specs.Meaning.{schedule_key_meant};
@@ -26,9 +26,6 @@ pub struct Gathered {
 }
 
 impl Model for Gathered {
-    ghost use Rattle.std.specs.Prelude.{List, ℕ};
-    ghost use Rattle.cif_change.specs.JourneyRead.{HasLines};
-
     ghost Value = { List (List ℕ) };
 
     ghost view = { λ gathered. gathered.lines.items };

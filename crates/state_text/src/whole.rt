@@ -1,5 +1,6 @@
 //! A keeper that keeps all parts and makes a state without an index from them.
 ghost use Rattle.std.specs.Prelude.{◌≡◌, []};
+ghost use Rattle.docker_model.specs.state.State as states;
 
 use crate::keeper::{Maker, PartKeeper};
 use cif_file::Key;
@@ -16,9 +17,6 @@ pub struct Whole {
 }
 
 impl Model for Whole {
-    ghost use Rattle.std.specs.Prelude.{◌≡◌};
-    ghost use Rattle.docker_model.specs.state.State as states;
-
     ghost Value = { states.State };
 
     ghost view = { λ whole. whole.parts };
@@ -62,8 +60,6 @@ impl PartKeeper for Whole {
 }
 
 impl Maker for Whole {
-    ghost use Rattle.std.specs.Prelude.{◌≡◌};
-
     type Made = State;
 
     ghost makes = { λ made state. made ≡ state };

@@ -10,7 +10,7 @@ ghost use Rattle.docker_laws.specs.LiveRows.{Link, link_in};
 ghost use Rattle.docker_model.specs.state.Row.{Row, AreRowsOf};
 ghost use Rattle.docker_model.specs.state.State.{IsBodyOf};
 ghost use Rattle.train_choice.specs.Along.{link_along, AreGoodRows};
-ghost use Rattle.train_choice.specs.Known.{group_cmp, HasOneMore};
+ghost use Rattle.train_choice.specs.Known.{group_cmp, HasOneMore, PlaceDay, AreDayLinks};
 ghost use Rattle.docker_state.specs.Timetables.{live_in};
 
 use crate::link_group::LinkGroup;
@@ -38,9 +38,6 @@ pub struct DayLinks<'a> {
 }
 
 impl<'a> Model for DayLinks<'a> {
-    ghost use Rattle.docker_state.specs.Timetables.{live_in};
-    ghost use Rattle.train_choice.specs.Known.{PlaceDay, AreDayLinks};
-
     ghost Value = { PlaceDay };
 
     ghost view = { λ links. record {

@@ -6,6 +6,7 @@ ghost use Rattle.docker_model.specs.docker.Choice.{schedule_runs};
 ghost use Rattle.docker_laws.specs.Gathering.{runs_by};
 ghost use Rattle.docker_laws.specs.LiveRows.{train_in};
 ghost use Rattle.train_choice.specs.Along.{IsLiveTrain};
+ghost use Rattle.train_choice.specs.Known.{StartDay, IsKnownTrain};
 ghost use Rattle.cif_change.specs.Meaning.{schedule_key_meant};
 ghost use Rattle.docker_state.specs.Timetables.{live_in};
 
@@ -29,9 +30,6 @@ pub struct DayTrains<'a> {
 }
 
 impl<'a> Model for DayTrains<'a> {
-    ghost use Rattle.docker_state.specs.Timetables.{live_in};
-    ghost use Rattle.train_choice.specs.Known.{StartDay, IsKnownTrain};
-
     ghost Value = { StartDay };
 
     ghost view = { λ trains. record {

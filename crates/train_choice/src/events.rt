@@ -1,9 +1,9 @@
 //! The events of a schedule, in order.
-ghost use Rattle.std.specs.Prelude.{◌≡◌, ◌^◌, ◌<◌, None, All, length};
+ghost use Rattle.std.specs.Prelude.{◌≡◌, ◌^◌, ◌<◌, None, All, length, List};
 ghost use Rattle.std.specs.Iterator.{YieldsFirstBy, item_count};
 ghost use Rattle.docker_model.specs.records.Field.{HasGoodFields};
-ghost use Rattle.train_choice.specs.Occurrences.{occurrences_from};
-ghost use Rattle.train_choice.specs.EventWalk.{occurrence_meant};
+ghost use Rattle.train_choice.specs.Occurrences.{Occurrence as Event, occurrences_from};
+ghost use Rattle.train_choice.specs.EventWalk.{CanWalk, events_left, occurrence_meant};
 
 use crate::walk::{EventWalk, Occurrence};
 use cif_line::Line;
@@ -17,10 +17,6 @@ pub struct Events<'a> {
 }
 
 impl<'a> Model for Events<'a> {
-    ghost use Rattle.std.specs.Prelude.{List};
-    ghost use Rattle.train_choice.specs.Occurrences.{Occurrence as Event};
-    ghost use Rattle.train_choice.specs.EventWalk.{events_left, CanWalk};
-
     ghost Value = { List Event };
 
     ghost view = { λ events. events_left events.walk events.lines.now };

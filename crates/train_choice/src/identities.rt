@@ -4,6 +4,8 @@ ghost use Rattle.docker_model.specs.state.Row.{Row, AreRowsOf};
 ghost use Rattle.docker_laws.specs.Gathering.{identity_of};
 ghost use Rattle.docker_laws.specs.LiveRows.{train_in};
 ghost use Rattle.docker_state.specs.Timetables.{live_in};
+ghost use Rattle.docker_state.specs.Timetables as timetables;
+ghost use Rattle.train_choice.specs.Known.{AreIdentities};
 
 use crate::choice::train_on;
 use crate::schedule_view::ScheduleView;
@@ -22,10 +24,6 @@ pub struct Identities<'a> {
 }
 
 impl<'a> Model for Identities<'a> {
-    ghost use Rattle.docker_state.specs.Timetables as timetables;
-    ghost use Rattle.docker_state.specs.Timetables.{live_in};
-    ghost use Rattle.train_choice.specs.Known.{AreIdentities};
-
     ghost Value = { timetables.Timetable };
 
     ghost view = { λ identities. identities.timetable };

@@ -1,6 +1,6 @@
 //! Groups of associations: for a day, at most one association of a group is chosen.
 ghost use Rattle.std.specs.Prelude.{◌≡◌};
-ghost use Rattle.docker_model.specs.docker.Choice.{group_of};
+ghost use Rattle.docker_model.specs.docker.Choice.{Group, group_of};
 ghost use Rattle.cif_change.specs.Meaning.{association_key_meant};
 
 use cif_change::AssocKey;
@@ -18,8 +18,6 @@ pub(crate) struct LinkGroup {
 }
 
 impl Model for LinkGroup {
-    ghost use Rattle.docker_model.specs.docker.Choice.{Group};
-
     ghost Value = { Group };
 
     ghost view = { λ group. record {

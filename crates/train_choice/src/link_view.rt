@@ -4,6 +4,7 @@ ghost use Rattle.docker_model.specs.records.Record.{association, HasKind};
 ghost use Rattle.docker_model.specs.records.Field.{HasGoodFields, is_deletion};
 ghost use Rattle.docker_model.specs.state.State.{IsAssociationOf};
 ghost use Rattle.docker_model.specs.docker.Choice.{association_runs};
+ghost use Rattle.docker_laws.specs.LiveRows.{Link};
 ghost use Rattle.cif_change.specs.Meaning.{association_key_meant};
 
 use crate::days_run::association_runs;
@@ -20,10 +21,6 @@ pub struct LinkView<'a> {
 }
 
 impl<'a> Model for LinkView<'a> {
-    ghost use Rattle.docker_laws.specs.LiveRows.{Link};
-    ghost use Rattle.docker_model.specs.state.State.{IsAssociationOf};
-    ghost use Rattle.cif_change.specs.Meaning.{association_key_meant};
-
     ghost Value = { Link };
 
     ghost view = { λ view. record {

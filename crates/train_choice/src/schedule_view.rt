@@ -4,7 +4,7 @@ ghost use Rattle.docker_model.specs.records.Record.{basic_schedule, HasKind, col
 ghost use Rattle.docker_model.specs.records.Field.{HasGoodFields, is_deletion};
 ghost use Rattle.docker_model.specs.file.File.{first_record};
 ghost use Rattle.docker_model.specs.state.State.{IsScheduleOf};
-ghost use Rattle.docker_model.specs.docker.Choice.{schedule_runs};
+ghost use Rattle.docker_model.specs.docker.Choice.{Train, schedule_runs};
 ghost use Rattle.docker_model.specs.docker.Event.{falls_to};
 ghost use Rattle.cif_change.specs.Meaning.{schedule_key_meant};
 ghost use Rattle.train_choice.specs.RecentRuns.{AreRecentRuns, may_run_recently, runs_back};
@@ -28,10 +28,6 @@ pub struct ScheduleView<'a> {
 }
 
 impl<'a> Model for ScheduleView<'a> {
-    ghost use Rattle.docker_model.specs.docker.Choice.{Train};
-    ghost use Rattle.docker_model.specs.state.State.{IsScheduleOf};
-    ghost use Rattle.cif_change.specs.Meaning.{schedule_key_meant};
-
     ghost Value = { Train };
 
     ghost view = { λ view. record {

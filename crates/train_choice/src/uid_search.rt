@@ -3,6 +3,7 @@ ghost use Rattle.std.specs.Prelude.{◌≡◌};
 ghost use Rattle.state_laws.specs.CountedRows.{IsOfGoodRows};
 ghost use Rattle.state_laws.specs.Index.{AreOfUid};
 ghost use Rattle.docker_state.specs.Timetables.{live_in};
+ghost use Rattle.docker_state.specs.Timetables as timetables;
 
 use cif_line::Uid;
 use docker_state::{Timetable, UidSchedules};
@@ -17,8 +18,6 @@ pub(crate) struct UidSearch<'a> {
 }
 
 impl<'a> Model for UidSearch<'a> {
-    ghost use Rattle.docker_state.specs.Timetables as timetables;
-
     ghost Value = { timetables.Timetable };
 
     ghost view = { λ from. from.timetable };

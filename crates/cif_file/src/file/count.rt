@@ -1,6 +1,6 @@
 //! The counts of a CIF file that was checked but not kept.
 ghost use Rattle.std.specs.Prelude.{◌≡◌};
-ghost use Rattle.cif_file.specs.FileRead.{IsCounted};
+ghost use Rattle.cif_file.specs.FileRead.{FileCounted, IsCounted};
 
 use crate::file::header_line::HeaderLine;
 use cif_line::Header;
@@ -15,8 +15,6 @@ pub struct FileCount {
 }
 
 impl Model for FileCount {
-    ghost use Rattle.cif_file.specs.FileRead.{FileCounted, IsCounted};
-
     ghost Value = { FileCounted };
 
     ghost view = { λ count. record {

@@ -1,4 +1,5 @@
 //! A CIF file that was read to its trailer.
+ghost use Rattle.std.specs.Prelude.{◌≡◌};
 ghost use Rattle.cif_file.specs.FileRead.{IsCounted};
 ghost use Rattle.cif_file.specs.MadeChanges.{ArePartsOfFile};
 ghost use Rattle.cif_file.specs.EndedRead.{file_ended, parts_ended, count_ended};
@@ -23,8 +24,6 @@ pub struct Ended<K> {
 }
 
 impl Ended<FileSoFar> {
-    ghost use Rattle.std.specs.Prelude.{◌≡◌};
-
     /// Makes the file, with all of its changes, which the keeper has kept.
     pub(crate) fn into_file(self) -> CifFile
         requires { ArePartsOfFile (parts_ended self) }
@@ -46,8 +45,6 @@ impl Ended<FileSoFar> {
 }
 
 impl Ended<CountingKeeper> {
-    ghost use Rattle.std.specs.Prelude.{◌≡◌};
-
     /// Makes a `FileCount` of the file.
     pub(crate) fn into_count(self) -> FileCount
         requires { IsCounted (count_ended self) }

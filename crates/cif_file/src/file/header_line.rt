@@ -1,5 +1,7 @@
 //! The header of a CIF file, stored as its line.
-ghost use Rattle.std.specs.Prelude.{◌≡◌};
+ghost use Rattle.std.specs.Prelude.{◌≡◌, ℕ, List};
+ghost use Rattle.docker_model.specs.records.Record.{header};
+ghost use Rattle.cif_line.specs.View.{IsGood};
 
 use cif_line::{Header, Line};
 use std::marker::Model;
@@ -11,10 +13,6 @@ pub struct HeaderLine {
 }
 
 impl Model for HeaderLine {
-    ghost use Rattle.std.specs.Prelude.{List, ℕ};
-    ghost use Rattle.docker_model.specs.records.Record.{header};
-    ghost use Rattle.cif_line.specs.View.{IsGood};
-
     ghost Value = { List ℕ };
 
     ghost view = { λ header_line. header_line.line };

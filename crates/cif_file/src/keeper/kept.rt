@@ -1,5 +1,5 @@
 //! The keeper that keeps all changes of a file.
-ghost use Rattle.std.specs.Prelude.{[], OnOk};
+ghost use Rattle.std.specs.Prelude.{[], ⊤, OnOk};
 ghost use Rattle.cif_file.specs.KeeperRead.{KeepsAll};
 ghost use Rattle.cif_file.specs.MadeChanges.{Makes};
 ghost use Rattle.cif_file.specs.SingleChanges.{listed};
@@ -34,8 +34,6 @@ impl FileSoFar {
 }
 
 impl ChangeKeeper for FileSoFar {
-    ghost use Rattle.std.specs.Prelude.{⊤};
-
     ghost keeps = { KeepsAll };
 
     ghost wants = { ⊤ };
