@@ -14,6 +14,7 @@ use crate::days::Days;
 use crate::letter::{Stp, Transaction};
 use crate::line::Line;
 use crate::time::Time;
+use crate::time_field::is_blank_time;
 use crate::tiploc_code::Tiploc;
 use crate::uid::Uid;
 use crate::until::Until;
@@ -26,10 +27,7 @@ impl Line {
         requires good { is_tiploc (field_at first 7 self.now) ≡ true }
         ensures { result ≡ field_at first 7 self.now }
     {
-        match Tiploc::from_field(self.field(first)) {
-            Some(tiploc) => tiploc,
-            None => unreachable!(),
-        }
+        Tiploc::from_field(self.field(first)).unwrap()
     }
 
     /// The scheduled time in the five columns that begin at `first`. The columns must not be blank.
@@ -44,13 +42,18 @@ impl Line {
 
     /// The scheduled time in the five columns that begin at `first`. Returns `None` if they are
     /// blank.
+    #[tactic(auto, using(crate::proofs::Times::scheduled_times))]
     pub fn scheduled_time(&self, first: usize) -> Option<Time>
         requires from { 0 < first }
         requires within { first ≤ 76 }
         requires good { is_scheduled_time (field_at first 5 self.now) ≡ true }
         ensures { result ≡ scheduled_time (field_at first 5 self.now) }
     {
-        Time::from_scheduled(self.field(first))
+        let field = self.field(first);
+        if is_blank_time(field) {
+            return None;
+        }
+        Some(Time::from_present(field))
     }
 
     /// The public time, a whole minute, in the four columns that begin at `first`. Returns `None`
@@ -71,10 +74,7 @@ impl Line {
         requires within { first ≤ 75 }
         ensures { result ≡ field_at first 6 self.now }
     {
-        match Uid::from_field(self.field(first)) {
-            Some(uid) => uid,
-            None => unreachable!(),
-        }
+        Uid::from_field(self.field(first)).unwrap()
     }
 
     /// The day in the six columns that begin at `first`, written YYMMDD.
@@ -113,7 +113,8 @@ impl Line {
         if self.is_deletion() {
             return None;
         }
-        Some(Days::of_flags(self.field(first)))
+        let flags = *self.field(first);
+        Some(Days { flags })
     }
 
     /// Whether the transaction is a deletion: column 3 is `D`.
@@ -128,10 +129,7 @@ impl Line {
         requires good { is_transaction (column 3 self.now ∷ []) ≡ true }
         ensures { transaction_letter result ≡ column 3 self.now }
     {
-        match Transaction::from_letter(self.column(3)) {
-            Some(transaction) => transaction,
-            None => unreachable!(),
-        }
+        Transaction::from_letter(self.column(3)).unwrap()
     }
 
     /// The STP indicator: column 80.
@@ -139,9 +137,6 @@ impl Line {
         requires good { is_stp_letter (column 80 self.now) ≡ true }
         ensures { stp_letter result ≡ column 80 self.now }
     {
-        match Stp::from_letter(self.column(80)) {
-            Some(stp) => stp,
-            None => unreachable!(),
-        }
+        Stp::from_letter(self.column(80)).unwrap()
     }
 }

@@ -15,7 +15,7 @@ use std::marker::Model;
 /// A view of a header (HD) whose checked fields are good.
 #[derive(Debug, Drop)]
 pub struct Header<'a> {
-    line: &'a Line,
+    pub(crate) line: &'a Line,
 }
 
 impl<'a> Model for Header<'a> {
@@ -57,10 +57,7 @@ impl<'a> Header<'a> {
         ensures bound { result < 1440 }
     {
         let field: &[u8; 4] = self.line.field(29);
-        match clock(field) {
-            Some(minute) => minute,
-            None => unreachable!(),
-        }
+        clock(field).unwrap()
     }
 
     /// The current file reference, which identifies this extract: columns 33 to 39.
@@ -83,9 +80,6 @@ impl<'a> Header<'a> {
     pub fn extract(&self) -> Extract
         ensures { extract_letter result ≡ column 47 self.now }
     {
-        match Extract::from_letter(self.line.column(47)) {
-            Some(extract) => extract,
-            None => unreachable!(),
-        }
+        Extract::from_letter(self.line.column(47)).unwrap()
     }
 }

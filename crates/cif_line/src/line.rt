@@ -81,10 +81,7 @@ impl Line {
         ensures bytes { result.now ≡ field_at first N self.now }
         ensures text { IsTextOfLength N result.now }
     {
-        match self.bytes[first - 1..first - 1 + N].first_chunk() {
-            Some(field) => field,
-            None => unreachable!(),
-        }
+        self.bytes[first - 1..first - 1 + N].first_chunk().unwrap()
     }
 
     /// The byte in column `n`. Columns count from 1.
@@ -138,10 +135,7 @@ fn bad_column(bytes: &[u8; 80]) -> u8
     requires { ¬ (AllPass is_printable bytes.now) }
     ensures { leftmost_bad_byte bytes.now ≡ Some result }
 {
-    match first_bad_index(bytes) {
-        Some(index) => index as u8 + 1,
-        None => unreachable!(),
-    }
+    first_bad_index(bytes).unwrap() as u8 + 1
 }
 
 /// Whether a line may contain all of these bytes.

@@ -103,13 +103,11 @@ impl<K: PartKeeper> StateReading<K> {
         ensures err { IfErr result (λ fault. IsPartRefused self.old bytes.now fault) }
         ensures next { IsOk result → HasOneLineMore self.old self.new }
     {
-        match judged_inner_line(key, &self.parts, count, &mut self.lines, bytes) {
-            Ok(()) => {
-                self.reached += bytes.len() as u64;
-                Ok(())
-            }
-            Err(cause) => Err(self.bad(cause)),
+        if let Err(cause) = judged_inner_line(key, &self.parts, count, &mut self.lines, bytes) {
+            return Err(self.bad(cause));
         }
+        self.reached += bytes.len() as u64;
+        Ok(())
     }
 
     /// How many lines at the front of a piece of `len` bytes can be taken in one step. These lines
@@ -123,13 +121,6 @@ impl<K: PartKeeper> StateReading<K> {
         let held = (len / LINE) as u64;
         let allowed = (self.limit - self.reached) / LINE as u64;
         held.min(allowed).min(self.lines.before_last(count) as u64)
-    }
-
-    /// Reserves room for all lines of the schedule, if the piece has all of them.
-    fn make_room(&mut self, count: u32, piece: &[u8])
-        ensures { self.new ≡ self.old }
-    {
-        self.lines.make_room(self.alloc, count, piece.len());
     }
 
     /// Takes the complete lines at the front of a piece, up to but not including the schedule's
@@ -151,7 +142,7 @@ impl<K: PartKeeper> StateReading<K> {
         if !self.partial.is_empty() {
             return Ok(piece);
         }
-        self.make_room(count, piece);
+        self.lines.make_room(self.alloc, count, piece.len());
         let mut more = self.inner_lines(count, piece.len());
         let mut rest = piece;
         'lines: while more > 0 {
@@ -206,14 +197,8 @@ impl<K: PartKeeper> StateReading<K> {
                 return self.take_line(&key, count, bytes);
             }
         }
-        match step(
-            self.alloc,
-            self.format,
-            self.stage,
-            &mut self.parts,
-            &mut self.lines,
-            bytes,
-        ) {
+        let (parts, lines) = (&mut self.parts, &mut self.lines);
+        match step(self.alloc, self.format, self.stage, parts, lines, bytes) {
             Ok(stage) => {
                 self.stage = stage;
                 self.reached += bytes.len() as u64;
@@ -302,30 +287,11 @@ impl<K: Maker> StateReading<K> {
         ensures err { IfErr result (λ fault. IsUnended (format_of self) self.limit
             (text_of self) fault) }
     {
-        let StateReading {
-            alloc: _,
-            format: _,
-            limit: _,
-            stage,
-            parts,
-            lines: _,
-            partial: _,
-            item_at,
-            reached: _,
-        } = self;
-        if stage.width() > 0 {
-            return Err(StateFault {
-                at: item_at,
-                cause: StateCause::Short,
-            });
+        if !self.is_done() {
+            return Err(self.bad(StateCause::Short));
         }
-        match parts.finish() {
-            Ok(made) => Ok(made),
-            Err(_) => Err(StateFault {
-                at: item_at,
-                cause: StateCause::Memory,
-            }),
-        }
+        let out_of_memory = self.bad(StateCause::Memory);
+        self.parts.finish().map_err(|_| out_of_memory)
     }
 }
 
@@ -341,19 +307,13 @@ impl<R: Receiver> StateReading<Received<R>> {
             (text_of self) fault) }
         ensures back { IsErr result.1 → result.0 ≡ R.own }
     {
-        let at = self.item_at;
-        if self.stage.width() > 0 {
-            let cause = StateCause::Short;
-            return (self.parts.into_own(), Err(StateFault { at, cause }));
+        if !self.is_done() {
+            let short = self.bad(StateCause::Short);
+            return (self.parts.into_own(), Err(short));
         }
+        let out_of_memory = self.bad(StateCause::Memory);
         let (state, done) = self.parts.join();
-        match done {
-            Ok(()) => (state, Ok(())),
-            Err(wanting) => {
-                let cause = StateCause::from(wanting);
-                (state, Err(StateFault { at, cause }))
-            }
-        }
+        (state, done.map_err(|_| out_of_memory))
     }
 
     /// Returns the receiving state unchanged.

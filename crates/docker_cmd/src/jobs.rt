@@ -64,13 +64,19 @@ impl Job {
     pub fn tiploc(&self) -> Option<Tiploc>
         ensures { result ≡ tiploc_of self.now.task }
     {
-        self.task.tiploc()
+        match self.task {
+            Task::Day { place, .. } | Task::Print { place, .. } => Some(place),
+            _ => None,
+        }
     }
 
     /// Returns the day that the words name; `None` if the subcommand takes no day.
     pub fn day(&self) -> Option<Day>
         ensures { result ≡ day_of self.now.task }
     {
-        self.task.day()
+        match self.task {
+            Task::Day { day, .. } | Task::Print { day, .. } | Task::Horizon { day } => Some(day),
+            _ => None,
+        }
     }
 }

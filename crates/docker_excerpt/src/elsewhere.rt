@@ -75,8 +75,5 @@ fn line_of(bytes: &[u8; 80]) -> Line
     requires { IsRecord bytes.now }
     ensures { result ≡ bytes.now }
 {
-    match Line::of(bytes) {
-        Some(line) => line,
-        None => unreachable!(),
-    }
+    Line::of(bytes).unwrap()
 }

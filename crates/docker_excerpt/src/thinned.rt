@@ -45,13 +45,6 @@ impl Thinned {
         }
     }
 
-    /// The day of the docker.
-    pub(crate) fn day(&self) -> Day
-        ensures { result ≡ self.now.day }
-    {
-        self.day
-    }
-
     /// Whether a change to this schedule was kept. In most extracts the changes are nearly sorted by
     /// key. So the function first compares the key with the greatest kept key, which needs no
     /// search.
@@ -75,10 +68,8 @@ impl Thinned {
         let Key::Schedule(schedule) = key else {
             return Ok(());
         };
-        match self.keys.insert(*schedule) {
-            Ok(_) => Ok(()),
-            Err(_) => Err(AllocError),
-        }
+        self.keys.insert(*schedule)?;
+        Ok(())
     }
 
     /// Appends a change that is to be kept, and adds its key to the set if it is the key of a

@@ -12,7 +12,5 @@ pub fn tell_text<L: Sink>(text: &[u8], faults: &mut L)
         (faults_view (L.taken faults.old) (L.failures faults.old))
         (faults_view (L.taken faults.new) (L.failures faults.new)) }
 {
-    match write_all(faults, text) {
-        Ok(()) | Err(_) => {}
-    }
+    let _ = write_all(faults, text);
 }

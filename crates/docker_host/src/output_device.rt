@@ -80,13 +80,11 @@ impl<W: Write> Sink for OutputDevice<W> {
         ensures bytes { WriteAppends (W.contents self.old.writer) (W.contents self.new.writer)
             result piece.now }
     {
-        match write_some(&mut self.writer, piece) {
-            Ok(n) => Ok(n),
-            Err(failed) => {
-                self.failures += 1;
-                Err(failed)
-            }
+        let written = write_some(&mut self.writer, piece);
+        if written.is_err() {
+            self.failures += 1;
         }
+        written
     }
 
     fn failures(&self) -> u64 {

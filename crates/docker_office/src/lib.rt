@@ -3,8 +3,6 @@
 #![tactic(auto)]
 
 mod event;
-mod excerpt_docker;
-mod exchange;
 mod fault;
 mod files;
 pub mod headline;
@@ -17,10 +15,9 @@ mod steps;
 
 pub use docker_bytes::{StateCause, StateFault};
 pub use event::Event;
-pub use exchange::Exchange;
 pub use fault::OfficeFault;
 pub use ledger_office::LedgerOffice;
 pub use office::Office;
 pub use place_office::PlaceOffice;
 pub use reply::{Reply, RunFault};
-pub use runs::run;
+pub use runs::{Exchange, run};

@@ -5,8 +5,7 @@ ghost use Rattle.train_choice.specs.Along.{IsLiveTrain};
 ghost use Rattle.docker_train.specs.Answer.{IsAnswerOf};
 ghost use Rattle.docker_model.specs.lists.TrainText.{IsStampOf};
 
-use crate::chosen_train::ChosenTrain;
-use crate::stamped::Stamped;
+use crate::chosen_train::{ChosenTrain, Stamped};
 use cif_line::{Day, Uid};
 use docker_day::{DockerFault, Key, State};
 use train_choice::{ScheduleView, chosen};
@@ -23,10 +22,15 @@ pub fn find_train<'a>(state: &'a State, uid: &Uid, day: Day) -> Result<ChosenTra
     if day.number() < state.horizon() {
         return Err(DockerFault::Lapsed);
     }
-    match chosen(state, uid, day) {
-        Some(schedule) => Ok(ChosenTrain::of(*uid, day, Some(stamped(state, schedule)))),
-        None => Ok(ChosenTrain::of(*uid, day, None)),
-    }
+    let found = match chosen(state, uid, day) {
+        Some(schedule) => Some(stamped(state, schedule)),
+        None => None,
+    };
+    Ok(ChosenTrain {
+        uid: *uid,
+        day,
+        found,
+    })
 }
 
 /// A live schedule with the stamp of its entry in the state.
@@ -36,7 +40,10 @@ fn stamped<'a>(state: &'a State, schedule: ScheduleView<'a>) -> Stamped<'a>
     ensures stamp { IsStampOf state.now schedule.entry result.stamp }
 {
     match state.get(&Key::Schedule(*schedule.key())) {
-        Some(entry) => Stamped::of(schedule, &entry.stamp),
+        Some(entry) => Stamped {
+            schedule,
+            stamp: &entry.stamp,
+        },
         None => unreachable!(),
     }
 }

@@ -9,7 +9,6 @@ mod finding;
 pub mod laws;
 mod listing;
 mod print;
-mod stamped;
 mod trains;
 mod word;
 

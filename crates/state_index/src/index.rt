@@ -14,8 +14,7 @@ ghost use Rattle.state_index.specs.Spots.{IsIndexOf};
 use crate::memo::Memo;
 use crate::names::ascending_places;
 use crate::place_rows::{IndexedRows, postings_at};
-use crate::posting::Posting;
-use crate::postings::{post_rows, settle};
+use crate::postings::{Posting, post_rows, settle};
 use crate::survey::Survey;
 use cif_change::{Change, Key, Memory, Tiploc};
 use docker_join::Entry;
@@ -86,11 +85,8 @@ impl Index {
         ensures { IfOk result (HasRoomFor
             (items_of (map row_meant rows.now) ++ items_of (map row_meant others.now))) }
     {
-        let mut survey = Survey::new(
-            alloc,
-            self.places.as_slice(),
-            rows.len().saturating_add(others.len()),
-        )?;
+        let most = rows.len().saturating_add(others.len());
+        let mut survey = Survey::new(alloc, self.places.as_slice(), most)?;
         survey.count_rows(rows)?;
         survey.survey_rows(others)?;
         Index::of_survey(alloc, survey)
@@ -101,19 +97,13 @@ impl Index {
         ensures { (items : List Item) (old : Survey) → HasGrownBy items old survey
             → IfOk result (HasRoomFor items) }
     {
-        let Survey {
-            names,
-            calls,
-            rows,
-            ..
-        } = survey;
-        let places = ascending_places(names);
-        if u32::try_from(places.len()).is_err() || u32::try_from(rows).is_err() {
+        let places = ascending_places(survey.names);
+        if u32::try_from(places.len()).is_err() || u32::try_from(survey.rows).is_err() {
             return Err(Memory);
         }
-        let memo = Memo::of(alloc, places.as_slice(), rows)?;
-        let calls = Vec::with_capacity(alloc, calls)?;
-        let links = Vec::with_capacity(alloc, rows)?;
+        let memo = Memo::of(alloc, places.as_slice(), survey.rows)?;
+        let calls = Vec::with_capacity(alloc, survey.calls)?;
+        let links = Vec::with_capacity(alloc, survey.rows)?;
         Ok(Index {
             places,
             calls,
@@ -145,14 +135,8 @@ impl Index {
         ensures { (state : State) → state.entries ≡ map row_meant rows.now
             → AreCalling (live_table state) tiploc.now result }
     {
-        IndexedRows::of(
-            rows,
-            postings_at(
-                self.places.as_slice(),
-                self.calls.as_slice(),
-                tiploc.bytes(),
-            ),
-        )
+        let postings = postings_at(self.places.as_slice(), self.calls.as_slice(), tiploc);
+        IndexedRows::of(rows, postings)
     }
 
     /// How many live schedules call at a TIPLOC. Two binary searches find the first and the last
@@ -163,12 +147,7 @@ impl Index {
         ensures { (state : State) → AreAscending state.entries → IsIndexOf state.entries self.now
             → IsCallingCount (live_table state) tiploc.now result }
     {
-        postings_at(
-            self.places.as_slice(),
-            self.calls.as_slice(),
-            tiploc.bytes(),
-        )
-        .len()
+        postings_at(self.places.as_slice(), self.calls.as_slice(), tiploc).len()
     }
 
     /// The live associations at a location, found by binary search. The index must be the index of
@@ -179,13 +158,7 @@ impl Index {
         ensures { (state : State) → state.entries ≡ map row_meant rows.now
             → AreLinked (live_table state) tiploc.now result }
     {
-        IndexedRows::of(
-            rows,
-            postings_at(
-                self.places.as_slice(),
-                self.links.as_slice(),
-                tiploc.bytes(),
-            ),
-        )
+        let postings = postings_at(self.places.as_slice(), self.links.as_slice(), tiploc);
+        IndexedRows::of(rows, postings)
     }
 }

@@ -42,11 +42,9 @@ impl Memo {
             slots: vec![in alloc; 0u32; slots]?,
         };
         let mut at: u32 = 0;
-        let mut rest = places;
-        while let Some((place, behind)) = rest.split_first() {
+        for place in places {
             memo.set(place, at);
             at = at.saturating_add(1);
-            rest = behind;
         }
         Ok(memo)
     }

@@ -10,8 +10,7 @@ ghost use Rattle.docker_join.specs.Meaning.{op_meant, row_meant};
 ghost use Rattle.state_index.specs.Rooms.{Includes, HasGrownBy, changed_items, items_of, places_in};
 
 use crate::memo::Memo;
-use crate::names::ascending_places;
-use crate::places::{is_location, tiploc_in};
+use crate::names::is_location;
 use cif_change::{Act, Body, Change, Key, Memory};
 use cif_line::Line;
 use docker_join::{Entry, Op};
@@ -51,10 +50,8 @@ impl Survey {
     pub(crate) fn survey_rows(&mut self, rows: &[(Key, Entry)]) -> Result<(), Memory>
         ensures { IsOk result → HasGrownBy (items_of (map row_meant rows.now)) self.old self.new }
     {
-        let mut rest = rows;
-        while let Some((row, behind)) = rest.split_first() {
+        for row in rows {
             self.survey_row(&row.0, &row.1.op)?;
-            rest = behind;
         }
         Ok(())
     }
@@ -64,10 +61,8 @@ impl Survey {
         ensures { IsOk result
             → HasGrownBy (changed_items (map change_meant changes.now)) self.old self.new }
     {
-        let mut rest = changes;
-        while let Some((change, behind)) = rest.split_first() {
+        for change in changes {
             self.survey_change(change)?;
-            rest = behind;
         }
         Ok(())
     }
@@ -81,10 +76,8 @@ impl Survey {
             self.old.names.items }
         ensures { IsOk result → HasGrownBy (items_of (map row_meant rows.now)) self.old self.new }
     {
-        let mut rest = rows;
-        while let Some((row, behind)) = rest.split_first() {
+        for row in rows {
             self.count(most_calls(&row.1.op))?;
-            rest = behind;
         }
         Ok(())
     }
@@ -96,8 +89,7 @@ impl Survey {
     {
         match op {
             Op::Put(body) => self.survey_body(key, body),
-            Op::Deleted => self.count(0),
-            Op::Lapsed => self.count(0),
+            Op::Deleted | Op::Lapsed => self.count(0),
         }
     }
 
@@ -154,7 +146,7 @@ impl Survey {
         let mut rest = lines;
         while let Some((line, behind)) = rest.split_first() {
             if is_location(line) {
-                self.list(&tiploc_in(line))?;
+                self.list(line.field(3))?;
             }
             rest = behind;
         }
@@ -171,9 +163,7 @@ impl Survey {
         if self.memo.find(self.names.as_slice(), place).is_some() {
             return Ok(());
         }
-        let Ok(next) = u32::try_from(self.names.len()) else {
-            return Err(Memory);
-        };
+        let next = u32::try_from(self.names.len()).map_err(|_| Memory)?;
         self.names.push(*place)?;
         self.memo.set(place, next);
         Ok(())

@@ -107,12 +107,6 @@ impl<D: HorizonDay> Maker for Lapsing<D> {
     ghost makes = { λ made state. made ≡ raise_horizon D.day state };
 
     fn finish(self, horizon: Option<Day>) -> Result<State, Memory> {
-        let Lapsing {
-            parts,
-            day,
-            given: _,
-            of: _,
-        } = self;
-        Ok(parts.finish_unindexed_under(later(horizon, day)))
+        Ok(self.parts.finish_unindexed_under(later(horizon, self.day)))
     }
 }

@@ -50,11 +50,10 @@ impl Ended<CountingKeeper> {
         requires { IsCounted (count_ended self) }
         ensures { result ≡ count_ended self }
     {
-        let Ended {
-            header,
-            records,
-            keeper,
-        } = self;
-        FileCount::of(header, records, keeper.count())
+        FileCount {
+            header: self.header,
+            records: self.records,
+            changes: self.keeper.changes,
+        }
     }
 }

@@ -34,10 +34,7 @@ pub(crate) fn is_trailer(bytes: &[u8]) -> bool
     let Some(line) = Line::of(bytes) else {
         return false;
     };
-    match kind(&line) {
-        Some(Kind::Trailer) => true,
-        _ => false,
-    }
+    matches!(kind(&line), Some(Kind::Trailer))
 }
 
 /// Takes the next line, given its number, which must be within the limit on records.

@@ -1,0 +1,26 @@
+-- The result has the counts of the file that was read.
+use Rattle.cif_laws.proofs.Common.{err_from_is_err_and, sym, subst}
+use Rattle.cif_file.specs.SourceRead.{CountsText}
+use Rattle.cif_file.proofs.EndedLemmas.{reads_count, reads_counted}
+use Rattle.cif_file.proofs.ReadLemmas.{wants_none}
+use Rattle.cif_file.proofs.read.judge_file.Goals as goal
+
+pub into_count-requires : goal.into_count-requires
+into_count-requires g c =
+    reads_counted c.args.limit (g.S.Source.left c.args.source.now) c.in_ok-ended.ended c.requires.limit c.in_ok-ended.ensures.reads.outcome.0
+
+pub returns-clause-reads : goal.returns-clause-reads
+returns-clause-reads g c = record {
+  no_further = c.in_ok-ended.ensures.reads.no_further;
+  outcome = (
+    subst (CountsText c.args.limit (g.S.Source.left c.args.source.now)) (sym c.into_count.ensures)
+        (reads_count _ _ _ c.requires.limit c.in_ok-ended.ensures.reads.outcome.0),
+    c.in_ok-ended.ensures.reads.outcome.1,
+  );
+  failures = c.in_ok-ended.ensures.reads.failures;
+}
+
+pub returns-in_err-ended-clause-reads : goal.returns-in_err-ended-clause-reads
+returns-in_err-ended-clause-reads g c =
+    let same = err_from_is_err_and c.from_residual.result c.from_residual.ensures.1 in
+    rw (same.1, same.2) (wants_none _ _ _ _ _ _ c.in_err-ended.ensures.reads)
