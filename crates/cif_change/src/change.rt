@@ -1,8 +1,9 @@
 //! Changes, the bodies that they put, and the order of bodies and acts.
-ghost use Rattle.std.specs.Prelude.{◌≡◌, ◌↔◌, ◌-◌, ◌<◌, IsTrue};
+ghost use Rattle.std.specs.Prelude.{◌≡◌, ◌↔◌, ◌+◌, ◌-◌, ◌<◌, ◌≤◌, IsTrue};
 ghost use Rattle.std.specs.Ordering.{on, as_partial_cmp, eq_by_cmp};
 ghost use Rattle.std.specs.Cmp.{partial_equiv_from_equiv, on_equiv, on_total, eq_by_cmp_equiv, partial_order_from_total};
 ghost use Rattle.std.proofs.Common.{refl};
+ghost use Rattle.docker_model.specs.records.Record.{columns};
 ghost use Rattle.docker_model.specs.state.Op.{body_tag, body_bytes, body_end, readable_end, body_cmp, op_cmp};
 ghost use Rattle.docker_model.specs.state.Order.{bytes_cmp};
 ghost use Rattle.cif_laws.proofs.orders.Orders.{body_total, op_total};
@@ -37,9 +38,9 @@ impl Body {
     {
         match self {
             Body::Tiploc(_) => NO_END,
-            Body::Assoc(line) => end_in(line.field(22)),
+            Body::Assoc(line) => end_in(six_from(line, 22)),
             Body::Schedule(lines) => match lines.as_slice().first() {
-                Some(line) => end_in(line.field(16)),
+                Some(line) => end_in(six_from(line, 16)),
                 None => NO_END,
             },
         }
@@ -93,6 +94,18 @@ impl Body {
             }
             _ => false,
         }
+    }
+}
+
+/// The six columns of a line that begin at column `first`.
+fn six_from(line: &Line, first: usize) -> &[u8; 6]
+    requires from { 0 < first }
+    requires within { first + 5 ≤ 80 }
+    ensures { result.now ≡ columns first (first - 1 + 6) line.now }
+{
+    match line.bytes()[first - 1..first - 1 + 6].first_chunk() {
+        Some(field) => field,
+        None => unreachable!(),
     }
 }
 

@@ -1,6 +1,6 @@
 //! The scheduled times of a journey's lines, and how often the journey passes midnight.
 ghost use Rattle.std.specs.Prelude.{◌≡◌, ◌+◌, ◌≤◌, ◌<◌, ◌↔◌, [], ◌∷◌, IsOk, IfOk, IfErr, Some, true};
-ghost use Rattle.docker_model.specs.records.Record.{HasKind, intermediate_location};
+ghost use Rattle.docker_model.specs.records.Record.{HasKind, origin_location, intermediate_location, terminating_location};
 ghost use Rattle.docker_model.specs.records.Field.{HasGoodFields, leftmost_bad_field};
 ghost use Rattle.docker_model.specs.file.File.{follows_basic};
 ghost use Rattle.cif_laws.specs.TimesSoFar.{falls_after, later_or};
@@ -126,11 +126,22 @@ fn times_of_any(kind: Kind, line: &Line) -> Result<LineTimes, FieldFault>
     ensures err { IfErr result (λ fault. leftmost_bad_field line.now ≡ Some fault.0) }
 {
     match kind {
-        Kind::OriginLocation => Ok(LineTimes::one(origin(line)?.departure())),
+        Kind::OriginLocation => origin_times(line),
         Kind::IntermediateLocation => call_times(line),
-        Kind::TerminatingLocation => Ok(LineTimes::one(terminus(line)?.arrival())),
+        Kind::TerminatingLocation => terminus_times(line),
         _ => Ok(LineTimes::none()),
     }
+}
+
+/// The time of an origin: its departure. The error is the first column of the leftmost bad field.
+fn origin_times(line: &Line) -> Result<LineTimes, FieldFault>
+    requires kind { HasKind origin_location line.now }
+    ensures ok { IsOk result ↔ HasGoodFields line.now }
+    ensures value { IfOk result (AreTimesOf line.now) }
+    ensures err { IfErr result (λ fault. leftmost_bad_field line.now ≡ Some fault.0) }
+{
+    let view = origin(line)?;
+    Ok(LineTimes::one(view.departure()))
 }
 
 /// The times of an intermediate location: its arrival, pass and departure. The number of a blank
@@ -148,4 +159,15 @@ fn call_times(line: &Line) -> Result<LineTimes, FieldFault>
         second: view.pass_number(),
         third: view.departure_number(),
     })
+}
+
+/// The time of a terminus: its arrival. The error is the first column of the leftmost bad field.
+fn terminus_times(line: &Line) -> Result<LineTimes, FieldFault>
+    requires kind { HasKind terminating_location line.now }
+    ensures ok { IsOk result ↔ HasGoodFields line.now }
+    ensures value { IfOk result (AreTimesOf line.now) }
+    ensures err { IfErr result (λ fault. leftmost_bad_field line.now ≡ Some fault.0) }
+{
+    let view = terminus(line)?;
+    Ok(LineTimes::one(view.arrival()))
 }

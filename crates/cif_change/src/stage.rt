@@ -3,7 +3,7 @@ ghost use Rattle.std.specs.Prelude.{◌≡◌, option_map, Some, IsSome, true};
 ghost use Rattle.docker_model.specs.file.File.{follows_basic};
 ghost use Rattle.cif_laws.specs.ScheduleStage.{stage_after};
 ghost use Rattle.cif_line.specs.Kind.{meaning};
-ghost use Rattle.cif_change.specs.JourneyRead.{stage_meant, may_end_by};
+ghost use Rattle.cif_change.specs.JourneyRead.{stage_meant, may_end_by, is_over_by};
 
 use cif_line::Kind;
 
@@ -31,7 +31,7 @@ impl ScheduleStage {
         ensures follows { IsSome result → follows_basic (Some (meaning kind)) ≡ true }
     {
         match (self, kind) {
-            (Self::InJourney, Kind::IntermediateLocation) => Some(self),
+            (ScheduleStage::InJourney, Kind::IntermediateLocation) => Some(self),
             _ => self.after_any(kind),
         }
     }
@@ -46,10 +46,16 @@ impl ScheduleStage {
         ensures follows { IsSome result → follows_basic (Some (meaning kind)) ≡ true }
     {
         match (self, kind) {
-            (Self::AfterBasic, Kind::ExtraDetails) => Some(Self::AfterDetails),
-            (Self::AfterBasic | Self::AfterDetails, Kind::OriginLocation) => Some(Self::InJourney),
-            (Self::InJourney, Kind::IntermediateLocation | Kind::ChangeEnRoute) => Some(self),
-            (Self::InJourney, Kind::TerminatingLocation) => Some(Self::AfterJourney),
+            (ScheduleStage::AfterBasic, Kind::ExtraDetails) => Some(ScheduleStage::AfterDetails),
+            (ScheduleStage::AfterBasic | ScheduleStage::AfterDetails, Kind::OriginLocation) => Some(
+                ScheduleStage::InJourney,
+            ),
+            (ScheduleStage::InJourney, Kind::IntermediateLocation | Kind::ChangeEnRoute) => {
+                Some(ScheduleStage::InJourney)
+            }
+            (ScheduleStage::InJourney, Kind::TerminatingLocation) => Some(
+                ScheduleStage::AfterJourney,
+            ),
             _ => None,
         }
     }
@@ -60,9 +66,22 @@ impl ScheduleStage {
         ensures { result ≡ may_end_by (Some (stage_meant self)) lacking }
     {
         match self {
-            Self::AfterBasic | Self::AfterDetails => lacking,
-            Self::InJourney => false,
-            Self::AfterJourney => true,
+            ScheduleStage::AfterBasic => lacking,
+            ScheduleStage::AfterDetails => lacking,
+            ScheduleStage::InJourney => false,
+            ScheduleStage::AfterJourney => true,
+        }
+    }
+
+    /// Whether the terminus has been read, so that the journey is complete.
+    pub(crate) fn is_over(self) -> bool
+        ensures { result ≡ is_over_by (Some (stage_meant self)) }
+    {
+        match self {
+            ScheduleStage::AfterBasic => false,
+            ScheduleStage::AfterDetails => false,
+            ScheduleStage::InJourney => false,
+            ScheduleStage::AfterJourney => true,
         }
     }
 }

@@ -1,6 +1,7 @@
 //! Takes the lines of a schedule, one after another, or refuses them.
-ghost use Rattle.std.specs.Prelude.{◌≡◌, ℕ, ◌↔◌, IsTrue, IsOk, IsErr, IfErr, OnOk, Some, true, List, [], ◌∷◌};
-ghost use Rattle.docker_model.specs.records.Record.{HasKind, IsRecord};
+ghost use Rattle.std.specs.Prelude.{◌≡◌, ◌==◌, ℕ, ◌↔◌, IsTrue, IsOk, IsErr, IfOk, IfErr, OnOk, Some, true, List, [], ◌∷◌};
+ghost use Rattle.docker_model.specs.records.Record.{HasKind, IsRecord, basic_schedule, column};
+ghost use Rattle.docker_model.specs.records.Field.{is_deletion};
 ghost use Rattle.docker_model.specs.file.File.{follows_basic};
 ghost use Rattle.cif_laws.specs.ScheduleStage.{is_sound_next, is_first_line};
 ghost use Rattle.cif_laws.specs.RecordCause.{first_line_cause, field_cause};
@@ -12,7 +13,7 @@ use crate::cause::FileCause;
 use crate::journey_times::{Clock, times_at};
 use crate::progress::Progress;
 use crate::stage::ScheduleStage;
-use cif_line::{Basic, Kind, Line, basic, kind};
+use cif_line::{Basic, Kind, Line, Stp, Transaction, basic, kind};
 
 /// How often a schedule may pass midnight.
 const MOST_MIDNIGHTS: u8 = 2;
@@ -52,7 +53,10 @@ impl Progress {
     pub fn is_over(self) -> bool
         ensures { result ≡ is_over_by (progress_meant self).stage }
     {
-        matches!(self.stage, Some(ScheduleStage::AfterJourney))
+        match self.stage {
+            Some(stage) => stage.is_over(),
+            None => false,
+        }
     }
 
     /// Takes the next line. If no schedule begins with the lines already taken and then this line,
@@ -99,12 +103,13 @@ impl Progress {
         ensures err { IfErr result (λ cause. cause_meant cause ≡ Some (first_line_cause line.now)) }
         ensures unchanged { IsErr result → self.new ≡ self.old }
     {
-        let Kind::BasicSchedule = kind else {
-            return Err(FileCause::Place);
-        };
-        let view = basic(line)?;
-        *self = progress_after_basic(&view);
-        Ok(())
+        match after_first_record(kind, line) {
+            Ok(first) => {
+                *self = first;
+                Ok(())
+            }
+            Err(cause) => Err(cause),
+        }
     }
 
     /// Takes a line after the first. The line's kind may come next, and `next` is the stage after
@@ -123,7 +128,12 @@ impl Progress {
         ensures unchanged { IsErr result → self.new ≡ self.old }
     {
         if self.deletion {
-            self.stage = Some(next);
+            *self = Progress {
+                stage: Some(next),
+                deletion: self.deletion,
+                lacking: self.lacking,
+                clock: self.clock,
+            };
             return Ok(());
         }
         let times = times_at(kind, line)?;
@@ -131,10 +141,42 @@ impl Progress {
         if clock.falls > MOST_MIDNIGHTS {
             return Err(FileCause::Midnights);
         }
-        self.stage = Some(next);
-        self.clock = clock;
+        *self = Progress {
+            stage: Some(next),
+            deletion: self.deletion,
+            lacking: self.lacking,
+            clock,
+        };
         Ok(())
     }
+}
+
+/// The progress after the first line. Returns the cause if the line isn't a basic schedule with
+/// good fields.
+fn after_first_record(kind: Kind, line: &Line) -> Result<Progress, FileCause>
+    requires record { IsRecord line.now }
+    requires kind { HasKind (meaning kind) line.now }
+    ensures ok { IsOk result ↔ (is_first_line line.now ≡ true) }
+    ensures read { IfOk result (λ progress. HasLines (progress_meant progress) (line.now ∷ [])) }
+    ensures err { IfErr result (λ cause. cause_meant cause ≡ Some (first_line_cause line.now)) }
+{
+    match kind {
+        Kind::BasicSchedule => progress_after_first_basic(line),
+        _ => Err(FileCause::Place),
+    }
+}
+
+/// The progress after a basic schedule as the first line. Returns the cause if the line has a bad
+/// field.
+fn progress_after_first_basic(line: &Line) -> Result<Progress, FileCause>
+    requires record { IsRecord line.now }
+    requires kind { HasKind basic_schedule line.now }
+    ensures ok { IsOk result ↔ (is_first_line line.now ≡ true) }
+    ensures read { IfOk result (λ progress. HasLines (progress_meant progress) (line.now ∷ [])) }
+    ensures err { IfErr result (λ cause. cause_meant cause ≡ Some (first_line_cause line.now)) }
+{
+    let view = basic(line)?;
+    Ok(progress_after_basic(&view))
 }
 
 /// The progress after a basic schedule with good fields as the first line.
@@ -142,12 +184,36 @@ pub fn progress_after_basic(view: &Basic<'_>) -> Progress
     requires { is_first_line view.now ≡ true }
     ensures { HasLines (progress_meant result) (view.now ∷ []) }
 {
-    let deletion = view.line().is_deletion();
-    let cancellation = view.line().column(80) == b'C';
+    let deletion = is_deletion(view);
+    let cancellation = is_cancellation(view);
     Progress {
         stage: Some(ScheduleStage::AfterBasic),
         deletion,
         lacking: deletion || cancellation,
         clock: Clock::new(),
+    }
+}
+
+/// Whether the basic schedule is a deletion: its transaction is `D`.
+fn is_deletion(view: &Basic<'_>) -> bool
+    ensures { result ≡ is_deletion view.now }
+{
+    match view.transaction() {
+        Transaction::Delete => true,
+        Transaction::New => false,
+        Transaction::Revise => false,
+    }
+}
+
+/// Whether the basic schedule is a cancellation: its STP indicator is `C`, so the train doesn't run
+/// on the schedule's days.
+fn is_cancellation(view: &Basic<'_>) -> bool
+    ensures { result ≡ (column 80 view.now == 67) }
+{
+    match view.stp() {
+        Stp::Cancellation => true,
+        Stp::New => false,
+        Stp::Overlay => false,
+        Stp::Permanent => false,
     }
 }

@@ -125,7 +125,11 @@ impl Sink for Fuse<Kept> {
         ensures calls { self.new.calls ≡ self.old.calls - 1 }
         ensures room { self.new.device.room ≡ self.old.device.room }
     {
-        if self.blows() || self.device.is_full() {
+        if self.blows() {
+            self.failures += 1;
+            return Err(Failed);
+        }
+        if self.device.is_full() {
             self.failures += 1;
             return Err(Failed);
         }

@@ -31,8 +31,8 @@ use Rattle.cif_change.specs.Meaning.{key_meant}
 use Rattle.cif_file.specs.declared.file.ended.Ended.{Ended}
 use Rattle.cif_file.specs.KeeperRead.{Keeps, change_opened, Begins, AddsLine, AddsSingle, Closes}
 use Rattle.cif_file.specs.EndedRead.{IsEnded}
-use Rattle.cif_change.specs.JourneyRead.{progress_meant, Advances, HasLines, IsScheduleCause, is_over_by}
-use Rattle.cif_file.specs.RecordsRead.{header_of, IsOpen, IsKept, HasRecords, IsOver, GoesOnWith, IsNoNext, IsNoNextCause, IsWholeBy, StandsBefore}
+use Rattle.cif_change.specs.JourneyRead.{progress_meant, HasLines, IsScheduleCause, is_over_by}
+use Rattle.cif_file.specs.RecordsRead.{header_of, IsOpen, IsKept, HasRecords, IsOver, GoesOnWith, IsNoNext, IsNoNextCause, IsWholeBy, GoesOnTo, StandsBefore}
 
 abbrev Lines : Type 0
 Lines = List (List ℕ)
@@ -188,34 +188,21 @@ over_of_closed = search (rules, opened_of, some_lines, length-append, changes_cl
 
 -- ---- taking a further line of a schedule
 
--- Says that the reader of a schedule has taken one more line of the same schedule.
-abbrev pub IsFollowed : Opened → List ℕ → Opened → Type 0
-IsFollowed old line new = (new.number ≡ old.number) × (new.key ≡ old.key) × Advances old.progress line new.progress
+-- Says that the reader is still in the same schedule, and that this line was added to the schedule's lines.
+abbrev pub IsFollowed : Opened → List ℕ → FileStage → Type 0
+IsFollowed opened line stage = (later : Opened) × (stage ≡ InSchedule later) × GoesOnTo opened line (InSchedule later)
+
+pub followed : (opened : Opened) (line : List ℕ) (stage : FileStage) → GoesOnTo opened line stage → IsFollowed opened line stage
+followed opened line (InSchedule later) gone = (later, refl, gone)
+followed opened line _ gone = absurd gone
 
 -- a line with which the schedule can continue may come directly after the lines already taken
-pub stands_before : {K : Type 0} (keeps : Keeps K) (front : Front K) (opened later : Opened) (records : Lines) (line : List ℕ)
-    → HasRecords keeps front records → front.stage ≡ InSchedule opened → IsRecord line
-    → follows_basic (kind_of line) ≡ true → IsFollowed opened line later
+pub stands_before : {K : Type 0} (keeps : Keeps K) (front new : Front K) (opened : Opened) (records : Lines) (line : List ℕ) → HasRecords keeps front records
+    → front.stage ≡ InSchedule opened → new.header ≡ front.header → new.keeper ≡ front.keeper → IsRecord line
+    → follows_basic (kind_of line) ≡ true → (after : IsFollowed opened line new.stage)
     → ((lines : Lines) → HasLines (progress_meant opened.progress) lines → BeginsSchedule (lines ++ line ∷ []))
-    → StandsBefore keeps front later line records
-stands_before keeps front opened later records line has place is follows after begins =
-    let here = opened_of keeps front opened records has place in
-    record {
-      is = is;
-      follows = follows;
-      stage = here.stage;
-      lines = here.lines;
-      before = here.before;
-      at = has.at ∙ ap Some here.place_is;
-      stage_is = here.stage_is;
-      header_is = has.header_is;
-      whole = here.whole;
-      number_is = after.0 ∙ here.number_is;
-      key_is = ap (λ k. key_meant (key.Schedule k)) after.1 ∙ here.key_is;
-      progress_is = after.2 here.lines here.progress_is;
-      goes_on = begins here.lines here.progress_is;
-      kept = here.kept;
-    }
+    → StandsBefore keeps new after.0 line records
+stands_before = search (rules, opened_of)
 
 stage_begun : (lines : Lines) (line : List ℕ) → BeginsSchedule (lines ++ line ∷ []) → (next : Stage) × (stage_of (lines ++ line ∷ []) ≡ Some next)
 stage_begun [] line begins = (begins_iff_stage line []).0 begins
@@ -326,14 +313,6 @@ ended_iff keeps front records stage here has =
     let tells : is_after_end has.place ≡ is_end stage = tells_end keeps front.stage front.keeper has.place records has.kept_are ∙ ap is_end here in
     let by_place = file_by_place records has.place has.at in
     (λ is. by_place.0 (tells ∙ is), λ file. sym tells ∙ by_place.1 file)
-
-end_by_stage : (stage : FileStage) → is_end stage ≡ true → stage ≡ AfterEnd
-end_by_stage = search rules
-
--- at any stage but `AfterEnd`, the records aren't a file
-pub not_ended : {K : Type 0} (keeps : Keeps K) (front : Front K) (records : Lines) → HasRecords keeps front records → ¬ (front.stage ≡ AfterEnd)
-    → ¬ IsFile records
-not_ended keeps front records has never is = never (end_by_stage front.stage ((ended_iff keeps front records front.stage refl has).1 is))
 
 -- ---- which lines may come next
 

@@ -116,7 +116,7 @@ refused_line wants limit records line cause fault next bad told = record {
 
 -- if a line is refused because of its length, the fault that is returned is the fault at a line of
 -- more than 81 bytes
-refused_long : (limit : ℕ) (records : Lines) (fault : FileFault) → IsRefusedNext limit records (Some bad_length) fault → IsLongNext limit records fault
+pub refused_long : (limit : ℕ) (records : Lines) (fault : FileFault) → IsRefusedNext limit records (Some bad_length) fault → IsLongNext limit records fault
 refused_long = search (rules, some_cause)
 
 -- if a record within the limit can't come next, the reason why it can't is a correct cause for refusing its line
@@ -456,14 +456,12 @@ module _ {K : Type 0} (keeps : Keeps K) (wants : Type 0) where
 
   -- if more than 81 bytes of a line have been read, the text is refused at this line, which is too long even without a line feed
   pub too_long : (old : FileReading K) (more : List ℕ) (fault : FileFault) → HasNoFeed more → ¬ (length old.partial.items + length more ≤ 81)
-      → ((limit : ℕ) (records : Lines) → HasCounted keeps old.records limit records → IsRefusedNext limit records (Some bad_length) fault)
-      → Faults old more fault
+      → ((limit : ℕ) (records : Lines) → HasCounted keeps old.records limit records → IsLongNext limit records fault) → Faults old more fault
   too_long old more fault plain many told = record {
     read = tt;
-    err = λ limit text is. kept_long keeps old limit text is more fault plain many
-        (refused_long limit (complete_lines text) fault (told limit (complete_lines text) is.counted));
+    err = λ limit text is. kept_long keeps old limit text is more fault plain many (told limit (complete_lines text) is.counted);
     later = λ limit text is.
-        let next = refused_long limit (complete_lines text) fault (told limit (complete_lines text) is.counted) in
+        let next = told limit (complete_lines text) is.counted in
         let cause = cause_of_long limit (length (complete_lines text)) next.place in
         (later_than keeps old limit text is fault next.number, no_want wants fault cause next.cause);
   }

@@ -16,7 +16,7 @@ use Rattle.cif_file.specs.declared.records.front.Front.{Front}
 use Rattle.cif_change.specs.declared.cause.FileCause.{FileCause}
 use Rattle.cif_change.specs.Meaning.{key_meant}
 use Rattle.cif_change.specs.Cause.{cause_meant}
-use Rattle.cif_change.specs.JourneyRead.{progress_meant, HasLines}
+use Rattle.cif_change.specs.JourneyRead.{progress_meant, HasLines, Advances}
 use Rattle.cif_file.specs.KeeperRead.{Keeps}
 
 abbrev Lines : Type 0
@@ -104,6 +104,14 @@ pub record StandsBefore {K : Type 0} (keeps : Keeps K) (front : Front K) (opened
   pub progress_is : HasLines (progress_meant opened.progress) (lines ++ line ∷ [])
   pub goes_on : BeginsSchedule (lines ++ line ∷ [])
   pub kept : keeps front.keeper lines (changes before)
+
+-- Says that the reader is still inside the same schedule, and that the line was appended to the
+-- schedule's lines.
+abbrev pub GoesOnTo : Opened → List ℕ → FileStage → Type 0
+GoesOnTo old line BeforeHeader = ⊥
+GoesOnTo old line BetweenUnits = ⊥
+GoesOnTo old line (InSchedule new) = (new.number ≡ old.number) × (new.key ≡ old.key) × Advances old.progress line new.progress
+GoesOnTo old line AfterEnd = ⊥
 
 -- ---- what the reader does with the next line
 

@@ -56,7 +56,8 @@ impl CifFile {
     pub fn into_changes(self) -> Vec<Change>
         ensures { map change_meant result.items ≡ self.changes_made }
     {
-        self.into_parts().changes
+        let FileParts { changes, .. } = self.into_parts();
+        changes
     }
 
     /// Takes the file apart into its header, the number of its records, and its changes.

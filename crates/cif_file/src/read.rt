@@ -5,19 +5,19 @@ ghost use Rattle.docker_model.specs.file.FileFault.{IsFileText};
 ghost use Rattle.docker_model.specs.file.Text.{lines_of};
 ghost use Rattle.cif_file.specs.FileEnds.{EndsReadingFile};
 ghost use Rattle.cif_file.specs.ParserRead.{IsReading, WantsMemoryAt, EndsBy};
-ghost use Rattle.cif_file.specs.SourceRead.{CountsText, IsFaultOf, ReadsEnded, ReadsText, WantsAtStart, WantsMemory, WantsMemoryBy};
+ghost use Rattle.cif_file.specs.SourceRead.{IsFaultOf, ReadsEnded, ReadsText, WantsMemory, WantsMemoryBy};
 ghost use Rattle.cif_file.specs.FileTaken.{TakesFile, RefusesPiece, taken_is_bounded};
 
+pub(crate) mod judge;
 pub(crate) mod next_record;
 pub(crate) mod parser;
+pub(crate) mod pieces;
 pub(crate) mod text;
 
 use crate::fault::{FileFault, FileReadFault};
 use crate::file::CifFile;
-use crate::file::count::FileCount;
 use crate::file::ended::Ended;
 use crate::keeper::ChangeKeeper;
-use crate::keeper::counting::CountingKeeper;
 use crate::keeper::kept::FileSoFar;
 use crate::read::parser::FileReading;
 use crate::records::MOST_RECORDS;
@@ -41,27 +41,10 @@ pub fn read_file<S: Source>(
     ensures not_passed { IsNotPassed (S.ended source.old)
         (S.passed source.old) (S.passed source.new) }
 {
-    let ended = read_kept(alloc, source, FileSoFar::new(alloc), limit)?;
-    Ok(ended.into_file())
-}
-
-/// Reads a source to its end, as [`read_file`](crate::read_file) does, and returns how many records
-/// and changes its file has. No record or change is kept, so memory can run out only before the
-/// first byte is read.
-pub fn judge_file<S: Source>(
-    alloc: Global,
-    source: &mut S,
-    limit: u32,
-) -> Result<FileCount, FileReadFault>
-    requires failures { S.failures source.old < 2 ^ 64 - 1 }
-    requires limit { limit ≤ MOST_RECORDS }
-    ensures reads { EndsReadingFile WantsAtStart S.left S.failures limit
-        (CountsText limit (S.left source.old)) source.old source.new result }
-    ensures not_passed { IsNotPassed (S.ended source.old)
-        (S.passed source.old) (S.passed source.new) }
-{
-    let ended = read_kept(alloc, source, CountingKeeper { changes: 0 }, limit)?;
-    Ok(ended.into_count())
+    match read_kept(alloc, source, FileSoFar::new(alloc), limit) {
+        Ok(ended) => Ok(ended.into_file()),
+        Err(fault) => Err(fault),
+    }
 }
 
 impl<K: ChangeKeeper> Taker for FileReading<K> {

@@ -27,9 +27,9 @@ pub(crate) struct Records<K> {
 }
 
 impl<K: ChangeKeeper> Records<K> {
-    ghost use Rattle.std.specs.Prelude.{ℕ, ◌≤◌, [], List, IfErr, IfOk, OnOk};
+    ghost use Rattle.std.specs.Prelude.{ℕ, ◌+◌, ◌≤◌, ◌<◌, List, [], IfOk, IfErr, OnOk, Some};
     ghost use Rattle.cif_change.specs.Cause.{cause_meant};
-    ghost use Rattle.cif_file.specs.ParserRead.{HasCounted, CountsNext, FaultsNext, IsRefusedNext, EndsCounted, EndsUnended};
+    ghost use Rattle.cif_file.specs.ParserRead.{HasCounted, CountsNext, FaultsNext, IsLongNext, IsRefusedNext, EndsCounted, EndsUnended};
 
     /// Makes a reader that has read no record. The file may have at most `limit` records.
     pub(crate) fn new(keeper: K, limit: u32) -> Records<K>
@@ -67,17 +67,28 @@ impl<K: ChangeKeeper> Records<K> {
                 cause: FileCause::TooMany,
             });
         }
-        if let Err(cause) = take_within(&mut self.front, number, line) {
-            return Err(FileFault { number, cause });
+        match take_within(&mut self.front, number, line) {
+            Ok(()) => {
+                self.next = number + 1;
+                Ok(())
+            }
+            Err(cause) => Err(FileFault { number, cause }),
         }
-        self.next = number + 1;
-        Ok(())
+    }
+
+    /// The fault at the next line if this line has more than 81 bytes.
+    pub(crate) fn too_long(&self) -> FileFault
+        ensures { (limit : ℕ) (records : List (List ℕ)) →
+            HasCounted K.keeps self.now limit records →
+            IsLongNext limit records result }
+    {
+        self.refused(FileCause::Length)
     }
 
     /// The fault at the next line, which isn't a record. `cause` says why. If the number of the
     /// line is above the limit, the cause of the fault is `TooMany` instead. If the line comes
     /// after the trailer, the cause is `After`.
-    pub(crate) fn refused(&self, cause: FileCause) -> FileFault
+    fn refused(&self, cause: FileCause) -> FileFault
         ensures { (limit : ℕ) (records : List (List ℕ)) →
             HasCounted K.keeps self.now limit records →
             IsRefusedNext limit records (cause_meant cause) result }

@@ -1,15 +1,13 @@
 -- The leftmost bad field of a header, a TIPLOC record, an association or a basic schedule. A field
 -- is the leftmost bad field if it is bad and all checked fields to its left are good.
-use Rattle.cif_laws.proofs.Common.{◌≡◌, ℕ, List, true, false, cond, [], ◌∷◌, ◌++◌, Some, None, Err, ap, ◌∙◌, rules, not, option_map, find, Option}
+use Rattle.cif_laws.proofs.Common.{◌≡◌, ℕ, List, true, false, cond, [], ◌∷◌, ◌++◌, Some, None, ap, ◌∙◌, rules, not, option_map, find, Option, AllByRecursion}
 use Rattle.cif_laws.proofs.Common.{Kind, HasKind, header, tiploc_amend, association, basic_schedule, columns, is_date, is_date_day_first, is_end_date, is_days}
 use Rattle.cif_laws.proofs.Common.{is_clock, CheckedField, checked, checked_fields, leftmost_bad_field, is_tiploc, is_new_tiploc, is_transaction}
-use Rattle.cif_laws.proofs.Common.{is_stp_indicator, is_deletion, AllByRecursion}
+use Rattle.cif_laws.proofs.Common.{is_stp_indicator, is_deletion}
 use Rattle.docker_model.specs.records.Field.{fields_of}
 use Rattle.docker_model.specs.records.Field.{is_update_indicator}
 use Rattle.cif_laws.proofs.records.Columns.{IsGoodIn, fields_good}
-use Rattle.cif_line.specs.RecordRead.{ReadsAs}
 use Rattle.cif_line.specs.View.{IsTiplocRecord}
-use Rattle.cif_line.specs.declared.check.FieldFault.{FieldFault}
 
 -- the first column of the first bad field in a list of checked fields. The result is `None` if all
 -- these fields are good in the line
@@ -31,10 +29,6 @@ behind_good line (one ∷ before) field after good bad =
     (λ i. option_map (λ (f : CheckedField). f.first)
     (cond (not (good.0 i)) (Some one) (find (λ f. not (f.is_good (columns f.first f.last line))) (before ++ field ∷ after))))
     ∙ behind_good line before field after good.1 bad
-
--- a reader that returns the first column of the leftmost bad field returns what it should
-pub reads_bad : (line : List ℕ) (fault : FieldFault) → leftmost_bad_field line ≡ Some fault.0 → ReadsAs line (Err fault)
-reads_bad = search rules
 
 -- if a header's date of extract is bad, the leftmost bad field is at column 23
 pub header_bad_day : (line : List ℕ) → HasKind header line → is_date_day_first (columns 23 28 line) ≡ false → leftmost_bad_field line ≡ Some 23

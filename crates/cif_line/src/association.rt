@@ -19,7 +19,7 @@ use std::marker::Model;
 /// nor the days-run field is checked.
 #[derive(Debug, Drop)]
 pub struct Assoc<'a> {
-    pub(crate) line: &'a Line,
+    line: &'a Line,
 }
 
 impl<'a> Model for Assoc<'a> {
@@ -32,6 +32,14 @@ impl<'a> Model for Assoc<'a> {
 
 #[tactic(auto, using(crate::proofs::GoodFields::assoc_fields))]
 impl<'a> Assoc<'a> {
+    /// Makes a view of a line whose fields have already been checked.
+    pub(crate) fn of(line: &'a Line) -> Assoc<'a>
+        requires good { IsGood association line.now }
+        ensures line { result ≡ line.entry.now }
+    {
+        Assoc { line }
+    }
+
     /// The line of the record.
     pub fn line(&self) -> &'a Line
         ensures line { result.now ≡ self.now }

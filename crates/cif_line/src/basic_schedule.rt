@@ -18,7 +18,7 @@ use std::marker::Model;
 /// date nor the days-run field is checked.
 #[derive(Debug, Drop)]
 pub struct Basic<'a> {
-    pub(crate) line: &'a Line,
+    line: &'a Line,
 }
 
 impl<'a> Model for Basic<'a> {
@@ -31,6 +31,14 @@ impl<'a> Model for Basic<'a> {
 
 #[tactic(auto, using(crate::proofs::GoodFields::basic_fields))]
 impl<'a> Basic<'a> {
+    /// Makes a view of a line whose fields have already been checked.
+    pub(crate) fn of(line: &'a Line) -> Basic<'a>
+        requires good { IsGood basic_schedule line.now }
+        ensures line { result ≡ line.entry.now }
+    {
+        Basic { line }
+    }
+
     /// The line of the record.
     pub fn line(&self) -> &'a Line
         ensures line { result.now ≡ self.now }

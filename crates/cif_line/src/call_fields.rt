@@ -5,7 +5,6 @@ ghost use Rattle.docker_model.specs.records.Record.{columns};
 ghost use Rattle.docker_model.specs.records.Clock.{is_scheduled_time, is_public_time};
 ghost use Rattle.cif_line.specs.CallRead.{half_minutes_or_none};
 
-use crate::intermediate_location::CallTimes;
 use std::simd::prelude::*;
 
 /// The character code of `0`.
@@ -25,8 +24,12 @@ const NO_TIME: u16 = 65535;
 pub(crate) struct CallFields {
     /// Whether all five times are good.
     pub are_good: bool,
-    /// The three scheduled times. A time is 65535 if its field has none.
-    pub times: CallTimes,
+    /// The scheduled arrival in half minutes, or 65535 if there is none.
+    pub arrival: u16,
+    /// The scheduled departure in half minutes, or 65535 if there is none.
+    pub departure: u16,
+    /// The scheduled pass in half minutes, or 65535 if there is none.
+    pub pass: u16,
 }
 
 impl CallFields {
@@ -41,9 +44,9 @@ impl CallFields {
             && is_scheduled_time (columns 16 20 line.now))
             && is_scheduled_time (columns 21 25 line.now))
             && is_public_time (columns 26 29 line.now)) && is_public_time (columns 30 33 line.now)) }
-        ensures arrival { result.times.arrival ≡ half_minutes_or_none (columns 11 15 line.now) }
-        ensures departure { result.times.departure ≡ half_minutes_or_none (columns 16 20 line.now) }
-        ensures pass { result.times.pass ≡ half_minutes_or_none (columns 21 25 line.now) }
+        ensures arrival { result.arrival ≡ half_minutes_or_none (columns 11 15 line.now) }
+        ensures departure { result.departure ≡ half_minutes_or_none (columns 16 20 line.now) }
+        ensures pass { result.pass ≡ half_minutes_or_none (columns 21 25 line.now) }
     {
         let first = u8x16::from_slice(&line[0..]);
         let second = u8x16::from_slice(&line[16..]);
@@ -85,11 +88,9 @@ impl CallFields {
             .to_array();
         CallFields {
             are_good: (is_time | is_blank).all(),
-            times: CallTimes {
-                arrival: told[0],
-                departure: told[1],
-                pass: told[2],
-            },
+            arrival: told[0],
+            departure: told[1],
+            pass: told[2],
         }
     }
 }

@@ -9,7 +9,7 @@ use std::marker::Model;
 /// A view of a change en route (CR). A CR record has no checked field.
 #[derive(Debug, Drop)]
 pub struct ChangeEnRoute<'a> {
-    pub(crate) line: &'a Line,
+    line: &'a Line,
 }
 
 impl<'a> Model for ChangeEnRoute<'a> {
@@ -21,6 +21,14 @@ impl<'a> Model for ChangeEnRoute<'a> {
 }
 
 impl<'a> ChangeEnRoute<'a> {
+    /// A view of a line that is a change en route.
+    pub(crate) fn of(line: &'a Line) -> ChangeEnRoute<'a>
+        requires good { IsGood change_en_route line.now }
+        ensures line { result ≡ line.entry.now }
+    {
+        ChangeEnRoute { line }
+    }
+
     /// The train's identity from the next location onwards: columns 13 to 16.
     pub fn identity(&self) -> &'a [u8; 4]
         ensures value { result.now ≡ columns 13 16 self.now }

@@ -1,18 +1,13 @@
-//! Days of the calendar, as numbers counted from 1 January 1960, and the date fields that mean them.
-//! All six bytes of a field are tested at once, without a branch for each digit, or for the year,
-//! the month or the day. A field that is known to be a date is read without a test.
+//! Days of the calendar, as numbers counted from 1 January 1960.
 ghost use Rattle.std.specs.Prelude.{◌≡◌, ℕ, ◌+◌, ◌<◌, ◌≤◌, ◌↔◌, pos, ◌+ℤ◌, IsTrue, true, IsSome, IfSome, Some, unsigned_abs};
-ghost use Rattle.std.specs.Char.{is_ascii_digit};
-ghost use Rattle.std.specs.List.{list_all};
 ghost use Rattle.std.specs.Option.{SomeIff};
 ghost use Rattle.std.specs.Str.{IsAscii};
 ghost use Rattle.jiff.specs.Words.{IsBetween};
 ghost use Rattle.docker_model.specs.records.Date.{is_date, date_number, is_date_day_first, date_number_day_first};
-ghost use Rattle.docker_model.specs.records.Date.{last_day, two_digits, weekday_of};
+ghost use Rattle.docker_model.specs.records.Date.{last_day, weekday_of};
 ghost use Rattle.docker_model.specs.records.PrintedTime.{day_text, date_text};
 
-use crate::calendar::{day_number, is_calendar_day};
-use crate::digits::{are_six_digits, spelled};
+use crate::date::{date_number, date_number_day_first, is_date, is_date_day_first};
 use jiff_core::civil;
 use std::marker::Model;
 use std::{fmt, str};
@@ -61,7 +56,7 @@ impl Day {
         ensures { result ≡ date_number field.now }
     {
         Day {
-            number: day_number(pair(field, 0), pair(field, 2), pair(field, 4)),
+            number: date_number(field),
         }
     }
 
@@ -84,7 +79,7 @@ impl Day {
         ensures { result ≡ date_number_day_first field.now }
     {
         Day {
-            number: day_number(pair(field, 4), pair(field, 2), pair(field, 0)),
+            number: date_number_day_first(field),
         }
     }
 
@@ -196,31 +191,4 @@ fn digit(n: u16) -> u8
     ensures ascii { result < 128 }
 {
     b'0' + n as u8
-}
-
-/// Whether a field is a date with the year first.
-#[inline(always)]
-pub(crate) fn is_date(field: &[u8; 6]) -> bool
-    ensures { result ≡ is_date field.now }
-{
-    are_six_digits(field) & is_calendar_day(pair(field, 0), pair(field, 2), pair(field, 4))
-}
-
-/// Whether a field is a date with the day first.
-#[inline(always)]
-pub(crate) fn is_date_day_first(field: &[u8; 6]) -> bool
-    ensures { result ≡ is_date_day_first field.now }
-{
-    are_six_digits(field) & is_calendar_day(pair(field, 4), pair(field, 2), pair(field, 0))
-}
-
-/// The number that two digits of a field spell. `at` is the index of the first digit, counted from
-/// 0.
-#[inline(always)]
-fn pair(field: &[u8; 6], at: usize) -> u16
-    requires within { at + 1 < 6 }
-    ensures value { list_all is_ascii_digit field.now ≡ true → result ≡ two_digits field.now at }
-    ensures bound { list_all is_ascii_digit field.now ≡ true → result < 100 }
-{
-    spelled(field[at], field[at + 1])
 }

@@ -1,5 +1,5 @@
 //! The weekdays on which a basic schedule (BS) or an association (AA) runs.
-ghost use Rattle.std.specs.Prelude.{◌≡◌, ℕ, ◌<◌, ◌≤◌, ◌==◌, ◌||◌, ◌↔◌, length, take, IsTrue, IsSome, IfSome, List};
+ghost use Rattle.std.specs.Prelude.{◌≡◌, ℕ, ◌<◌, ◌≤◌, ◌==◌, ◌||◌, ◌↔◌, length, take, true, IsTrue, IsSome, IfSome, List};
 ghost use Rattle.docker_model.specs.records.Date.{is_days, runs_on_weekday};
 
 use std::marker::Model;
@@ -9,7 +9,7 @@ use std::simd::prelude::*;
 /// `1` if the schedule or association runs on its weekday, and otherwise `0`.
 #[derive(Clone, Copy, PartialEq, Eq, Debug)]
 pub struct Days {
-    pub(crate) flags: [u8; 7],
+    flags: [u8; 7],
 }
 
 impl Model for Days {
@@ -30,10 +30,19 @@ impl Days {
         ensures value { IfSome result (λ days. days ≡ field.now) }
     {
         if is_days(field) {
-            Some(Days { flags: *field })
+            Some(Days::of_flags(field))
         } else {
             None
         }
+    }
+
+    /// The weekdays of a field that is known to be seven flags.
+    #[inline(always)]
+    pub(crate) fn of_flags(field: &[u8; 7]) -> Days
+        requires good { is_days field.now ≡ true }
+        ensures { result ≡ field.now }
+    {
+        Days { flags: *field }
     }
 
     /// Whether the schedule or association runs on a weekday: 0 for Monday to 6 for Sunday.

@@ -1,8 +1,9 @@
 //! Digits of a field, and the numbers that two digits spell. Several bytes are tested at once,
 //! without a branch per byte.
-ghost use Rattle.std.specs.Prelude.{◌≡◌, ◌+◌, ◌-◌, ◌*◌, ◌≤◌, length, take};
+ghost use Rattle.std.specs.Prelude.{◌≡◌, ◌+◌, ◌-◌, ◌*◌, ◌≤◌, ◌<◌, length, take, true};
 ghost use Rattle.std.specs.List.{list_all};
 ghost use Rattle.std.specs.Char.{is_ascii_digit};
+ghost use Rattle.docker_model.specs.records.Date.{two_digits};
 
 use std::simd::prelude::*;
 
@@ -31,4 +32,17 @@ pub(crate) fn spelled(tens: u8, units: u8) -> u16
     ensures { 48 ≤ tens → 48 ≤ units → result ≡ 10 * (tens - 48) + (units - 48) }
 {
     (10 * u16::from(tens) + u16::from(units)).wrapping_sub(11 * u16::from(b'0'))
+}
+
+/// The number that the bytes at index `at` and at the next index spell. If both bytes are digits,
+/// the number is below 100.
+pub(crate) fn two_digits(field: &[u8], at: usize) -> u16
+    requires { at + 1 < length field.now }
+    ensures value { result ≡ two_digits field.now at }
+    ensures bound { result < 2300 }
+    ensures digits { list_all is_ascii_digit field.now ≡ true → result < 100 }
+{
+    let tens = u16::from(field[at]).saturating_sub(u16::from(b'0'));
+    let units = u16::from(field[at + 1]).saturating_sub(u16::from(b'0'));
+    10 * tens + units
 }

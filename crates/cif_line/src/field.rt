@@ -14,7 +14,6 @@ use crate::days::Days;
 use crate::letter::{Stp, Transaction};
 use crate::line::Line;
 use crate::time::Time;
-use crate::time_field::is_blank_time;
 use crate::tiploc_code::Tiploc;
 use crate::uid::Uid;
 use crate::until::Until;
@@ -27,7 +26,10 @@ impl Line {
         requires good { is_tiploc (field_at first 7 self.now) ≡ true }
         ensures { result ≡ field_at first 7 self.now }
     {
-        Tiploc::from_field(self.field(first)).unwrap()
+        match Tiploc::from_field(self.field(first)) {
+            Some(tiploc) => tiploc,
+            None => unreachable!(),
+        }
     }
 
     /// The scheduled time in the five columns that begin at `first`. The columns must not be blank.
@@ -42,18 +44,13 @@ impl Line {
 
     /// The scheduled time in the five columns that begin at `first`. Returns `None` if they are
     /// blank.
-    #[tactic(auto, using(crate::proofs::Times::scheduled_times))]
     pub fn scheduled_time(&self, first: usize) -> Option<Time>
         requires from { 0 < first }
         requires within { first ≤ 76 }
         requires good { is_scheduled_time (field_at first 5 self.now) ≡ true }
         ensures { result ≡ scheduled_time (field_at first 5 self.now) }
     {
-        let field = self.field(first);
-        if is_blank_time(field) {
-            return None;
-        }
-        Some(Time::from_present(field))
+        Time::from_scheduled(self.field(first))
     }
 
     /// The public time, a whole minute, in the four columns that begin at `first`. Returns `None`
@@ -74,7 +71,10 @@ impl Line {
         requires within { first ≤ 75 }
         ensures { result ≡ field_at first 6 self.now }
     {
-        Uid::from_field(self.field(first)).unwrap()
+        match Uid::from_field(self.field(first)) {
+            Some(uid) => uid,
+            None => unreachable!(),
+        }
     }
 
     /// The day in the six columns that begin at `first`, written YYMMDD.
@@ -113,8 +113,7 @@ impl Line {
         if self.is_deletion() {
             return None;
         }
-        let flags = *self.field(first);
-        Some(Days { flags })
+        Some(Days::of_flags(self.field(first)))
     }
 
     /// Whether the transaction is a deletion: column 3 is `D`.
@@ -129,7 +128,10 @@ impl Line {
         requires good { is_transaction (column 3 self.now ∷ []) ≡ true }
         ensures { transaction_letter result ≡ column 3 self.now }
     {
-        Transaction::from_letter(self.column(3)).unwrap()
+        match Transaction::from_letter(self.column(3)) {
+            Some(transaction) => transaction,
+            None => unreachable!(),
+        }
     }
 
     /// The STP indicator: column 80.
@@ -137,6 +139,9 @@ impl Line {
         requires good { is_stp_letter (column 80 self.now) ≡ true }
         ensures { stp_letter result ≡ column 80 self.now }
     {
-        Stp::from_letter(self.column(80)).unwrap()
+        match Stp::from_letter(self.column(80)) {
+            Some(stp) => stp,
+            None => unreachable!(),
+        }
     }
 }

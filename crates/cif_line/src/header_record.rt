@@ -15,7 +15,7 @@ use std::marker::Model;
 /// A view of a header (HD) whose checked fields are good.
 #[derive(Debug, Drop)]
 pub struct Header<'a> {
-    pub(crate) line: &'a Line,
+    line: &'a Line,
 }
 
 impl<'a> Model for Header<'a> {
@@ -57,7 +57,10 @@ impl<'a> Header<'a> {
         ensures bound { result < 1440 }
     {
         let field: &[u8; 4] = self.line.field(29);
-        clock(field).unwrap()
+        match clock(field) {
+            Some(minute) => minute,
+            None => unreachable!(),
+        }
     }
 
     /// The current file reference, which identifies this extract: columns 33 to 39.
@@ -80,6 +83,9 @@ impl<'a> Header<'a> {
     pub fn extract(&self) -> Extract
         ensures { extract_letter result ≡ column 47 self.now }
     {
-        Extract::from_letter(self.line.column(47)).unwrap()
+        match Extract::from_letter(self.line.column(47)) {
+            Some(extract) => extract,
+            None => unreachable!(),
+        }
     }
 }

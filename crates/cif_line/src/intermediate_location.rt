@@ -25,8 +25,8 @@ pub(crate) struct CallTimes {
 /// times, which were read when the fields were checked.
 #[derive(Debug, Drop)]
 pub struct Call<'a> {
-    pub(crate) line: &'a Line,
-    pub(crate) times: CallTimes,
+    line: &'a Line,
+    times: CallTimes,
 }
 
 impl<'a> Model for Call<'a> {
@@ -40,6 +40,16 @@ impl<'a> Model for Call<'a> {
 
 #[tactic(auto, using(crate::proofs::GoodFields::call_fields))]
 impl<'a> Call<'a> {
+    /// Makes a view of a line whose fields have already been checked. `times` are the line's
+    /// scheduled times.
+    pub(crate) fn of(line: &'a Line, times: CallTimes) -> Call<'a>
+        requires good { IsGood intermediate_location line.now }
+        requires times { AreTimesOf line.now times }
+        ensures line { result ≡ line.entry.now }
+    {
+        Call { line, times }
+    }
+
     /// The TIPLOC of the timing point: columns 3 to 9.
     pub fn tiploc(&self) -> Tiploc
         ensures { result ≡ columns 3 9 self.now }

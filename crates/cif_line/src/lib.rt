@@ -9,6 +9,7 @@ mod calendar;
 mod call_fields;
 mod change_en_route;
 mod check;
+mod date;
 mod day;
 mod days;
 mod digits;

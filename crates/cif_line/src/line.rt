@@ -81,7 +81,10 @@ impl Line {
         ensures bytes { result.now ≡ field_at first N self.now }
         ensures text { IsTextOfLength N result.now }
     {
-        self.bytes[first - 1..first - 1 + N].first_chunk().unwrap()
+        match self.bytes[first - 1..first - 1 + N].first_chunk() {
+            Some(field) => field,
+            None => unreachable!(),
+        }
     }
 
     /// The byte in column `n`. Columns count from 1.
@@ -135,7 +138,10 @@ fn bad_column(bytes: &[u8; 80]) -> u8
     requires { ¬ (AllPass is_printable bytes.now) }
     ensures { leftmost_bad_byte bytes.now ≡ Some result }
 {
-    first_bad_index(bytes).unwrap() as u8 + 1
+    match first_bad_index(bytes) {
+        Some(index) => index as u8 + 1,
+        None => unreachable!(),
+    }
 }
 
 /// Whether a line may contain all of these bytes.

@@ -15,8 +15,8 @@ use std::marker::Model;
 /// was read when the fields were checked.
 #[derive(Debug, Drop)]
 pub struct Origin<'a> {
-    pub(crate) line: &'a Line,
-    pub(crate) departure: Time,
+    line: &'a Line,
+    departure: Time,
 }
 
 impl<'a> Model for Origin<'a> {
@@ -30,6 +30,16 @@ impl<'a> Model for Origin<'a> {
 
 #[tactic(auto, using(crate::proofs::GoodFields::origin_fields))]
 impl<'a> Origin<'a> {
+    /// Makes a view of a line whose fields have already been checked. `departure` is the line's
+    /// scheduled departure.
+    pub(crate) fn of(line: &'a Line, departure: Time) -> Origin<'a>
+        requires good { IsGood origin_location line.now }
+        requires time { departure ≡ half_minutes (columns 11 15 line.now) }
+        ensures line { result ≡ line.entry.now }
+    {
+        Origin { line, departure }
+    }
+
     /// The TIPLOC of the timing point: columns 3 to 9.
     pub fn tiploc(&self) -> Tiploc
         ensures { result ≡ columns 3 9 self.now }

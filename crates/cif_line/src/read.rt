@@ -1,9 +1,10 @@
 //! Readers of records. A reader returns a view of the line if the line's checked fields are good.
 //! Otherwise the reader returns the first column of the leftmost bad field.
-ghost use Rattle.std.specs.Prelude.{◌≡◌, ◌↔◌, IsOk, IsSome, IfSome, Some, None};
+ghost use Rattle.std.specs.Prelude.{◌≡◌, ◌↔◌, IsOk, IfOk, IfErr, IsSome, IfSome, Some, None};
 ghost use Rattle.docker_model.specs.records.Clock.{half_minutes};
 ghost use Rattle.docker_model.specs.records.Record.{HasKind, columns, header, association, basic_schedule, origin_location};
 ghost use Rattle.docker_model.specs.records.Record.{intermediate_location, terminating_location, change_en_route};
+ghost use Rattle.docker_model.specs.records.Field.{leftmost_bad_field};
 ghost use Rattle.cif_line.specs.CallRead.{AreTimesOf};
 ghost use Rattle.cif_line.specs.RecordRead.{ReadsAs};
 ghost use Rattle.cif_line.specs.View.{IsTiplocRecord, bad_field_of};
@@ -15,7 +16,7 @@ use crate::change_en_route::ChangeEnRoute;
 use crate::check::{
     FieldFault, is_new_tiploc, is_stp_indicator, is_tiploc, is_transaction, is_update_indicator,
 };
-use crate::day::{is_date, is_date_day_first};
+use crate::date::{is_date, is_date_day_first};
 use crate::days::is_days;
 use crate::header_record::Header;
 use crate::identity::is_amendment;
@@ -34,16 +35,28 @@ pub fn header(line: &Line) -> Result<Header<'_>, FieldFault>
     requires kind { HasKind header line.now }
     ensures { ReadsAs line.now result }
 {
+    match header_fault(line) {
+        Some(column) => Err(FieldFault(column)),
+        None => Ok(Header::of(line)),
+    }
+}
+
+/// The first column of the leftmost bad field in a header. Returns `None` if all checked fields are
+/// good.
+fn header_fault(line: &Line) -> Option<u8>
+    requires kind { HasKind header line.now }
+    ensures { result ≡ leftmost_bad_field line.now }
+{
     if !is_date_day_first(line.field(23)) {
-        return Err(FieldFault(23));
+        return Some(23);
     }
     if !is_clock(line.field(29)) {
-        return Err(FieldFault(29));
+        return Some(29);
     }
     if !is_update_indicator(line.field(47)) {
-        return Err(FieldFault(47));
+        return Some(47);
     }
-    Ok(Header { line })
+    None
 }
 
 /// Reads a TIPLOC insert (TI), amendment (TA) or deletion (TD). The fault is the first column of
@@ -53,13 +66,25 @@ pub fn tiploc(line: &Line) -> Result<TiplocRecord<'_>, FieldFault>
     requires kind { IsTiplocRecord line.now }
     ensures { ReadsAs line.now result }
 {
+    match tiploc_fault(line) {
+        Some(column) => Err(FieldFault(column)),
+        None => Ok(TiplocRecord::of(line)),
+    }
+}
+
+/// The first column of the leftmost bad field in a TIPLOC record. Returns `None` if all checked
+/// fields are good.
+fn tiploc_fault(line: &Line) -> Option<u8>
+    requires kind { IsTiplocRecord line.now }
+    ensures { result ≡ leftmost_bad_field line.now }
+{
     if !is_tiploc(line.field(3)) {
-        return Err(FieldFault(3));
+        return Some(3);
     }
     if is_amendment(line) && !is_new_tiploc(line.field(73)) {
-        return Err(FieldFault(73));
+        return Some(73);
     }
-    Ok(TiplocRecord { line })
+    None
 }
 
 /// Reads an association (AA). The fault is the first column of the leftmost bad field: 3 for the
@@ -69,27 +94,39 @@ pub fn assoc(line: &Line) -> Result<Assoc<'_>, FieldFault>
     requires kind { HasKind association line.now }
     ensures { ReadsAs line.now result }
 {
+    match assoc_fault(line) {
+        Some(column) => Err(FieldFault(column)),
+        None => Ok(Assoc::of(line)),
+    }
+}
+
+/// The first column of the leftmost bad field in an association. Returns `None` if all checked
+/// fields are good. In a deletion neither the end date nor the days-run field is checked.
+fn assoc_fault(line: &Line) -> Option<u8>
+    requires kind { HasKind association line.now }
+    ensures { result ≡ leftmost_bad_field line.now }
+{
     if !is_transaction(line.field(3)) {
-        return Err(FieldFault(3));
+        return Some(3);
     }
     if !is_date(line.field(16)) {
-        return Err(FieldFault(16));
+        return Some(16);
     }
     if !line.is_deletion() {
         if !is_end_date(line.field(22)) {
-            return Err(FieldFault(22));
+            return Some(22);
         }
         if !is_days(line.field(28)) {
-            return Err(FieldFault(28));
+            return Some(28);
         }
     }
     if !is_tiploc(line.field(38)) {
-        return Err(FieldFault(38));
+        return Some(38);
     }
     if !is_stp_indicator(line.field(80)) {
-        return Err(FieldFault(80));
+        return Some(80);
     }
-    Ok(Assoc { line })
+    None
 }
 
 /// Reads a basic schedule (BS). The fault is the first column of the leftmost bad field: 3 for the
@@ -99,24 +136,36 @@ pub fn basic(line: &Line) -> Result<Basic<'_>, FieldFault>
     requires kind { HasKind basic_schedule line.now }
     ensures { ReadsAs line.now result }
 {
+    match basic_fault(line) {
+        Some(column) => Err(FieldFault(column)),
+        None => Ok(Basic::of(line)),
+    }
+}
+
+/// The first column of the leftmost bad field in a basic schedule. Returns `None` if all checked
+/// fields are good. In a deletion neither the runs-to date nor the days-run field is checked.
+fn basic_fault(line: &Line) -> Option<u8>
+    requires kind { HasKind basic_schedule line.now }
+    ensures { result ≡ leftmost_bad_field line.now }
+{
     if !is_transaction(line.field(3)) {
-        return Err(FieldFault(3));
+        return Some(3);
     }
     if !is_date(line.field(10)) {
-        return Err(FieldFault(10));
+        return Some(10);
     }
     if !line.is_deletion() {
         if !is_end_date(line.field(16)) {
-            return Err(FieldFault(16));
+            return Some(16);
         }
         if !is_days(line.field(22)) {
-            return Err(FieldFault(22));
+            return Some(22);
         }
     }
     if !is_stp_indicator(line.field(80)) {
-        return Err(FieldFault(80));
+        return Some(80);
     }
-    Ok(Basic { line })
+    None
 }
 
 /// Reads an origin (LO). The fault is the first column of the leftmost bad field: 3 for the TIPLOC,
@@ -125,9 +174,9 @@ pub fn origin(line: &Line) -> Result<Origin<'_>, FieldFault>
     requires kind { HasKind origin_location line.now }
     ensures { ReadsAs line.now result }
 {
-    match good_end_time(line) {
-        Some(departure) => Ok(Origin { line, departure }),
-        None => Err(FieldFault(end_fault(line))),
+    match end_time(line) {
+        Err(column) => Err(FieldFault(column)),
+        Ok(departure) => Ok(Origin::of(line, departure)),
     }
 }
 
@@ -137,9 +186,26 @@ pub fn terminus(line: &Line) -> Result<Terminus<'_>, FieldFault>
     requires kind { HasKind terminating_location line.now }
     ensures { ReadsAs line.now result }
 {
+    match end_time(line) {
+        Err(column) => Err(FieldFault(column)),
+        Ok(arrival) => Ok(Terminus::of(line, arrival)),
+    }
+}
+
+/// The scheduled time of an origin or a terminus. The error is the first column of the leftmost bad
+/// field. Both kinds of record have their checked fields in the same columns.
+fn end_time(line: &Line) -> Result<Time, u8>
+    ensures origin { IfOk result (λ time. bad_field_of origin_location line.now ≡ None) }
+    ensures terminus { IfOk result (λ time. bad_field_of terminating_location line.now ≡ None) }
+    ensures time { IfOk result (λ time. time ≡ half_minutes (columns 11 15 line.now)) }
+    ensures bad_origin { IfErr result (λ column.
+        bad_field_of origin_location line.now ≡ Some column) }
+    ensures bad_terminus { IfErr result (λ column.
+        bad_field_of terminating_location line.now ≡ Some column) }
+{
     match good_end_time(line) {
-        Some(arrival) => Ok(Terminus { line, arrival }),
-        None => Err(FieldFault(end_fault(line))),
+        Some(time) => Ok(time),
+        None => Err(end_fault(line)),
     }
 }
 
@@ -183,7 +249,7 @@ pub fn call(line: &Line) -> Result<Call<'_>, FieldFault>
     ensures { ReadsAs line.now result }
 {
     match good_call_times(line) {
-        Some(times) => Ok(Call { line, times }),
+        Some(times) => Ok(Call::of(line, times)),
         None => Err(FieldFault(call_fault(line))),
     }
 }
@@ -199,7 +265,11 @@ fn good_call_times(line: &Line) -> Option<CallTimes>
     if !are_good {
         return None;
     }
-    Some(fields.times)
+    Some(CallTimes {
+        arrival: fields.arrival,
+        departure: fields.departure,
+        pass: fields.pass,
+    })
 }
 
 /// The first column of the leftmost bad field in an intermediate location. The line must have a bad
@@ -233,5 +303,5 @@ pub fn change(line: &Line) -> Result<ChangeEnRoute<'_>, FieldFault>
     ensures always { IsOk result }
     ensures read { ReadsAs line.now result }
 {
-    Ok(ChangeEnRoute { line })
+    Ok(ChangeEnRoute::of(line))
 }

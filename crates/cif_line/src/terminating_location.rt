@@ -15,8 +15,8 @@ use std::marker::Model;
 /// was read when the fields were checked.
 #[derive(Debug, Drop)]
 pub struct Terminus<'a> {
-    pub(crate) line: &'a Line,
-    pub(crate) arrival: Time,
+    line: &'a Line,
+    arrival: Time,
 }
 
 impl<'a> Model for Terminus<'a> {
@@ -30,6 +30,16 @@ impl<'a> Model for Terminus<'a> {
 
 #[tactic(auto, using(crate::proofs::GoodFields::terminus_fields))]
 impl<'a> Terminus<'a> {
+    /// Makes a view of a line whose fields have already been checked. `arrival` is the line's
+    /// scheduled arrival.
+    pub(crate) fn of(line: &'a Line, arrival: Time) -> Terminus<'a>
+        requires good { IsGood terminating_location line.now }
+        requires time { arrival ≡ half_minutes (columns 11 15 line.now) }
+        ensures line { result ≡ line.entry.now }
+    {
+        Terminus { line, arrival }
+    }
+
     /// The TIPLOC of the timing point: columns 3 to 9.
     pub fn tiploc(&self) -> Tiploc
         ensures { result ≡ columns 3 9 self.now }

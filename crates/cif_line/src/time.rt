@@ -1,11 +1,13 @@
 //! Times of day in location records (LO, LI and LT).
 ghost use Rattle.std.specs.Prelude.{◌≡◌, ◌↔◌, ◌≤◌, ◌<◌, ◌+◌, length, IsSome, is_some, IfSome, IsTrue, ◌*◌, true, nat_lt, Some, None, if◌then◌else◌};
 ghost use Rattle.std.specs.Prelude.{ℕ};
+ghost use Rattle.docker_model.specs.records.Date.{two_digits};
 ghost use Rattle.docker_model.specs.records.Clock.{is_clock, minute_of, is_present_time, half_minutes, is_scheduled_time, scheduled_time, is_public_time};
 ghost use Rattle.docker_model.specs.records.PrintedTime.{shown_public, time_text};
 ghost use Rattle.cif_line.specs.FieldRead.{public_half_minutes, public_text};
 
-use crate::time_field::{ClockField, TimeField, is_blank_public_time};
+use crate::digits::two_digits;
+use crate::time_field::{ClockField, TimeField, is_blank_public_time, is_blank_time};
 use std::marker::Model;
 
 /// A scheduled time of day, in half minutes since midnight, from 0 to 2879.
@@ -54,16 +56,36 @@ impl Time {
         ensures value { IfSome result (λ time. time ≡ scheduled_time field.now) }
     {
         let read = TimeField::read(field);
-        (read.is_blank | read.is_time).then_some(read.time())
+        if read.is_good() {
+            Some(read.time())
+        } else {
+            None
+        }
+    }
+
+    /// The scheduled time in a field that is known to be blank or a time. Returns `None` if it is
+    /// blank.
+    #[tactic(auto, using(crate::proofs::Times::scheduled_times))]
+    pub(crate) fn from_scheduled(field: &[u8; 5]) -> Option<Time>
+        requires good { is_scheduled_time field.now ≡ true }
+        ensures { result ≡ scheduled_time field.now }
+    {
+        if is_blank_time(field) {
+            return None;
+        }
+        Some(Time::from_present(field))
     }
 
     /// The scheduled time in a field that is known to be a time.
+    #[tactic(auto, using(crate::proofs::Times::clock_bounds))]
     pub(crate) fn from_present(field: &[u8; 5]) -> Time
         requires good { is_present_time field.now ≡ true }
         ensures { result ≡ half_minutes field.now }
     {
-        let half_minutes = TimeField::read(field).half_minutes;
-        Time { half_minutes }
+        let half = if field[4] == b'H' { 1 } else { 0 };
+        Time {
+            half_minutes: 2 * minute_in(field) + half,
+        }
     }
 
     /// The public time, a whole minute, in a field that is known to be HHMM or blank. Returns
@@ -97,13 +119,17 @@ impl Time {
         let minute = self.half_minutes / 2;
         let hour = (minute / 60) as u8;
         let minute = (minute % 60) as u8;
-        let is_half = self.half_minutes % 2 == 1;
+        let half = if self.half_minutes % 2 == 1 {
+            b'H'
+        } else {
+            b' '
+        };
         [
             b'0' + hour / 10,
             b'0' + hour % 10,
             b'0' + minute / 10,
             b'0' + minute % 10,
-            if is_half { b'H' } else { b' ' },
+            half,
         ]
     }
 }
@@ -117,7 +143,21 @@ pub fn clock(field: &[u8]) -> Option<u16>
     ensures bound { IfSome result (λ minute. minute < 1440) }
 {
     let read = ClockField::read(field);
-    read.is_good.then_some(read.minute)
+    if read.is_good {
+        Some(read.minute)
+    } else {
+        None
+    }
+}
+
+/// The minute of the day in a field that is known to begin with a time HHMM.
+#[tactic(auto, using(crate::proofs::Times::clock_bounds))]
+fn minute_in(field: &[u8; 5]) -> u16
+    requires good { is_clock field.now ≡ true }
+    ensures value { result ≡ minute_of field.now }
+    ensures bound { result < 1440 }
+{
+    60 * two_digits(field, 0) + two_digits(field, 2)
 }
 
 /// Whether a field is a time HHMM from `0000` to `2359`.

@@ -1,7 +1,7 @@
 //! Time fields, read whether or not they are good. Reading a field needs no branch for each byte.
 //! The result says whether the field is good. A caller combines this result with the tests of the
 //! record's other fields.
-ghost use Rattle.std.specs.Prelude.{◌≡◌, ◌≤◌, ◌<◌, length, true, Some, None, if◌then◌else◌};
+ghost use Rattle.std.specs.Prelude.{◌≡◌, ◌≤◌, ◌<◌, ◌||◌, length, true, Some, None, if◌then◌else◌};
 ghost use Rattle.docker_model.specs.records.Clock.{is_blank, is_clock, minute_of};
 
 use crate::digits::{are_four_digits, spelled};
@@ -40,7 +40,7 @@ pub(crate) struct TimeField {
     pub is_blank: bool,
     /// Whether the field is a time.
     pub is_time: bool,
-    pub half_minutes: u16,
+    half_minutes: u16,
     ghost bound: { is_time ≡ true → half_minutes < 2880 },
 }
 
@@ -62,6 +62,14 @@ impl TimeField {
                 .wrapping_mul(2)
                 .wrapping_add(u16::from(is_half)),
         }
+    }
+
+    /// Whether the field is blank or a time.
+    #[inline(always)]
+    pub(crate) fn is_good(self) -> bool
+        ensures { result ≡ (self.is_blank || self.is_time) }
+    {
+        self.is_blank | self.is_time
     }
 
     /// The scheduled time. Returns `None` if the field isn't a time.

@@ -11,7 +11,7 @@ use std::marker::Model;
 /// A view of a TIPLOC insert (TI), amendment (TA) or deletion (TD) whose checked fields are good.
 #[derive(Debug, Drop)]
 pub struct TiplocRecord<'a> {
-    pub(crate) line: &'a Line,
+    line: &'a Line,
 }
 
 impl<'a> Model for TiplocRecord<'a> {
@@ -24,6 +24,14 @@ impl<'a> Model for TiplocRecord<'a> {
 
 #[tactic(auto, using(crate::proofs::GoodFields::tiploc_fields))]
 impl<'a> TiplocRecord<'a> {
+    /// Makes a view of a line whose fields have already been checked.
+    pub(crate) fn of(line: &'a Line) -> TiplocRecord<'a>
+        requires good { IsGoodTiploc line.now }
+        ensures line { result ≡ line.entry.now }
+    {
+        TiplocRecord { line }
+    }
+
     /// The code of the timing point: columns 3 to 9.
     pub fn code(&self) -> Tiploc
         ensures { result ≡ columns 3 9 self.now }

@@ -2,7 +2,7 @@
 ghost use Rattle.std.specs.Prelude.{◌≡◌, ℕ, ◌≤◌, ◌⊎◌, ◌↔◌, IsTrue, true, IsSome, IfSome};
 ghost use Rattle.docker_model.specs.records.Date.{is_end_date, end_number, is_no_end, last_day, no_end_number};
 
-use crate::day::{Day, is_date};
+use crate::date::{date_number, is_date};
 use std::marker::Model;
 
 /// The end number that stands for no end. It is greater than every day number.
@@ -47,7 +47,7 @@ impl Until {
         let number = if is_no_end(field) {
             NO_END
         } else {
-            Day::of_date(field).number()
+            date_number(field)
         };
         Until { number }
     }

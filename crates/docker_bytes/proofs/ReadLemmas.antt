@@ -1,6 +1,6 @@
 -- Reading a source: the bytes that the parser was fed are exactly the bytes that the source held.
 use Rattle.std.proofs.Common.{◌≡◌, ◌≢◌, ℕ, ◌<◌, List, [], ◌∷◌, ◌++◌, length, take, drop, refl, ap, sym, ◌∙◌, subst, inr, rules, ◌⊎◌, arith, append_assoc}
-use Rattle.std.proofs.Common.{append-nil, length-drop, Some, None, Err, Result, Option, Ok, IfOk, IfErr, IsErrAnd, MatchResult, IsOk, OnOk, ◌^◌}
+use Rattle.std.proofs.Common.{append-nil, length-drop, Some, None, Err, Result, Option, Ok, IfErr, IsOk, OnOk, ◌^◌}
 use Rattle.std.proofs.lemmas.List.{take-append-drop}
 use Rattle.cif_device.specs.Device.{Reads, IsEnd, Held}
 use Rattle.cif_device.specs.Taken.{AfterEach, HasFed, HasRefused, LosesOnePieceMore}
@@ -50,7 +50,7 @@ told_at_end = search (rules, none_is_memory)
 
 -- if a fault of the text is returned for a piece, this fault is the fault of each text that begins
 -- with the bytes up to the piece's end
-told_as_state : {A : Type 0} (format : Format) (limit : ℕ) (text piece rest : List ℕ) (found told : StateFault) (result : ReadFault)
+pub told_as_state : {A : Type 0} (format : Format) (limit : ℕ) (text piece rest : List ℕ) (found told : StateFault) (result : ReadFault)
     → IsFaultReported format limit text piece found → (found.cause ≡ cause.Memory → result ≡ fault.Memory)
     → (found.cause ≢ cause.Memory → result ≡ fault.State found) → ◌≡◌ {A = Result A ReadFault} (Err result) (Err (fault.State told))
     → IsFaultOf format limit ((text ++ piece) ++ rest) told
@@ -59,25 +59,11 @@ told_as_state format limit text piece rest found told result so_far memory state
     rw (← same.0) (told_so_far format limit text piece rest found.at _ (λ none. same.1 (none_is_memory _ none)) so_far)
 
 -- at the end of a text, a parser's fault becomes a fault of the text or, if the text is complete, the read fault `Memory`
-ended_for : {A : Type 0} (format : Format) (limit : ℕ) (text : List ℕ) (IsMade : A → Type 0) (found : StateFault) (result : ReadFault)
+pub ended_for : {A : Type 0} (format : Format) (limit : ℕ) (text : List ℕ) (IsMade : A → Type 0) (found : StateFault) (result : ReadFault)
     → IsUnended format limit text found → (found.cause ≡ cause.Memory → result ≡ fault.Memory)
     → (found.cause ≢ cause.Memory → result ≡ fault.State found)
     → EndsText format limit text IsMade (Err result)
 ended_for = search (rules, memory_or_not, told_at_end)
-
--- what a read fault says of the parser's fault from which it was made
-abbrev pub IsTold : StateFault → ReadFault → Type 0
-IsTold found told = (found.cause ≡ cause.Memory → told ≡ fault.Memory) × (found.cause ≢ cause.Memory → told ≡ fault.State found)
-
--- at the end of a text, the parser's result has the same value, or its fault becomes a read fault
-pub ended_with : {A : Type 0} (format : Format) (limit : ℕ) (text : List ℕ) (IsMade : A → Type 0) (Told : StateFault → ReadFault → Type 0)
-    → ((found : StateFault) (told : ReadFault) → Told found told → IsTold found told) → (ended : Result A StateFault) (result : Result A ReadFault)
-    → IfOk ended IsMade → IfErr ended (IsUnended format limit text) → MatchResult ended (λ made. result ≡ Ok made) (λ found. IsErrAnd result (Told found))
-    → EndsText format limit text IsMade result
-ended_with format limit text IsMade Told told (Ok made) result is unended same = subst (EndsText format limit text IsMade) (sym same) is
-ended_with format limit text IsMade Told told (Err found) (Ok made) is unended same = absurd same
-ended_with format limit text IsMade Told told (Err found) (Err why) is unended same =
-    ended_for format limit text IsMade found why unended (told found why same).0 (told found why same).1
 
 -- if the read fault is `Memory`, the cause of the parser's fault is `Memory`
 is_memory : {A : Type 0} (found : StateFault) (result : ReadFault) → (found.cause ≢ cause.Memory → result ≡ fault.State found)
@@ -86,7 +72,7 @@ is_memory : {A : Type 0} (found : StateFault) (result : ReadFault) → (found.ca
 is_memory = search (rules, memory_or_not)
 
 -- if `Memory` is returned for a piece, there was no memory for a part that ends in the piece
-told_as_memory : {A : Type 0} (format : Format) (limit : ℕ) (text piece : List ℕ) (found : StateFault) (result : ReadFault)
+pub told_as_memory : {A : Type 0} (format : Format) (limit : ℕ) (text piece : List ℕ) (found : StateFault) (result : ReadFault)
     → IsFaultReported format limit text piece found
     → (found.cause ≢ cause.Memory → result ≡ fault.State found) → ◌≡◌ {A = Result A ReadFault} (Err result) (Err fault.Memory)
     → (at : ℕ) × IsWanting format limit text piece at
@@ -119,21 +105,11 @@ tail_of format limit text piece rest used found below whole at is =
     }
 
 -- if a byte of a piece wasn't used, the byte follows the state, and the fault of the text is `Tail`
-tail_told : (format : Format) (limit : ℕ) (text piece rest : List ℕ) (used : ℕ) (step : Step) (found : StateFault) → used < length piece
+pub tail_told : (format : Format) (limit : ℕ) (text piece rest : List ℕ) (used : ℕ) (step : Step) (found : StateFault) → used < length piece
     → IsStep format limit text piece (used, step)
     → found.at ≡ length (text ++ take used piece) → found.cause ≡ cause.Tail → IsFaultOf format limit ((text ++ piece) ++ rest) found
 tail_told format limit text piece rest used Done found below whole at is = tail_of format limit text piece rest used found below whole at is
 tail_told format limit text piece rest used More found below more at is = absurd (let all = more.0 in omega arith)
-
--- a value of the parser's result after its fault was replaced is a value of the result before
-pub value_from : {A E F : Type 0} (Why : E → F → Type 0) (from : Result A E) (to : Result A F) (x : A)
-    → MatchResult from (λ y. to ≡ Ok y) (λ e. IsErrAnd to (Why e)) → to ≡ Ok x → from ≡ Ok x
-value_from {A} {E} {F} Why (Ok y) to x same is =
-    let both : ◌≡◌ {A = Result A F} (Ok y) (Ok x) = sym same ∙ is in
-    let value : y ≡ x = cc in
-    ap Ok value
-value_from Why (Err e) (Ok y) x same is = absurd same
-value_from Why (Err e) (Err f) x same is = absurd (let no : ⊥ = cc in no)
 
 -- ---- pieces
 
@@ -154,7 +130,7 @@ takes_more before after piece (Ok done) read = λ settings text has.
 takes_more before after piece (Err told) read = tt
 
 -- if a call returns a fault for a piece, the parser has refused the piece
-refuses_more : {K : Type 0} (before after : ParserState K) (piece : List ℕ) {A : Type 0} (result : Result A ReadFault)
+pub refuses_more : {K : Type 0} (before after : ParserState K) (piece : List ℕ) {A : Type 0} (result : Result A ReadFault)
     → ((format : Format) (limit : ℕ) (text : List ℕ) → HasRead before format limit text → (found : StateFault) → result ≡ Err (fault.State found)
     → (rest : List ℕ) → IsFaultOf format limit ((text ++ piece) ++ rest) found)
     → ((format : Format) (limit : ℕ) (text : List ℕ) → HasRead before format limit text → result ≡ Err fault.Memory
@@ -167,39 +143,6 @@ refuses_more before after piece (Err told) state memory source = λ settings tex
   memory = λ is. memory settings.format settings.limit text has.read (ap Err is);
   apart = λ is. source (ap Err is);
 }
-
--- a read fault that comes from the parser isn't the fault of a source
-never_source : (found : StateFault) (told : ReadFault) → IsTold found told → told ≢ fault.Source
-never_source = search (rules, memory_or_not)
-
--- if the parser returns a fault for a piece, it has refused the piece with the read fault
-pub refuses_told : {K A : Type 0} (before after : ParserState K) (piece : List ℕ) (fed : Result A StateFault) (told : ReadFault)
-    → MatchResult fed (λ answer. ◌≡◌ {A = Result A ReadFault} (Err told) (Ok answer)) (λ found. IsTold found told)
-    → ((format : Format) (limit : ℕ) (text : List ℕ) → HasRead before format limit text → IfErr fed (IsFaultReported format limit text piece))
-    → AfterEach TakesState before (λ settings text. RefusesPart after settings text piece told)
-refuses_told before after piece (Ok answer) told same reported = absurd (let no : ⊥ = cc in no)
-refuses_told {K} {A} before after piece (Err found) told same reported = refuses_more before after piece {A = A} (Err told)
-    (λ format limit text has other is rest. told_as_state format limit text piece rest found other told (reported format limit text has) same.0 same.1 is)
-    (λ format limit text has is. told_as_memory format limit text piece found told (reported format limit text has) same.1 is)
-    (λ is. never_source found told same (let source : told ≡ fault.Source = cc in source))
-
-same_fault : (found told : StateFault) → ◌≡◌ {A = ReadFault} (fault.State found) (fault.State told) → found ≡ told
-same_fault found told same = cc
-
--- if the parser used only a part of a piece, it has refused the piece with the fault `Tail`
-pub refuses_tail : {K : Type 0} (before after : ParserState K) (piece : List ℕ) (used : ℕ) (step : Step) (found : StateFault) → used < length piece
-    → ((format : Format) (limit : ℕ) (text : List ℕ) → HasRead before format limit text
-    → HasRead after format limit (text ++ take used piece) × IsStep format limit text piece (used, step))
-    → ((format : Format) (limit : ℕ) (text : List ℕ) → HasRead after format limit text → found.at ≡ length text) → found.cause ≡ cause.Tail
-    → AfterEach TakesState before (λ settings text. RefusesPart after settings text piece (fault.State found))
-refuses_tail before after piece used step found below fed at is = λ settings text has.
-    let now = fed settings.format settings.limit text has.read in
-    record {
-      state = λ told same rest. subst (IsFaultOf settings.format settings.limit ((text ++ piece) ++ rest)) (same_fault found told same)
-          (tail_told settings.format settings.limit text piece rest used step found below now.1 (at settings.format settings.limit _ now.0) is);
-      memory = λ same. absurd (let no : ⊥ = cc in no);
-      apart = λ same. let no : ⊥ = cc in no;
-    }
 
 -- the text that was read up to the end of a source is the text that the source held
 held_all : (initial now : Option (List ℕ)) (text : List ℕ) → Reads initial text now → IsEnd now → Held initial text

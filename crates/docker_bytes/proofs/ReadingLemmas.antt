@@ -1,6 +1,6 @@
 -- Reading the text of a state part by part.
 use Rattle.std.proofs.Common.{◌≡◌, ℕ, suc, ◌+◌, ◌-◌, ◌<◌, ◌≤◌, List, [], ◌∷◌, ◌++◌, length, take, get_or, ap, sym, ◌∙◌, ◌⊎◌, arith, true, false, nat_le}
-use Rattle.std.proofs.Common.{append_assoc, append-nil, length-append, Some, None, rules, Option, subst, Result, Ok, Err, IfOk, IfErr, IsErrAnd, MatchResult}
+use Rattle.std.proofs.Common.{append_assoc, append-nil, length-append, Some, None, rules, Option}
 use Rattle.docker_model.specs.file.Change.{ScheduleKey}
 use Rattle.docker_model.specs.state.Stamp.{Stamp, LedgerItem}
 use Rattle.docker_model.specs.state.State.{State}
@@ -147,19 +147,3 @@ module _ {K : Type 0} (initial now : StateReading K) (piece rest : List ℕ) (wh
     record { at = length (items_before (format_of now) (before_of now)); cause = too_short },
     search (rules, append_assoc, length-append),
   )
-
--- ---- results whose fault is replaced by `map_err`
-
--- a value stays the same
-pub value_kept : {A E F : Type 0} (Why : E → F → Type 0) (from : Result A E) (to : Result A F) (P : A → Type 0)
-    → MatchResult from (λ x. to ≡ Ok x) (λ e. IsErrAnd to (Why e)) → IfOk from P → IfOk to P
-value_kept Why (Ok x) to P same is = subst (λ r. IfOk r P) (sym same) is
-value_kept Why (Err e) (Ok x) P same is = absurd same
-value_kept Why (Err e) (Err f) P same is = tt
-
--- a fault comes from a fault
-pub fault_from : {A E F : Type 0} (Why : E → F → Type 0) (from : Result A E) (to : Result A F) (Q : F → Type 0)
-    → MatchResult from (λ x. to ≡ Ok x) (λ e. IsErrAnd to (Why e)) → ((e : E) (f : F) → Why e f → Q f) → IfErr to Q
-fault_from Why (Ok x) to Q same each = subst (λ r. IfErr r Q) (sym same) tt
-fault_from Why (Err e) (Ok x) Q same each = absurd same
-fault_from Why (Err e) (Err f) Q same each = each e f same

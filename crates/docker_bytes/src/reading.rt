@@ -103,11 +103,13 @@ impl<K: PartKeeper> StateReading<K> {
         ensures err { IfErr result (λ fault. IsPartRefused self.old bytes.now fault) }
         ensures next { IsOk result → HasOneLineMore self.old self.new }
     {
-        if let Err(cause) = judged_inner_line(key, &self.parts, count, &mut self.lines, bytes) {
-            return Err(self.bad(cause));
+        match judged_inner_line(key, &self.parts, count, &mut self.lines, bytes) {
+            Ok(()) => {
+                self.reached += bytes.len() as u64;
+                Ok(())
+            }
+            Err(cause) => Err(self.bad(cause)),
         }
-        self.reached += bytes.len() as u64;
-        Ok(())
     }
 
     /// How many lines at the front of a piece of `len` bytes can be taken in one step. These lines
@@ -121,6 +123,13 @@ impl<K: PartKeeper> StateReading<K> {
         let held = (len / LINE) as u64;
         let allowed = (self.limit - self.reached) / LINE as u64;
         held.min(allowed).min(self.lines.before_last(count) as u64)
+    }
+
+    /// Reserves room for all lines of the schedule, if the piece has all of them.
+    fn make_room(&mut self, count: u32, piece: &[u8])
+        ensures { self.new ≡ self.old }
+    {
+        self.lines.make_room(self.alloc, count, piece.len());
     }
 
     /// Takes the complete lines at the front of a piece, up to but not including the schedule's
@@ -142,7 +151,7 @@ impl<K: PartKeeper> StateReading<K> {
         if !self.partial.is_empty() {
             return Ok(piece);
         }
-        self.lines.make_room(self.alloc, count, piece.len());
+        self.make_room(count, piece);
         let mut more = self.inner_lines(count, piece.len());
         let mut rest = piece;
         'lines: while more > 0 {
@@ -197,8 +206,14 @@ impl<K: PartKeeper> StateReading<K> {
                 return self.take_line(&key, count, bytes);
             }
         }
-        let (parts, lines) = (&mut self.parts, &mut self.lines);
-        match step(self.alloc, self.format, self.stage, parts, lines, bytes) {
+        match step(
+            self.alloc,
+            self.format,
+            self.stage,
+            &mut self.parts,
+            &mut self.lines,
+            bytes,
+        ) {
             Ok(stage) => {
                 self.stage = stage;
                 self.reached += bytes.len() as u64;
@@ -287,11 +302,30 @@ impl<K: Maker> StateReading<K> {
         ensures err { IfErr result (λ fault. IsUnended (format_of self) self.limit
             (text_of self) fault) }
     {
-        if !self.is_done() {
-            return Err(self.bad(StateCause::Short));
+        let StateReading {
+            alloc: _,
+            format: _,
+            limit: _,
+            stage,
+            parts,
+            lines: _,
+            partial: _,
+            item_at,
+            reached: _,
+        } = self;
+        if stage.width() > 0 {
+            return Err(StateFault {
+                at: item_at,
+                cause: StateCause::Short,
+            });
         }
-        let out_of_memory = self.bad(StateCause::Memory);
-        self.parts.finish().map_err(|_| out_of_memory)
+        match parts.finish() {
+            Ok(made) => Ok(made),
+            Err(_) => Err(StateFault {
+                at: item_at,
+                cause: StateCause::Memory,
+            }),
+        }
     }
 }
 
@@ -307,13 +341,19 @@ impl<R: Receiver> StateReading<Received<R>> {
             (text_of self) fault) }
         ensures back { IsErr result.1 → result.0 ≡ R.own }
     {
-        if !self.is_done() {
-            let short = self.bad(StateCause::Short);
-            return (self.parts.into_own(), Err(short));
+        let at = self.item_at;
+        if self.stage.width() > 0 {
+            let cause = StateCause::Short;
+            return (self.parts.into_own(), Err(StateFault { at, cause }));
         }
-        let out_of_memory = self.bad(StateCause::Memory);
         let (state, done) = self.parts.join();
-        (state, done.map_err(|_| out_of_memory))
+        match done {
+            Ok(()) => (state, Ok(())),
+            Err(wanting) => {
+                let cause = StateCause::from(wanting);
+                (state, Err(StateFault { at, cause }))
+            }
+        }
     }
 
     /// Returns the receiving state unchanged.

@@ -16,7 +16,7 @@ use Rattle.docker_cmd.specs.Tasks.{sources_of}
 use Rattle.docker_cmd.specs.Prepared.{CountsSources, HasNoSource, ReadsSources}
 use Rattle.docker_cmd.specs.Prepared.{DeviceBytes, EndsReadingSources, HasReadToEnd, IsOfOneFile, IsPreparedFor}
 use Rattle.docker_cmd.specs.Prepared.{IsReadOf, ReadView, ReadsFew, file_read, most_bytes, office_read}
-use Rattle.docker_cmd.specs.declared.prepared_job.Holding.{Holding}
+use Rattle.docker_cmd.specs.declared.holding.Holding.{Holding}
 use Rattle.docker_cmd.proofs.ReadingLemmas.{read_alone, state_failed_alone, state_refused_alone}
 
 -- `no_state`, the state without files and without a horizon, is the summary of no files and no

@@ -8,8 +8,8 @@ use Rattle.clap.specs.Faults.{fault_of}
 use Rattle.clap.specs.Kinds.{IsAmong}
 use Rattle.clap.specs.declared.error.ErrorKind.{ErrorKind}
 use Rattle.clap.specs.declared.error.ErrorKind.TheVariants.{OutOfMemory}
-use Rattle.docker_cmd.specs.declared.fault.JobFault.{JobFault}
-use Rattle.docker_cmd.specs.declared.fault.JobFault.TheVariants.{Usage}
+use Rattle.docker_cmd.specs.declared.job_fault.JobFault.{JobFault}
+use Rattle.docker_cmd.specs.declared.job_fault.JobFault.TheVariants.{Usage}
 use Rattle.docker_cmd.specs.declared.tasks.Subcommand.{Subcommand}
 use Rattle.docker_cmd.specs.Words.{Text, is_plain_word, texts}
 use Rattle.docker_cmd.specs.Job.{NameNoSubcommand, NamesSubcommand}

@@ -3,8 +3,8 @@
 use Rattle.std.specs.Prelude.{◌≡◌}
 use Rattle.docker_excerpt.specs.Values.{Excerpt}
 use Rattle.docker_cmd.specs.Prepared.{ReadView, file_read, office_read}
-use Rattle.docker_cmd.specs.declared.prepared_job.Holding.{Holding}
-use Rattle.docker_cmd.specs.declared.prepared_job.Holding.TheVariants.{Counts, Whole, Place, Ledger}
+use Rattle.docker_cmd.specs.declared.holding.Holding.{Holding}
+use Rattle.docker_cmd.specs.declared.holding.Holding.TheVariants.{Counts, Whole, Place, Ledger}
 use Rattle.docker_cmd.specs.Writes.{Output, counts_written, docker_written, files_written, state_written}
 
 -- the content from which an excerpt was made, namely a whole state

@@ -1,7 +1,7 @@
 -- The kinds of input that a task reads.
 use Rattle.docker_model.specs.state.StateText.{Format, dks_1, dks_2}
-use Rattle.docker_cmd.specs.declared.tasks.Sources as declared
-use Rattle.docker_cmd.specs.declared.tasks.Sources.TheVariants as code
+use Rattle.docker_cmd.specs.declared.reads.Sources as declared
+use Rattle.docker_cmd.specs.declared.reads.Sources.TheVariants as code
 
 -- the input of a task, in the order of its words. A file is only checked, or taken by an office. A
 -- state is in the format `DKS2` or in the older format `DKS1`. A file or a second state may follow

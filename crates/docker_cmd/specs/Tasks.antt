@@ -9,8 +9,8 @@ use Rattle.docker_cmd.specs.declared.tasks.Subcommand.{Subcommand}
 use Rattle.docker_cmd.specs.declared.tasks.Subcommand.TheVariants.{New, Check, Day, Take, Merge, Print, Files, Horizon, Migrate}
 use Rattle.docker_cmd.specs.declared.tasks.Task.{Task}
 use Rattle.docker_cmd.specs.declared.tasks.Task.TheVariants as task
-use Rattle.docker_cmd.specs.declared.tasks.OutputKind.{OutputKind}
-use Rattle.docker_cmd.specs.declared.tasks.OutputKind.TheVariants as kind
+use Rattle.docker_cmd.specs.declared.writes.OutputKind.{OutputKind}
+use Rattle.docker_cmd.specs.declared.writes.OutputKind.TheVariants as kind
 
 -- a row of the table: a subcommand's name, the names of the words after it, what the subcommand
 -- reads, and the kind of output that it writes

@@ -1,7 +1,7 @@
 -- The outputs that tasks write, and their kinds.
 use Rattle.std.specs.Prelude.{ℕ, List, [], Option, unwrap_or}
-use Rattle.docker_cmd.specs.declared.tasks.OutputKind.{OutputKind}
-use Rattle.docker_cmd.specs.declared.tasks.OutputKind.TheVariants as kind
+use Rattle.docker_cmd.specs.declared.writes.OutputKind.{OutputKind}
+use Rattle.docker_cmd.specs.declared.writes.OutputKind.TheVariants as kind
 
 -- the output of a task: a file's counts, a docker, the list of a state's files, or a state
 pub data Output : Type 0 where

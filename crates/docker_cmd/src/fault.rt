@@ -1,10 +1,9 @@
 //! The faults that end the program before it has finished its job.
 ghost use Rattle.std.specs.Prelude.{◌≡◌};
 ghost use Rattle.docker_cmd.specs.declared.fault.Fault.TheVariants.{Job, Office};
-ghost use Rattle.docker_cmd.specs.declared.fault.JobFault.TheVariants.{Memory};
 
+use crate::job_fault::JobFault;
 use docker_office::OfficeFault;
-use std::alloc::AllocError;
 use thiserror::Error;
 
 /// A fault that ends the program. `Display` writes the inner fault; `fault_text` returns the line
@@ -32,27 +31,5 @@ impl From<OfficeFault> for Fault {
 
     fn from(cause: OfficeFault) -> Fault {
         Fault::Office(cause)
-    }
-}
-
-/// The reason why no job was found in the words or in the job line.
-#[derive(Clone, Copy, PartialEq, Eq, Debug, Error)]
-pub enum JobFault {
-    /// The words aren't a subcommand followed by the words that it requires.
-    #[error("usage")]
-    Usage,
-    /// Out of memory: the allocator refused a request.
-    #[error("want of memory")]
-    Memory,
-    /// The source of the job line failed.
-    #[error("device failed")]
-    Source,
-}
-
-impl From<AllocError> for JobFault {
-    ghost from_gives = { λ _ fault. fault ≡ Memory };
-
-    fn from(_refused: AllocError) -> JobFault {
-        JobFault::Memory
     }
 }

@@ -4,7 +4,8 @@ ghost use Rattle.arrayvec.specs.ArrayVec.{array_vec_len};
 ghost use Rattle.cif_change.specs.Cause.{cause_text};
 ghost use Rattle.docker_cmd.specs.FaultLine.{status_of, fault_line, file_line, state_line};
 
-use crate::fault::{Fault, JobFault};
+use crate::fault::Fault;
+use crate::job_fault::JobFault;
 use crate::tasks::usage;
 use arrayvec::ArrayVec;
 use cif_file::{FileCause, FileFault};

@@ -3,7 +3,7 @@ ghost use Rattle.std.specs.Prelude.{◌≡◌, ◌≢◌, ◌↔◌, IfOk, false
 ghost use Rattle.docker_cmd.specs.Job.{AskNothing, IsJobOf, NameNoJob};
 ghost use Rattle.docker_cmd.specs.Words.{texts};
 
-use crate::fault::JobFault;
+use crate::job_fault::JobFault;
 use crate::jobs::Job;
 use crate::named::word_named;
 use crate::tasks::Subcommand;

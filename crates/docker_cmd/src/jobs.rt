@@ -64,19 +64,13 @@ impl Job {
     pub fn tiploc(&self) -> Option<Tiploc>
         ensures { result ≡ tiploc_of self.now.task }
     {
-        match self.task {
-            Task::Day { place, .. } | Task::Print { place, .. } => Some(place),
-            _ => None,
-        }
+        self.task.tiploc()
     }
 
     /// Returns the day that the words name; `None` if the subcommand takes no day.
     pub fn day(&self) -> Option<Day>
         ensures { result ≡ day_of self.now.task }
     {
-        match self.task {
-            Task::Day { day, .. } | Task::Print { day, .. } | Task::Horizon { day } => Some(day),
-            _ => None,
-        }
+        self.task.day()
     }
 }

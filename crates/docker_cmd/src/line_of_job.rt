@@ -1,13 +1,15 @@
 //! Reads the job line. A program that is started without words reads its words from the first line
 //! of its standard input.
-ghost use Rattle.std.specs.Prelude.{◌≡◌, ◌+◌, ◌*◌, ◌-◌, ◌^◌, ◌<◌, ◌≤◌, ◌≢◌, ◌++◌, length, Some, IfOk, IsErr, IsSome, OnErr, OnOk, Err, MatchOption, IfSome};
+ghost use Rattle.std.specs.Prelude.{◌≡◌, ◌+◌, ◌*◌, ◌-◌, ◌^◌, ◌<◌, ◌≤◌, ◌↔◌, ◌≢◌, ◌++◌, length, Some, IfOk, IsErr, IsSome, OnErr, OnOk, Err, MatchOption, IfSome};
 ghost use Rattle.std.specs.List.{position_or_len, before_first, after_first};
-ghost use Rattle.cif_device.specs.Device.{CountsFailure, IsNotPassed};
+ghost use Rattle.cif_device.specs.Device.{IsNotPassed};
+ghost use Rattle.cif_device.specs.Device.{CountsFailure};
+ghost use Rattle.docker_cmd.specs.Job.{IsJobOf, NameNoJob};
 ghost use Rattle.arrayvec.specs.ArrayVec.{array_vec_len};
 ghost use Rattle.docker_cmd.specs.JobLine.{HasJob, HasNoJob, HasNoLine, IsLineText, ReadsAtMost, ReadsByte, ReadsJob, ReadsLine, is_space, word_or_none, words_in};
 ghost use Rattle.docker_cmd.specs.Words.{texts};
 
-use crate::fault::JobFault;
+use crate::job_fault::JobFault;
 use crate::job_of_words::job;
 use crate::jobs::Job;
 use arrayvec::ArrayVec;
@@ -46,7 +48,18 @@ pub fn job_line<S: Source>(alloc: Global, source: &mut S) -> Result<Job, JobFaul
     ensures not_ended { OnOk result (S.ended source.new ≡ S.ended source.old) }
 {
     let line = read_line(source)?;
-    let words = words_in(text_of(line.as_slice()));
+    job_of_line(alloc, line.as_slice())
+}
+
+/// Returns the job that a job line names.
+fn job_of_line(alloc: Global, line: &[u8]) -> Result<Job, JobFault>
+    requires { IsLineText line.now }
+    ensures job { IfOk result (λ job. IsJobOf (words_in line.now) job) }
+    ensures usage { (result ≡ Err JobFault.Usage) ↔ NameNoJob (words_in line.now) }
+    ensures source { result ≢ Err JobFault.Source }
+{
+    let text = text_of(line);
+    let words = words_in(text);
     job(alloc, words.as_slice())
 }
 

@@ -1,21 +1,16 @@
 //! Writes the output of a job.
-ghost use Rattle.std.specs.Prelude.{◌≡◌, ◌-◌, ◌^◌, ◌<◌, Err};
-ghost use Rattle.docker_cmd.specs.CheckLine.{count_line};
-ghost use Rattle.docker_cmd.specs.Prepared.{EndsEmitting, IsRefused, file_read};
-ghost use Rattle.docker_cmd.specs.Writes.{counts_written};
+ghost use Rattle.std.specs.Prelude.{◌≡◌, ◌-◌, ◌^◌, ◌<◌, IfErr, OnErr, OnOk, Err};
+ghost use Rattle.cif_device.specs.Device.{CountsFailure, Takes, TakesPart};
+ghost use Rattle.docker_cmd.specs.Prepared.{EndsEmitting, IsRefused, IsRefusedDocker, file_read, office_read};
+ghost use Rattle.docker_cmd.specs.Writes.{counts_written, docker_written, files_written, state_written};
 ghost use Rattle.docker_cmd.specs.Tasks.{output_of};
 
-use crate::prepared_job::{Holding, Prepared};
-use arrayvec::ArrayVec;
+use crate::check_line::check_line;
+use crate::holding::Holding;
+use crate::prepared_job::Prepared;
 use cif_file::FileCount;
 use cif_line::{Sink, write_all};
-use docker_office::OfficeFault;
-use fixed_text::put;
-use itoa::Buffer;
-
-/// The line that `check` writes, with its line feed. It has at most 64 bytes, whatever the two
-/// counts are.
-type CheckText = ArrayVec<u8, 64>;
+use docker_office::{LedgerOffice, Office, OfficeFault, PlaceOffice};
 
 /// Writes what the job prints, or the text of the state that the job stores. `check` writes the
 /// line with its file's counts. `day` and `print` write the docker of the timing point and the day
@@ -33,9 +28,9 @@ pub fn emit<K: Sink>(prepared: &Prepared<'_>, sink: &mut K) -> Result<(), Office
 {
     match prepared.held() {
         Holding::Counts(file) => write_counts(file, sink),
-        Holding::Whole(office) => office.send(sink),
-        Holding::Place(office) => office.print(sink),
-        Holding::Ledger(office) => office.files(sink),
+        Holding::Whole(office) => write_state(office, sink),
+        Holding::Place(office) => write_place(office, sink),
+        Holding::Ledger(office) => write_ledger(office, sink),
     }
 }
 
@@ -46,19 +41,46 @@ fn write_counts<K: Sink>(file: &FileCount, sink: &mut K) -> Result<(), OfficeFau
         sink.old sink.new result }
 {
     let text = check_line(file.records(), file.changes());
-    write_all(sink, text.as_slice()).map_err(|_| OfficeFault::Sink)
+    write(sink, text.as_slice())
 }
 
-/// Returns the line for a file with `records` records and `changes` changes. The header and the
-/// trailer count as records.
-fn check_line(records: u32, changes: u64) -> CheckText
-    ensures { result.items ≡ count_line records changes }
+/// Writes the text. If the sink fails, the sink has gained a proper prefix of the text.
+fn write<K: Sink>(sink: &mut K, text: &[u8]) -> Result<(), OfficeFault>
+    requires { K.failures sink.old < 2 ^ 64 - 1 }
+    ensures whole { OnOk result (Takes (K.taken sink.old) text.now (K.taken sink.new)) }
+    ensures part { OnErr result (TakesPart (K.taken sink.old) text.now (K.taken sink.new)) }
+    ensures failures { CountsFailure (result ≡ Err OfficeFault.Sink)
+        (K.failures sink.old) (K.failures sink.new) }
+    ensures only { IfErr result (λ fault. fault ≡ OfficeFault.Sink) }
 {
-    let mut text = ArrayVec::new();
-    put(&mut text, b"accepted: ");
-    put(&mut text, Buffer::new().format(records).as_bytes());
-    put(&mut text, b" records, ");
-    put(&mut text, Buffer::new().format(changes).as_bytes());
-    put(&mut text, b" changes\n");
-    text
+    write_all(sink, text).map_err(|_| OfficeFault::Sink)
+}
+
+/// Writes the text of an office's state.
+fn write_state<K: Sink>(office: &Office, sink: &mut K) -> Result<(), OfficeFault>
+    requires { K.failures sink.old < 2 ^ 64 - 1 }
+    ensures { EndsEmitting K.taken K.failures state_written (office_read office.now)
+        sink.old sink.new result }
+{
+    office.send(sink)
+}
+
+/// Writes the docker for which the excerpt was made.
+fn write_place<K: Sink>(office: &PlaceOffice, sink: &mut K) -> Result<(), OfficeFault>
+    requires { K.failures sink.old < 2 ^ 64 - 1 }
+    ensures ends { EndsEmitting K.taken K.failures (docker_written office.now.place office.now.day)
+        (office_read office.now.state) sink.old sink.new result }
+    ensures lapsed { IsRefusedDocker (docker_written office.now.place office.now.day)
+        (office_read office.now.state) → result ≡ Err OfficeFault.Lapsed }
+{
+    office.print(sink)
+}
+
+/// Writes the list of the files in a ledger.
+fn write_ledger<K: Sink>(office: &LedgerOffice, sink: &mut K) -> Result<(), OfficeFault>
+    requires { K.failures sink.old < 2 ^ 64 - 1 }
+    ensures { EndsEmitting K.taken K.failures files_written (office_read office.now)
+        sink.old sink.new result }
+{
+    office.files(sink)
 }

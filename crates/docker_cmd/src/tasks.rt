@@ -3,15 +3,17 @@ ghost use Rattle.std.specs.Prelude.{◌≡◌, None, Some, codes, if◌then◌el
 ghost use Rattle.std.specs.Str.{bytes_eq};
 ghost use Rattle.docker_cmd.specs.Job.{IsTaskOf};
 ghost use Rattle.docker_cmd.specs.Reads.{sources_meant};
-ghost use Rattle.docker_cmd.specs.Tasks.{ids_of, row_meant, row_of, sources_of, subcommand_of, task_meant, usage_line, writes_of};
+ghost use Rattle.docker_cmd.specs.Tasks.{day_of, ids_of, row_meant, row_of, sources_of, subcommand_of, task_meant, tiploc_of, usage_line, writes_of};
 ghost use Rattle.docker_cmd.specs.Words.{texts};
 ghost use Rattle.docker_cmd.specs.Tasks as tasks;
 
 use crate::named::{TableWord, place_and_day};
-use crate::tasks::OutputKind::{Counts, Docker, Files, State};
-use crate::tasks::Sources::{
+use crate::reads::Sources;
+use crate::reads::Sources::{
     CheckedFile, NoSource, OlderState, OneState, StateAndFile, TakenFile, TwoStates,
 };
+use crate::writes::OutputKind;
+use crate::writes::OutputKind::{Counts, Docker, Files, State};
 use cif_line::{Day, Tiploc};
 
 /// The subcommands.
@@ -35,40 +37,6 @@ pub enum Subcommand {
     Horizon,
     /// Reads a state in the format `DKS1`, and writes it in the format `DKS2`.
     Migrate,
-}
-
-/// The input of a task, in the order of its words. It says which of the words name files or standard
-/// input, and so which devices the program has to open. `prepare` doesn't need it: the task itself
-/// determines how the sources are read.
-#[derive(Clone, Copy, PartialEq, Eq, Debug)]
-pub enum Sources {
-    /// No input.
-    NoSource,
-    /// A CIF file that is only checked. No office takes it.
-    CheckedFile,
-    /// A CIF file that an office takes.
-    TakenFile,
-    /// A state.
-    OneState,
-    /// A state in the older format, whose mark is `DKS1`.
-    OlderState,
-    /// A state, and then a CIF file that the office with this state takes.
-    StateAndFile,
-    /// A state, and then a second state that is joined to the first.
-    TwoStates,
-}
-
-/// A kind of output.
-#[derive(Clone, Copy, PartialEq, Eq, Debug)]
-pub enum OutputKind {
-    /// The line with a file's counts.
-    Counts,
-    /// The docker of a timing point on a day.
-    Docker,
-    /// The list of the files that a state knows.
-    Files,
-    /// The text of a state. This text replaces the file that the first word names.
-    State,
 }
 
 /// A row of the table of subcommands.
@@ -249,6 +217,26 @@ impl Task {
             Task::Files => Subcommand::Files,
             Task::Horizon { .. } => Subcommand::Horizon,
             Task::Migrate => Subcommand::Migrate,
+        }
+    }
+
+    /// Returns the timing point that the task names, if it names one.
+    pub(crate) fn tiploc(self) -> Option<Tiploc>
+        ensures { result ≡ tiploc_of (task_meant self) }
+    {
+        match self {
+            Task::Day { place, .. } | Task::Print { place, .. } => Some(place),
+            _ => None,
+        }
+    }
+
+    /// Returns the day that the task names, if it names one.
+    pub(crate) fn day(self) -> Option<Day>
+        ensures { result ≡ day_of (task_meant self) }
+    {
+        match self {
+            Task::Day { day, .. } | Task::Print { day, .. } | Task::Horizon { day } => Some(day),
+            _ => None,
         }
     }
 

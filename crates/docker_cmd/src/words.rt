@@ -6,8 +6,8 @@ ghost use Rattle.docker_cmd.specs.Grammar.{found_words, found_in, pair_of};
 ghost use Rattle.docker_cmd.specs.Job.{NamesSubcommand, NameNoSubcommand};
 ghost use Rattle.docker_cmd.specs.Words.{is_plain_word, texts};
 
-use crate::fault::JobFault;
 use crate::grammar::matches;
+use crate::job_fault::JobFault;
 use crate::named::{is_plain, word_named};
 use crate::tasks::Subcommand;
 use arrayvec::ArrayVec;

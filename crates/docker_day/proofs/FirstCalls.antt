@@ -1,7 +1,7 @@
 -- Lemmas on the calls that base trains make at a place, each with its first event. The calls of the
 -- base train that was looked up last are stored.
-use Rattle.cif_laws.proofs.Common.{◌≡◌, ℕ, true, false, List, [], subst, Some, None, eqb-true, rules, Option, IfOk, Result, Ok, Err, get, Updates}
-use Rattle.cif_laws.proofs.Common.{is_some, nat_cmp, Train, DockerLine, ScheduleKey, Occasion, column, Row, AreRowsOf, Table}
+use Rattle.cif_laws.proofs.Common.{◌≡◌, ℕ, true, false, List, subst, Some, eqb-true, rules, Option, IfOk, Result, Ok, Err, get, Updates, is_some, nat_cmp}
+use Rattle.cif_laws.proofs.Common.{Train, DockerLine, ScheduleKey, Occasion, column, Row, AreRowsOf, Table}
 use Rattle.std.specs.BTreeMap.{BTreeMap}
 use Rattle.docker_laws.specs.LiveRows.{Link, train_in, IsTrainOn}
 use Rattle.docker_laws.proofs.dockers.TrainOfRows.{trains_tell}
@@ -47,11 +47,6 @@ module _ (trains : List ℕ → ℕ → Option Train) (day start : ℕ) (link : 
       → ((key : ScheduleKey) → key.uid ≡ link.key.base → lines ≡ link_line_at trains day start link occasion key event)
       → lines ≡ link_line_with trains day start link (Some occasion) base
   line_at_call = search rules
-
-  -- if a base train doesn't call at the association's place, the association has no docker line
-  pub no_line : (base : Option Train) → None ≡ first_call base link.key.location link.key.suffix
-      → [] ≡ link_line_with trains day start link (Some occasion) base
-  no_line = search rules
 
 -- says that the line, if there is one, is the association's line at this event, whatever key the
 -- base train's schedule has

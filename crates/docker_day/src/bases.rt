@@ -1,6 +1,8 @@
 //! The calls that base trains make at a place. The calls of the base train that was looked up last
 //! are remembered.
-ghost use Rattle.std.specs.Prelude.{◌≡◌, List, Some, IfOk};
+ghost use Rattle.std.specs.Prelude.{◌≡◌, ℕ, List, IfOk, IfSome};
+ghost use Rattle.std.specs.BTreeMap.{get};
+ghost use Rattle.std.specs.Ordering.{nat_cmp};
 ghost use Rattle.docker_model.specs.state.Row.{Row, AreRowsOf};
 ghost use Rattle.docker_laws.specs.LiveRows.{train_in};
 ghost use Rattle.docker_day.specs.Bases.{AreKnownCalls, first_call, meant_if};
@@ -8,6 +10,7 @@ ghost use Rattle.docker_state.specs.Timetables.{live_in};
 ghost use Rattle.train_choice.specs.Known.{PlaceDay};
 
 use crate::base_calls::{BaseCalls, first_calls};
+use crate::first_event::FirstEvent;
 use cif_line::{Day, Memory, Tiploc, Uid};
 use docker_state::Timetable;
 use std::alloc::Global;
@@ -76,32 +79,57 @@ impl<'a> Bases<'a> {
             → AreRowsOf (live_in self.old.timetable) rows → meant_if event
             ≡ first_call (train_in rows uid.now self.old.day) self.old.place suffix) }
     {
-        let known = self.take(uid)?;
-        let event = match known.calls.get(&suffix) {
-            Some(call) => Some(call.event()),
-            None => None,
-        };
-        self.last = Some(known);
-        Ok(event)
+        match self.known(uid, suffix) {
+            Some(event) => Ok(event),
+            None => self.look_up(uid, suffix),
+        }
     }
 
-    /// Takes the calls of a train. If it isn't the train that was looked up last, its lines are
-    /// read. Returns `Memory` if there is no room for its calls.
-    fn take(&mut self, uid: &Uid) -> Result<BaseCalls<'a>, Memory>
-        ensures same { self.new ≡ self.old }
-        ensures known { IfOk result (λ known. AreKnownCalls (live_in self.old.timetable)
-            self.old.place self.old.day (Some known)) }
-        ensures uid { IfOk result (λ known. known.uid ≡ uid.now) }
+    /// The first event of the call, if this train was looked up last. The outer `None` means that
+    /// no train or another train was looked up last. The inner `None` means that the train has no
+    /// call with this suffix.
+    fn known(&self, uid: &Uid, suffix: u8) -> Option<Option<Occurrence<'a>>>
+        ensures { IfSome result (λ event. (rows : List Row)
+            → AreRowsOf (live_in self.now.timetable) rows → meant_if event
+            ≡ first_call (train_in rows uid.now self.now.day) self.now.place suffix) }
     {
-        if let Some(last) = self.last.take() {
-            if last.uid == *uid {
-                return Ok(last);
-            }
+        match &self.last {
+            Some(last) => last.asked(uid, suffix),
+            None => None,
         }
-        let calls = match train_on(&self.timetable, uid, self.day) {
-            Some(train) => first_calls(self.alloc, train.events(), &self.place)?,
-            None => BTreeMap::new(self.alloc),
-        };
-        Ok(BaseCalls { uid: *uid, calls })
+    }
+
+    /// Like `first_call`, but always walks over the train's lines. Remembers the train's calls.
+    fn look_up(&mut self, uid: &Uid, suffix: u8) -> Result<Option<Occurrence<'a>>, Memory>
+        ensures same { self.new ≡ self.old }
+        ensures event { IfOk result (λ event. (rows : List Row)
+            → AreRowsOf (live_in self.old.timetable) rows → meant_if event
+            ≡ first_call (train_in rows uid.now self.old.day) self.old.place suffix) }
+    {
+        let calls = calls_of(self.alloc, &self.timetable, uid, &self.place, self.day)?;
+        let last = BaseCalls { uid: *uid, calls };
+        let event = last.first(suffix);
+        self.last = Some(last);
+        Ok(event)
+    }
+}
+
+/// Looks up the train of a UID that starts on a day, and returns its calls at a place, each with
+/// its first event.
+fn calls_of<'a>(
+    alloc: Global,
+    timetable: &Timetable<'a>,
+    uid: &Uid,
+    place: &Tiploc,
+    day: Day,
+) -> Result<BTreeMap<u8, FirstEvent<'a>>, Memory>
+    ensures { IfOk result (λ calls. (suffix : ℕ) (rows : List Row)
+        → AreRowsOf (live_in timetable.now) rows
+        → get nat_cmp calls suffix
+        ≡ first_call (train_in rows uid.now day) place.now suffix) }
+{
+    match train_on(timetable, uid, day) {
+        Some(train) => first_calls(alloc, train.events(), place),
+        None => Ok(BTreeMap::new(alloc)),
     }
 }

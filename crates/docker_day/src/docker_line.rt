@@ -4,7 +4,7 @@ ghost use Rattle.std.specs.Ordering.{as_partial_cmp, eq_by_cmp};
 ghost use Rattle.std.specs.Cmp.{partial_equiv_from_equiv, eq_by_cmp_equiv, partial_order_from_total};
 ghost use Rattle.std.proofs.Common.{refl};
 ghost use Rattle.docker_model.specs.file.Change.{ScheduleKey};
-ghost use Rattle.docker_model.specs.docker.DockerLine.{associated_uid, docker_line_cmp};
+ghost use Rattle.docker_model.specs.docker.DockerLine.{docker_line_cmp};
 ghost use Rattle.docker_model.specs.docker.DockerLine as lines;
 ghost use Rattle.cif_laws.proofs.orders.Orders.{docker_line_total};
 ghost use Rattle.cif_line.specs.Letter.{stp_letter};
@@ -13,43 +13,12 @@ ghost use Rattle.docker_day.specs.Details.{detail_meant};
 ghost use Rattle.train_choice.specs.EventWalk.{occurrence_meant};
 ghost use Rattle.docker_day.specs.Lines.{line_at_event, line_of_link, cmp_at_one_time, cmp_at_one_event, cmp_of_one_train};
 
-use crate::location::Location;
+use crate::detail::Detail;
+use crate::location::{Location, suffix_in};
 use cif_line::{Day, Stp, Time, Uid};
 use std::cmp::Ordering;
 use std::marker::Model;
 use train_choice::{LinkView, Occasion, Occurrence, ScheduleView};
-
-/// The content of a docker line's last columns.
-#[derive(Clone, Copy, Debug)]
-pub enum Detail {
-    /// For an event: where the train starts and where it ends.
-    Ends {
-        /// The TIPLOC of the origin.
-        origin: [u8; 7],
-        /// The TIPLOC of the terminus.
-        destination: [u8; 7],
-    },
-    /// For an association: the associated train.
-    Partner {
-        /// The UID of the associated train.
-        uid: Uid,
-        /// The train identity of the associated train on its start day, or `????` if the train
-        /// doesn't run on that day.
-        identity: [u8; 4],
-    },
-}
-
-impl Detail {
-    /// The UID of the associated train, or an empty slice for an event.
-    fn associated_uid(&self) -> &[u8]
-        ensures { result.now ≡ associated_uid (detail_meant self.now) }
-    {
-        match self {
-            Detail::Ends { .. } => &[],
-            Detail::Partner { uid, .. } => uid.bytes(),
-        }
-    }
-}
 
 /// A line of a docker: an event of a train, or an association of the train with another train.
 /// Lines are ordered by the time, the occasion, the UID, the start day, the number of the event,
@@ -112,7 +81,7 @@ impl<'a> DockerLine<'a> {
             identity: event.identity,
             uid: key.uid,
             stp: key.stp,
-            suffix: event.line.column(10),
+            suffix: suffix_in(event.line),
             platform: location.platform,
             track: location.track,
             path: location.path,
@@ -142,7 +111,7 @@ impl<'a> DockerLine<'a> {
             identity: event.identity,
             uid: link.key().base,
             stp: link.key().stp,
-            suffix: event.line.column(10),
+            suffix: suffix_in(event.line),
             platform: Location::of(event.line).platform,
             track: b"   ",
             path: b"   ",

@@ -9,10 +9,10 @@ use std::marker::Model;
 /// The docker of a timing point and a day.
 #[derive(Debug, Drop)]
 pub struct Docker<'a> {
-    pub(crate) place: Tiploc,
-    pub(crate) day: Day,
-    pub(crate) description: &'a [u8; 26],
-    pub(crate) lines: Vec<DockerLine<'a>>,
+    place: Tiploc,
+    day: Day,
+    description: &'a [u8; 26],
+    lines: Vec<DockerLine<'a>>,
 }
 
 impl<'a> Model for Docker<'a> {
@@ -27,6 +27,28 @@ impl<'a> Model for Docker<'a> {
 }
 
 impl<'a> Docker<'a> {
+    /// Makes a docker of this place and day, with this description and these lines.
+    pub(crate) fn of(
+        place: Tiploc,
+        day: Day,
+        description: &'a [u8; 26],
+        lines: Vec<DockerLine<'a>>,
+    ) -> Docker<'a>
+        ensures { result ≡ record {
+          place = place;
+          day = day;
+          description = description.entry.now;
+          lines = lines.entry.items;
+        } }
+    {
+        Docker {
+            place,
+            day,
+            description,
+            lines,
+        }
+    }
+
     /// The timing point.
     pub fn place(&self) -> Tiploc
         ensures { result ≡ self.now.place }

@@ -9,10 +9,11 @@ ghost use Rattle.docker_state.specs.Timetables.{live_in};
 use crate::docker_line::DockerLine;
 use crate::link_lines::link_line;
 use crate::row_view::RowView;
-use crate::train_lines::add_schedule;
-use crate::visit::{Visit, Visits};
+use crate::train_lines::{add_schedule, is_under_way, runs_recently};
+use crate::visit::Visit;
+use crate::visits::Visits;
 use cif_line::{Day, Memory, Tiploc};
-use train_choice::{LinkView, passes_midnight};
+use train_choice::LinkView;
 
 /// Appends the docker lines of a row to `lines`, for each start day whose trains may be at the
 /// place on the day. `row` is the row's index. Returns `Memory` if there is no room for the lines.
@@ -46,23 +47,18 @@ fn row_runs_recently(view: &RowView<'_>, day: Day) -> bool
     ensures { result ≡ row_runs_recently view.now day }
 {
     match view {
-        RowView::Train(train) => train.recent_runs(day).is_some(),
+        RowView::Train(train) => runs_recently(train, day),
         RowView::Link(_) | RowView::Other => true,
     }
 }
 
 /// Whether a row may have lines at a place on a day for a train that started before that day. A
-/// schedule has no such lines unless its train may be under way. That is so if the schedule runs on
-/// one of the two days before that day, and its train passes midnight before its last event at the
-/// place.
+/// schedule has no such lines unless its train may be under way.
 fn is_row_under_way(view: &RowView<'_>, place: &Tiploc, day: Day) -> bool
     ensures { result ≡ row_under_way place.now view.now day }
 {
     match view {
-        RowView::Train(train) => {
-            let recent = train.recent_runs(day);
-            (recent.day_before | recent.two_before) && passes_midnight(train, place)
-        }
+        RowView::Train(train) => is_under_way(train, place, day),
         RowView::Link(_) | RowView::Other => true,
     }
 }

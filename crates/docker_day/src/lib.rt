@@ -4,6 +4,7 @@
 mod base_calls;
 mod bases;
 mod clock;
+mod detail;
 mod docker_line;
 mod docker_list;
 mod fault;
@@ -15,12 +16,15 @@ mod making;
 mod portions;
 mod print;
 mod row_view;
+mod starts;
 mod train_lines;
 mod visit;
+mod visits;
 
 pub use cif_change::{Key, ScheduleKey};
 pub use clock::clock_text;
-pub use docker_line::{Detail, DockerLine};
+pub use detail::Detail;
+pub use docker_line::DockerLine;
 pub use docker_list::Docker;
 pub use docker_state::{LedgerItem, Merge, State};
 pub use fault::DockerFault;

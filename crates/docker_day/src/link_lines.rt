@@ -1,7 +1,7 @@
 //! The docker line of an association.
-ghost use Rattle.std.specs.Prelude.{◌≡◌, List, option_map, IfOk};
+ghost use Rattle.std.specs.Prelude.{◌≡◌, List, Some, option_map, IfOk};
 ghost use Rattle.docker_model.specs.file.Change.{ScheduleKey};
-ghost use Rattle.docker_model.specs.records.Record.{column};
+ghost use Rattle.docker_model.specs.records.Record.{columns, column};
 ghost use Rattle.docker_model.specs.docker.Association.{category_occasion, is_date_indicator, partner_start};
 ghost use Rattle.docker_laws.specs.Gathering.{is_in_force, partner_identity};
 ghost use Rattle.docker_model.specs.state.Row.{Row, AreRowsOf};
@@ -9,14 +9,14 @@ ghost use Rattle.docker_laws.specs.LiveRows.{train_in, link_in};
 ghost use Rattle.train_choice.specs.Meaning.{occasion_meant};
 ghost use Rattle.train_choice.specs.EventWalk.{occurrence_meant};
 ghost use Rattle.train_choice.specs.Along.{IsLiveLink};
-ghost use Rattle.docker_day.specs.Lines.{listed, link_line_at, link_piece};
+ghost use Rattle.docker_day.specs.Lines.{listed, link_line_at, link_line_with, link_piece};
 ghost use Rattle.docker_state.specs.Timetables.{live_in};
 
 use crate::docker_line::DockerLine;
-use crate::train_lines::is_today;
+use crate::starts::{is_today, partner_start};
 use crate::visit::Visit;
-use cif_line::{Day, Memory};
-use train_choice::{LinkView, Occasion, Occurrence, day_back, is_cancellation};
+use cif_line::Memory;
+use train_choice::{LinkView, Occasion, Occurrence, is_cancellation};
 
 /// The docker line of an association for a visit. Returns `None` if the association isn't in force
 /// on the start day, or if its category isn't `JJ`, `VV` or `NP`. Also returns `None` if its base
@@ -32,17 +32,10 @@ pub(crate) fn link_line<'a>(
         → AreRowsOf (live_in visit.old.timetable) rows → listed line
         ≡ link_piece (train_in rows) (link_in rows) visit.old.day link.now visit.old.start) }
 {
-    if !is_in_force(visit, link) {
-        return Ok(None);
-    }
-    let Some(occasion) = occasion_of(link.record().category()) else {
-        return Ok(None);
-    };
-    let key = link.key();
-    match visit.first_call(&key.base, key.suffix) {
-        Ok(Some(event)) => line_at(visit, link, occasion, &event),
-        Ok(None) => Ok(None),
-        Err(refused) => Err(refused),
+    if is_in_force(visit, link) {
+        line_with(visit, link)
+    } else {
+        Ok(None)
     }
 }
 
@@ -58,9 +51,14 @@ fn is_in_force(visit: &Visit<'_>, link: &LinkView<'_>) -> bool
     if !link.runs_on(visit.start()) {
         return false;
     }
-    visit.counts(link.key())
-        & !is_cancellation(link.key().stp)
-        & is_date_indicator(link.record().date_indicator())
+    visit.counts(link.key()) & !is_cancellation(link.key().stp) & has_indicator(link)
+}
+
+/// Whether the date indicator of an association is `S`, a space, `N` or `P`.
+fn has_indicator(link: &LinkView<'_>) -> bool
+    ensures { result ≡ is_date_indicator (column 37 link.now.line) }
+{
+    is_date_indicator(link.record().date_indicator())
 }
 
 /// Whether an association with this date indicator can have a docker line. That is so for `S`, a
@@ -81,6 +79,48 @@ fn occasion_of(category: &[u8; 2]) -> Option<Occasion>
         b"VV" => Some(Occasion::Dividing),
         b"NP" => Some(Occasion::NextWorking),
         _ => None,
+    }
+}
+
+/// The docker line of an association in force. Returns `None` if its category isn't `JJ`, `VV` or
+/// `NP`, or if its base train doesn't run or doesn't call at the place on the day.
+fn line_with<'a>(
+    visit: &mut Visit<'a>,
+    link: &LinkView<'a>,
+) -> Result<Option<DockerLine<'a>>, Memory>
+    requires here { link.now.key.location ≡ visit.old.place }
+    ensures same { visit.new ≡ visit.old }
+    ensures line { IfOk result (λ line. (rows : List Row)
+        → AreRowsOf (live_in visit.old.timetable) rows → listed line
+        ≡ link_line_with (train_in rows) visit.old.day visit.old.start link.now
+        (category_occasion (columns 35 36 link.now.line))
+        (train_in rows link.now.key.base visit.old.start)) }
+{
+    match occasion_of(link.record().category()) {
+        Some(occasion) => line_by(visit, link, occasion),
+        None => Ok(None),
+    }
+}
+
+/// The docker line of an association with this occasion. Returns `None` if its base train doesn't
+/// run, or doesn't call at the place on the day.
+fn line_by<'a>(
+    visit: &mut Visit<'a>,
+    link: &LinkView<'a>,
+    occasion: Occasion,
+) -> Result<Option<DockerLine<'a>>, Memory>
+    requires here { link.now.key.location ≡ visit.old.place }
+    ensures same { visit.new ≡ visit.old }
+    ensures line { IfOk result (λ line. (rows : List Row)
+        → AreRowsOf (live_in visit.old.timetable) rows → listed line
+        ≡ link_line_with (train_in rows) visit.old.day visit.old.start link.now
+        (Some (occasion_meant occasion)) (train_in rows link.now.key.base visit.old.start)) }
+{
+    let key = link.key();
+    match visit.first_call(&key.base, key.suffix) {
+        Ok(Some(event)) => line_at(visit, link, occasion, &event),
+        Ok(None) => Ok(None),
+        Err(refused) => Err(refused),
     }
 }
 
@@ -118,19 +158,5 @@ fn partner_identity<'a>(visit: &mut Visit<'a>, link: &LinkView<'_>) -> Result<[u
     match partner_start(link.record().date_indicator(), visit.start()) {
         Some(day) => visit.identity(&link.key().associated, day),
         None => Ok(*b"????"),
-    }
-}
-
-/// The start day of the associated train, computed from the base train's start day and the date
-/// indicator. The associated train starts on the day after the base train's start day for `N`, on
-/// the day before it for `P`, and otherwise on the base train's start day. Returns `None` if the
-/// start day has no day number: day numbers are 0 to 36524.
-fn partner_start(indicator: u8, start: Day) -> Option<Day>
-    ensures { result ≡ partner_start indicator start }
-{
-    match indicator {
-        b'N' => Day::from_number(start.number() + 1),
-        b'P' => day_back(start, 1),
-        _ => Some(start),
     }
 }

@@ -1,6 +1,6 @@
 //! The columns of a location record that a docker shows.
-ghost use Rattle.std.specs.Prelude.{◌≡◌};
-ghost use Rattle.docker_model.specs.records.Record.{kind_of};
+ghost use Rattle.std.specs.Prelude.{◌≡◌, ◌+◌, ◌-◌, ◌<◌, ◌≤◌};
+ghost use Rattle.docker_model.specs.records.Record.{kind_of, columns, column};
 ghost use Rattle.docker_model.specs.records.PrintedTime.{shown_public};
 ghost use Rattle.train_choice.specs.Meaning.{occasion_meant};
 ghost use Rattle.docker_day.specs.Locations.{location_meant, location_by_kind, public_at};
@@ -33,28 +33,28 @@ impl<'a> Location<'a> {
     {
         match kind(line) {
             Some(Kind::OriginLocation) => Location {
-                platform: line.field(20),
-                track: line.field(23),
+                platform: field(line, 20),
+                track: field(line, 23),
                 path: b"   ",
                 arrival: b"    ",
-                departure: shown_public(line.field(16)),
+                departure: shown_public(field(line, 16)),
             },
             Some(Kind::IntermediateLocation) => Location {
-                platform: line.field(34),
-                track: line.field(37),
-                path: line.field(40),
-                arrival: shown_public(line.field(26)),
-                departure: shown_public(line.field(30)),
+                platform: field(line, 34),
+                track: field(line, 37),
+                path: field(line, 40),
+                arrival: shown_public(field(line, 26)),
+                departure: shown_public(field(line, 30)),
             },
             Some(Kind::TerminatingLocation) => Location {
-                platform: line.field(20),
+                platform: field(line, 20),
                 track: b"   ",
-                path: line.field(23),
-                arrival: shown_public(line.field(16)),
+                path: field(line, 23),
+                arrival: shown_public(field(line, 16)),
                 departure: b"    ",
             },
             _ => Location {
-                platform: line.field(20),
+                platform: field(line, 20),
                 track: b"   ",
                 path: b"   ",
                 arrival: b"    ",
@@ -76,10 +76,36 @@ impl<'a> Location<'a> {
     }
 }
 
+/// The TIPLOC of a location record.
+pub(crate) fn tiploc_in(line: &Line) -> &[u8; 7]
+    ensures { result.now ≡ columns 3 9 line.now }
+{
+    field(line, 3)
+}
+
+/// The suffix of a location record, which distinguishes several calls at one timing point.
+pub(crate) fn suffix_in(line: &Line) -> u8
+    ensures { result ≡ column 10 line.now }
+{
+    line.bytes()[9]
+}
+
 /// A public time as it is printed. The field `0000` means that there is no public time, and is
 /// printed as spaces.
 fn shown_public(field: &[u8; 4]) -> &[u8; 4]
     ensures { result.now ≡ shown_public field.entry.now }
 {
     if field == b"0000" { b"    " } else { field }
+}
+
+/// The `N` bytes of a line that begin at column `first`. Columns are counted from 1.
+fn field<const N: usize>(line: &Line, first: usize) -> &[u8; N]
+    requires from { 0 < first }
+    requires within { first - 1 + N ≤ 80 }
+    ensures { result.now ≡ columns first (first - 1 + N) line.now }
+{
+    match line.bytes()[first - 1..first - 1 + N].first_chunk() {
+        Some(field) => field,
+        None => unreachable!(),
+    }
 }

@@ -1,5 +1,7 @@
 //! Makes a docker.
 ghost use Rattle.std.specs.Prelude.{◌≡◌, ◌+◌, ◌-◌, ◌<◌, ◌≤◌, ◌↔◌, IsTrue, IfOk, OnOk, Err};
+ghost use Rattle.std.specs.List.Sorted.{IsSorted, IsPermutation};
+ghost use Rattle.docker_model.specs.docker.DockerLine.{docker_line_cmp};
 ghost use Rattle.docker_model.specs.records.Record.{columns};
 ghost use Rattle.docker_model.specs.file.Change.{tiploc_key};
 ghost use Rattle.docker_model.specs.state.State.{live_table};
@@ -14,7 +16,7 @@ use crate::docker_line::DockerLine;
 use crate::docker_list::Docker;
 use crate::fault::DockerFault;
 use crate::portions::add_rows;
-use crate::visit::Visits;
+use crate::visits::Visits;
 use cif_change::Body;
 use cif_line::{Day, Memory, Tiploc};
 use docker_state::{State, Timetable};
@@ -69,16 +71,13 @@ pub fn docker_in<'a>(
         return Err(DockerFault::Lapsed);
     }
     let mut lines = Vec::new(alloc);
-    let Ok(()) = add_all(alloc, &mut lines, timetable, tiploc, day) else {
-        return Err(DockerFault::Memory);
-    };
-    lines.sort_unstable();
-    Ok(Docker {
-        place: *tiploc,
-        day,
-        description: description(timetable, tiploc),
-        lines,
-    })
+    match add_all(alloc, &mut lines, timetable, tiploc, day) {
+        Ok(()) => {
+            let description = description(timetable, tiploc);
+            Ok(Docker::of(*tiploc, day, description, in_order(lines)))
+        }
+        Err(_) => Err(DockerFault::Memory),
+    }
 }
 
 /// Appends the docker lines of the associations at a place, and of the schedules that call at the
@@ -96,6 +95,15 @@ fn add_all<'a>(
     let mut visits = Visits::at(alloc, timetable, place, day)?;
     add_rows(lines, &mut visits, associations_at(timetable, place))?;
     add_rows(lines, &mut visits, schedules_at(timetable, place))
+}
+
+/// Sorts the lines into the order of a docker.
+fn in_order(mut lines: Vec<DockerLine<'_>>) -> Vec<DockerLine<'_>>
+    ensures same { IsPermutation lines.entry.items result.items }
+    ensures sorted { IsSorted docker_line_cmp result.items }
+{
+    lines.sort_unstable();
+    lines
 }
 
 /// Whether there is a horizon and the day is earlier than three days after the horizon.

@@ -11,7 +11,7 @@ ghost use Rattle.docker_state.specs.Timetables.{live_in};
 use crate::docker_line::DockerLine;
 use crate::gathering::add_row;
 use crate::row_view::RowView;
-use crate::visit::Visits;
+use crate::visits::Visits;
 use arrayvec::ArrayVec;
 use cif_line::{Day, Memory};
 use docker_state::TimetableRows;

@@ -9,7 +9,8 @@ ghost use Rattle.docker_day.specs.Details.{detail_meant};
 ghost use Rattle.docker_day.specs.DockerValue.{head, text_of};
 ghost use Rattle.docker_day.specs.Dockers.{IsDockerOf};
 
-use crate::docker_line::{Detail, DockerLine};
+use crate::detail::Detail;
+use crate::docker_line::DockerLine;
 use crate::docker_list::Docker;
 use arrayvec::ArrayVec;
 use cif_line::{Day, Failed, Sink, Tiploc, write_all};
@@ -64,7 +65,8 @@ pub fn heading(place: &Tiploc, day: Day, description: &[u8; 26]) -> [u8; WIDTH]
     put(&mut text, &day.iso());
     put(&mut text, b" ");
     put(&mut text, description);
-    put(&mut text, b"    \n");
+    put(&mut text, b"    ");
+    put(&mut text, b"\n");
     whole(text)
 }
 
@@ -92,7 +94,8 @@ pub fn text_of_line(line: &DockerLine<'_>) -> [u8; WIDTH]
     put(&mut text, b" ");
     put(&mut text, line.uid().bytes());
     put(&mut text, b" ");
-    put(&mut text, &[line.stp().letter(), b' ', line.suffix(), b' ']);
+    put(&mut text, &[line.stp().letter(), b' ']);
+    put(&mut text, &[line.suffix(), b' ']);
     put(&mut text, line.platform());
     put(&mut text, b" ");
     put(&mut text, line.track());

@@ -1,5 +1,5 @@
-//! The visits for a place and a day. There is one for each start day of the trains that may be at
-//! the place on that day, with the data that is looked up for them.
+//! A visit: the trains of one start day that may be at a place on a day, with the data that is
+//! looked up for them.
 ghost use Rattle.std.specs.Prelude.{◌≡◌, ◌≤◌, true, List, IfOk};
 ghost use Rattle.docker_model.specs.file.File.{first_record};
 ghost use Rattle.docker_model.specs.state.Row.{Row, AreRowsOf};
@@ -7,11 +7,10 @@ ghost use Rattle.docker_model.specs.docker.Choice.{group_of, schedule_runs};
 ghost use Rattle.docker_laws.specs.Gathering.{counts_as, identity_of, runs_by};
 ghost use Rattle.docker_laws.specs.LiveRows.{train_in, link_in};
 ghost use Rattle.train_choice.specs.Along.{IsLiveTrain};
-ghost use Rattle.train_choice.specs.Known.{PlaceDay};
 ghost use Rattle.cif_change.specs.Meaning.{association_key_meant};
 ghost use Rattle.docker_day.specs.Bases.{first_call, meant_if};
 ghost use Rattle.docker_day.specs.Visits as visits;
-ghost use Rattle.docker_day.specs.Visits.{AreVisits, IsOnePlace, visit_back};
+ghost use Rattle.docker_day.specs.Visits.{IsOnePlace};
 ghost use Rattle.docker_state.specs.Timetables.{live_in};
 
 use crate::bases::Bases;
@@ -20,7 +19,7 @@ use cif_line::{Day, Memory, Tiploc, Uid};
 use docker_state::Timetable;
 use std::alloc::Global;
 use std::marker::Model;
-use train_choice::{DayLinks, DayTrains, Identities, Occurrence, ScheduleView, day_back};
+use train_choice::{DayLinks, DayTrains, Identities, Occurrence, ScheduleView};
 
 /// A visit: the trains that start on one day, and may be at a place on that day or a later day.
 /// Whatever is looked up for these trains is remembered: the trains and associations chosen on the
@@ -151,85 +150,5 @@ impl<'a> Visit<'a> {
             → identity ≡ identity_of (train_in rows uid.now day)) }
     {
         self.identities.identity(uid, day)
-    }
-}
-
-/// The visits for a place and a day. One visit is for the trains that start on that day. The other
-/// visits are for the trains that start one and two days before it, if these days exist.
-#[derive(Debug, Drop)]
-pub(crate) struct Visits<'a> {
-    pub(crate) today: Visit<'a>,
-    pub(crate) day_before: Option<Visit<'a>>,
-    pub(crate) two_before: Option<Visit<'a>>,
-}
-
-impl<'a> Model for Visits<'a> {
-    ghost Value = { PlaceDay };
-
-    ghost view = { λ visits. record {
-      timetable = visits.today.timetable;
-      place = visits.today.place;
-      day = visits.today.day;
-    } };
-
-    ghost invariant = { λ visits. AreVisits
-        (record {
-          timetable = visits.today.timetable;
-          place = visits.today.place;
-          day = visits.today.day;
-        })
-        visits.today visits.day_before visits.two_before };
-}
-
-impl<'a> Visits<'a> {
-    /// The visits for a place and a day. Returns `Memory` if there is no room for the associations
-    /// chosen on the start days.
-    pub(crate) fn at(
-        alloc: Global,
-        timetable: &Timetable<'a>,
-        place: &Tiploc,
-        day: Day,
-    ) -> Result<Visits<'a>, Memory>
-        ensures { IfOk result (λ visits. visits
-            ≡ record { timetable = timetable.entry.now; place = place.now; day = day }) }
-    {
-        Ok(Visits {
-            today: Visit::of(alloc, timetable, place, day, day)?,
-            day_before: visit_back(alloc, timetable, place, day, 1)?,
-            two_before: visit_back(alloc, timetable, place, day, 2)?,
-        })
-    }
-
-    /// The place.
-    pub(crate) fn place(&self) -> &Tiploc
-        ensures { result.now ≡ self.now.place }
-    {
-        self.today.place()
-    }
-
-    /// The day of the docker.
-    pub(crate) fn day(&self) -> Day
-        ensures { result ≡ self.now.day }
-    {
-        self.today.day()
-    }
-}
-
-/// The visit for the trains that start `back` days before the day. Returns `None` if the start day
-/// would be before day 0, and `Memory` if there is no room for the associations chosen on that
-/// start day.
-fn visit_back<'a>(
-    alloc: Global,
-    timetable: &Timetable<'a>,
-    place: &Tiploc,
-    day: Day,
-    back: u16,
-) -> Result<Option<Visit<'a>>, Memory>
-    ensures { IfOk result (λ visit. visit ≡ visit_back
-        (record { timetable = timetable.entry.now; place = place.now; day = day }) back) }
-{
-    match day_back(day, back) {
-        Some(start) => Ok(Some(Visit::of(alloc, timetable, place, day, start)?)),
-        None => Ok(None),
     }
 }

@@ -5,8 +5,8 @@ use Rattle.docker_model.specs.state.StateText.{dks_2}
 use Rattle.docker_cmd.specs.FaultLine.{IsCounted, device_line, fault_line, status_of}
 use Rattle.docker_cmd.specs.Prepared.{ReadsFewOfState, most_bytes}
 use Rattle.docker_cmd.specs.declared.fault.Fault.TheVariants.{Job, Office}
-use Rattle.docker_cmd.specs.declared.fault.JobFault.{JobFault}
-use Rattle.docker_cmd.specs.declared.fault.JobFault.TheVariants as job
+use Rattle.docker_cmd.specs.declared.job_fault.JobFault.{JobFault}
+use Rattle.docker_cmd.specs.declared.job_fault.JobFault.TheVariants as job
 use Rattle.docker_host.specs.History.{Bytes, Event, Text, closed, looked, opened}
 use Rattle.docker_host.specs.FaultSink.{FaultsView, TellsText}
 use Rattle.docker_host.specs.SessionHost.{SessionHostView}

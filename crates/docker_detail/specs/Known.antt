@@ -10,7 +10,7 @@ use Rattle.docker_state.specs.Timetables.{Timetable}
 use Rattle.docker_detail.specs.Finding.{records_of_train}
 use Rattle.docker_detail.specs.Meaning.{CanWalk, place_ahead}
 use Rattle.docker_detail.specs.Records.{place_in}
-use Rattle.docker_detail.specs.declared.train_records.KnownTrain.{KnownTrain}
+use Rattle.docker_detail.specs.declared.known_train.KnownTrain.{KnownTrain}
 use Rattle.docker_detail.specs.declared.link_records.KnownLinks.{KnownLinks}
 
 -- says that a schedule's extra details are known, and that the walk over its records can still find

@@ -5,7 +5,7 @@ use Rattle.std.specs.Option.{option_copied}
 use Rattle.docker_model.specs.records.Field.{HasGoodFields}
 use Rattle.docker_detail.specs.OriginText.{found_text}
 use Rattle.docker_detail.specs.Records.{EventRecords, Place, first_of, place_from}
-use Rattle.docker_detail.specs.declared.origin.EventRecords as code
+use Rattle.docker_detail.specs.declared.event_records.EventRecords as code
 use Rattle.docker_detail.specs.declared.origin.LineOrigin.{LineOrigin}
 use Rattle.docker_detail.specs.declared.record_walk.RecordWalk.{RecordWalk}
 
@@ -34,4 +34,9 @@ records_meant records = record {
 
 -- the text of the code's `LineOrigin`
 abbrev pub origin_meant : LineOrigin → List ℕ
-origin_meant origin = found_text origin.start origin.number (records_meant origin.records) (option_copied origin.association)
+origin_meant origin = found_text origin.start origin.number (record {
+  basic = option_copied origin.basic;
+  extra = option_copied origin.extra;
+  change = option_copied origin.change;
+  location = option_copied origin.location;
+}) (option_copied origin.association)

@@ -1,43 +1,18 @@
 //! A detailed docker: its timing point, its day and its lines.
-ghost use Rattle.std.specs.Prelude.{◌≡◌, ℕ, List};
-ghost use Rattle.docker_model.specs.docker.DockerLine as lines;
+ghost use Rattle.std.specs.Prelude.{◌≡◌};
 ghost use Rattle.docker_detail.specs.DetailedValue as value;
-ghost use Rattle.docker_detail.specs.Meaning.{origin_meant};
 
-use crate::origin::LineOrigin;
+use crate::detailed_line::DetailedLine;
 use cif_line::{Day, Tiploc};
-use docker_day::DockerLine;
 use std::marker::Model;
-
-/// A docker line, with where it comes from.
-#[derive(Debug, Drop)]
-pub struct DetailedLine<'a> {
-    pub(crate) line: DockerLine<'a>,
-    pub(crate) origin: LineOrigin<'a>,
-}
-
-impl<'a> Model for DetailedLine<'a> {
-    ghost Value = { lines.DockerLine × List ℕ };
-
-    ghost view = { λ detailed. (detailed.line, origin_meant detailed.origin) };
-}
-
-impl<'a> DetailedLine<'a> {
-    /// The docker line.
-    pub fn line(&self) -> &DockerLine<'a>
-        ensures { result.now ≡ self.now.0 }
-    {
-        &self.line
-    }
-}
 
 /// The docker of a timing point and a day, each line with the records that it was made from.
 #[derive(Debug, Drop)]
 pub struct DetailedDocker<'a> {
-    pub(crate) place: Tiploc,
-    pub(crate) day: Day,
-    pub(crate) description: &'a [u8; 26],
-    pub(crate) lines: Vec<DetailedLine<'a>>,
+    place: Tiploc,
+    day: Day,
+    description: &'a [u8; 26],
+    lines: Vec<DetailedLine<'a>>,
 }
 
 impl<'a> Model for DetailedDocker<'a> {
@@ -52,6 +27,28 @@ impl<'a> Model for DetailedDocker<'a> {
 }
 
 impl<'a> DetailedDocker<'a> {
+    /// Makes a detailed docker of this place and day, with this description and these lines.
+    pub(crate) fn of(
+        place: Tiploc,
+        day: Day,
+        description: &'a [u8; 26],
+        lines: Vec<DetailedLine<'a>>,
+    ) -> DetailedDocker<'a>
+        ensures { result ≡ record {
+          place = place;
+          day = day;
+          description = description.entry.now;
+          lines = lines.entry.items;
+        } }
+    {
+        DetailedDocker {
+            place,
+            day,
+            description,
+            lines,
+        }
+    }
+
     /// The timing point.
     pub fn place(&self) -> Tiploc
         ensures { result ≡ self.now.place }

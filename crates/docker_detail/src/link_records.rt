@@ -1,14 +1,15 @@
 //! The records of the associations that are chosen at a place. The associations that were looked up
 //! last are remembered.
-ghost use Rattle.std.specs.Prelude.{◌≡◌, List, Some, IfOk};
+ghost use Rattle.std.specs.Prelude.{◌≡◌, ℕ, List, IfOk, IfSome};
 ghost use Rattle.std.specs.Option.{option_copied};
 ghost use Rattle.docker_model.specs.state.Row.{Row, AreRowsOf};
+ghost use Rattle.docker_model.specs.docker.DockerLine.{partner};
 ghost use Rattle.docker_laws.specs.LiveRows.{link_in};
 ghost use Rattle.docker_state.specs.Timetables.{live_in};
 ghost use Rattle.docker_detail.specs.Finding.{association_by};
 ghost use Rattle.docker_detail.specs.Known.{AtPlace, MayBeKnownLinks};
 
-use cif_line::{Day, Line, Memory, Tiploc};
+use cif_line::{Day, Line, Memory, Tiploc, Uid};
 use docker_day::{Detail, DockerLine};
 use docker_state::Timetable;
 use std::alloc::Global;
@@ -71,28 +72,91 @@ impl<'a> LinkRecords<'a> {
         match line.detail() {
             Detail::Ends { .. } => Ok(None),
             Detail::Partner { uid, .. } => {
-                let known = self.take(line.start())?;
-                let record = known.links.record(&line.uid(), &uid, line.suffix());
-                self.known = Some(known);
-                Ok(record)
+                self.of_pair(&line.uid(), &uid, line.suffix(), line.start())
             }
         }
     }
 
-    /// Takes the associations of a start day. If they aren't the associations that were looked up
-    /// last, they are looked up. Returns `Memory` if there is no room for them.
-    fn take(&mut self, start: Day) -> Result<KnownLinks<'a>, Memory>
+    /// The record of the association that is chosen for two trains and a suffix on a start day of
+    /// the base train.
+    fn of_pair(
+        &mut self,
+        base: &Uid,
+        associated: &Uid,
+        suffix: u8,
+        start: Day,
+    ) -> Result<Option<&'a Line>, Memory>
         ensures same { self.new ≡ self.old }
-        ensures known { IfOk result (λ known.
-            MayBeKnownLinks self.old.timetable self.old.place (Some known)) }
-        ensures day { IfOk result (λ known. known.day ≡ start) }
+        ensures record { IfOk result (λ found. (rows : List Row)
+            → AreRowsOf (live_in self.old.timetable) rows → (identity : List ℕ)
+            → option_copied found ≡ association_by (link_in rows) base.now suffix start
+            self.old.place (partner associated.now identity)) }
     {
-        if let Some(known) = self.known.take() {
-            if known.day == start {
-                return Ok(known);
-            }
+        match self.known_pair(base, associated, suffix, start) {
+            Some(record) => Ok(record),
+            None => self.look_up(base, associated, suffix, start),
         }
+    }
+
+    /// The record of the association, if the associations of this start day were looked up last.
+    fn known_pair(
+        &self,
+        base: &Uid,
+        associated: &Uid,
+        suffix: u8,
+        start: Day,
+    ) -> Option<Option<&'a Line>>
+        ensures { IfSome result (λ found. (rows : List Row)
+            → AreRowsOf (live_in self.now.timetable) rows → (identity : List ℕ)
+            → option_copied found ≡ association_by (link_in rows) base.now suffix start
+            self.now.place (partner associated.now identity)) }
+    {
+        match &self.known {
+            Some(known) => known.asked(base, associated, suffix, start),
+            None => None,
+        }
+    }
+
+    /// Like `of_pair`, but always looks up the associations of the start day. Remembers them.
+    fn look_up(
+        &mut self,
+        base: &Uid,
+        associated: &Uid,
+        suffix: u8,
+        start: Day,
+    ) -> Result<Option<&'a Line>, Memory>
+        ensures same { self.new ≡ self.old }
+        ensures record { IfOk result (λ found. (rows : List Row)
+            → AreRowsOf (live_in self.old.timetable) rows → (identity : List ℕ)
+            → option_copied found ≡ association_by (link_in rows) base.now suffix start
+            self.old.place (partner associated.now identity)) }
+    {
         let links = DayLinks::at(self.alloc, &self.timetable, &self.place, start)?;
-        Ok(KnownLinks { day: start, links })
+        let record = links.record(base, associated, suffix);
+        self.known = Some(KnownLinks { day: start, links });
+        Ok(record)
+    }
+}
+
+impl<'a> KnownLinks<'a> {
+    /// The record of the association that is chosen for two trains and a suffix. The outer `None`
+    /// means that these are the associations of another start day.
+    fn asked(
+        &self,
+        base: &Uid,
+        associated: &Uid,
+        suffix: u8,
+        start: Day,
+    ) -> Option<Option<&'a Line>>
+        ensures { IfSome result (λ found. self.now.day ≡ start × ((rows : List Row)
+            → AreRowsOf (live_in self.now.links.timetable) rows → (identity : List ℕ)
+            → option_copied found ≡ association_by (link_in rows) base.now suffix
+            self.now.links.day self.now.links.place (partner associated.now identity))) }
+    {
+        if self.day == start {
+            Some(self.links.record(base, associated, suffix))
+        } else {
+            None
+        }
     }
 }

@@ -1,9 +1,13 @@
 //! Where a docker line comes from.
 use cif_line::{Day, Line};
 
-/// The records of a schedule that belong to one of its events. A record that there isn't is `None`.
+/// Where a docker line comes from. A record that there isn't is `None`.
 #[derive(Debug, Drop)]
-pub(crate) struct EventRecords<'a> {
+pub(crate) struct LineOrigin<'a> {
+    /// The day on which the train starts.
+    pub(crate) start: Day,
+    /// The number of the event, counted from 1.
+    pub(crate) number: u64,
     /// The basic schedule.
     pub(crate) basic: Option<&'a Line>,
     /// The extra details of the schedule.
@@ -12,17 +16,6 @@ pub(crate) struct EventRecords<'a> {
     pub(crate) change: Option<&'a Line>,
     /// The location record of the event.
     pub(crate) location: Option<&'a Line>,
-}
-
-/// Where a docker line comes from.
-#[derive(Debug, Drop)]
-pub(crate) struct LineOrigin<'a> {
-    /// The day on which the train starts.
-    pub(crate) start: Day,
-    /// The number of the event, counted from 1.
-    pub(crate) number: u64,
-    /// The records of the schedule that belong to the event.
-    pub(crate) records: EventRecords<'a>,
     /// The association, if it is the line of one.
     pub(crate) association: Option<&'a Line>,
 }

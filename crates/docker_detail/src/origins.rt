@@ -1,10 +1,12 @@
 //! Finds out where the lines of a docker come from.
 ghost use Rattle.std.specs.Prelude.{◌≡◌, All, IfOk};
+ghost use Rattle.std.specs.List.Sorted.{IsPermutation, IsSorted};
+ghost use Rattle.docker_model.specs.docker.DockerLine.{docker_line_cmp};
 ghost use Rattle.docker_state.specs.Timetables.{live_in};
 ghost use Rattle.docker_detail.specs.Finding.{AreFound, IsLineFound, firsts};
 ghost use Rattle.docker_detail.specs.Known.{AtPlace};
 
-use crate::detailed_list::DetailedLine;
+use crate::detailed_line::DetailedLine;
 use crate::link_records::LinkRecords;
 use crate::origin::LineOrigin;
 use crate::train_records::TrainRecords;
@@ -32,6 +34,16 @@ impl<'a> Model for Finder<'a> {
 }
 
 impl<'a> Finder<'a> {
+    /// A finder for the docker lines of a place. Nothing has been looked up yet.
+    fn at(alloc: Global, timetable: &Timetable<'a>, place: &Tiploc) -> Finder<'a>
+        ensures { result ≡ record { timetable = timetable.entry.now; place = place.now } }
+    {
+        Finder {
+            trains: TrainRecords::of(timetable),
+            links: LinkRecords::at(alloc, timetable, place),
+        }
+    }
+
     /// The docker line, with where it comes from. Returns `Memory` if there is no room for the
     /// chosen associations.
     fn detailed(&mut self, line: DockerLine<'a>) -> Result<DetailedLine<'a>, Memory>
@@ -41,10 +53,14 @@ impl<'a> Finder<'a> {
     {
         let association = self.links.of_line(&line)?;
         let (start, number) = (line.start(), line.number());
+        let records = self.trains.of_event(&line.uid(), start, number);
         let origin = LineOrigin {
             start,
             number,
-            records: self.trains.of_event(&line.uid(), start, number),
+            basic: records.basic,
+            extra: records.extra,
+            change: records.change,
+            location: records.location,
             association,
         };
         Ok(DetailedLine { line, origin })
@@ -57,20 +73,21 @@ pub(crate) fn with_origins<'a>(
     alloc: Global,
     timetable: &Timetable<'a>,
     place: &Tiploc,
-    mut lines: Vec<DockerLine<'a>>,
+    lines: Vec<DockerLine<'a>>,
 ) -> Result<Vec<DetailedLine<'a>>, Memory>
     ensures { IfOk result
         (λ detailed. AreFound (live_in timetable.now) place.now lines.entry.items detailed.items) }
 {
-    let finder = Finder {
-        trains: TrainRecords::of(timetable),
-        links: LinkRecords::at(alloc, timetable, place),
-    };
-    // The lines of one train are brought together, so that each train is looked up only once.
+    let detailed = each_with_origin(Finder::at(alloc, timetable, place), by_train(lines), alloc)?;
+    Ok(in_order(detailed))
+}
+
+/// Brings the lines into an order in which the lines of one train are together.
+fn by_train(mut lines: Vec<DockerLine<'_>>) -> Vec<DockerLine<'_>>
+    ensures { IsPermutation lines.entry.items result.items }
+{
     lines.sort_unstable_by(|line, other| cmp_by_train(line, other));
-    let mut detailed = each_with_origin(finder, lines, alloc)?;
-    detailed.sort_unstable_by(|line, other| line.line().cmp(other.line()));
-    Ok(detailed)
+    lines
 }
 
 /// An order of docker lines: by the start day, then the UID, then the number of the event.
@@ -97,4 +114,13 @@ fn each_with_origin<'a>(
         detailed.push(finder.detailed(line)?)?;
     }
     Ok(detailed)
+}
+
+/// Sorts the lines into the order of a docker.
+fn in_order(mut detailed: Vec<DetailedLine<'_>>) -> Vec<DetailedLine<'_>>
+    ensures same { IsPermutation detailed.entry.items result.items }
+    ensures sorted { IsSorted docker_line_cmp (firsts result.items) }
+{
+    detailed.sort_unstable_by(|line, other| line.line().cmp(other.line()));
+    detailed
 }

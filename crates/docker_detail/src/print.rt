@@ -9,15 +9,17 @@ ghost use Rattle.docker_model.specs.records.PrintedNumber.{number_text};
 ghost use Rattle.docker_model.specs.records.PrintedTime.{spaces};
 ghost use Rattle.docker_model.specs.state.Table.{Table};
 ghost use Rattle.docker_model.specs.docker.DockerLine.{DockerLine};
-ghost use Rattle.docker_model.specs.docker.DockerText.{ended};
+ghost use Rattle.docker_model.specs.docker.DockerText.{ended, last_line};
 ghost use Rattle.docker_model.specs.docker.DetailedText.{IsDetailedText, detailed_line, padded, record_text};
+ghost use Rattle.docker_day.specs.DockerValue.{head};
 ghost use Rattle.docker_detail.specs.DetailedValue.{IsDetailedOf, text_of};
 ghost use Rattle.docker_detail.specs.Meaning.{origin_meant};
 
-use crate::detailed_list::{DetailedDocker, DetailedLine};
+use crate::detailed_line::DetailedLine;
+use crate::detailed_list::DetailedDocker;
 use crate::origin::LineOrigin;
 use arrayvec::ArrayVec;
-use cif_line::{Failed, Line, Sink, write_all};
+use cif_line::{Day, Failed, Line, Sink, Tiploc, write_all};
 use docker_day::{heading, last_line, text_of_line};
 use fixed_text::{put, whole};
 use itoa::Buffer;
@@ -41,10 +43,10 @@ pub fn write_detailed<K: Sink>(docker: &DetailedDocker<'_>, sink: &mut K) -> Res
         (TakesPart (K.taken sink.old) (text_of docker.now) (K.taken sink.new)) }
     ensures failures { CountsFailure (IsErr result) (K.failures sink.old) (K.failures sink.new) }
 {
-    let heading = heading(&docker.place(), docker.day(), docker.description());
-    write_all(sink, &padded(&heading))?;
+    let heading = padded_heading(&docker.place(), docker.day(), docker.description());
+    write_all(sink, &heading)?;
     write_lines(sink, docker.lines())?;
-    write_all(sink, &padded(&last_line()))
+    write_all(sink, &padded_last_line())
 }
 
 /// Writes docker lines, each with its origin and a line feed.
@@ -64,6 +66,20 @@ fn write_lines<K: Sink>(sink: &mut K, lines: &[DetailedLine<'_>]) -> Result<(), 
         write_all(sink, text_of_detailed(line).as_slice())?;
     }
     Ok(())
+}
+
+/// The text of the heading, padded with spaces, with a line feed.
+fn padded_heading(place: &Tiploc, day: Day, description: &[u8; 26]) -> [u8; WIDTH]
+    ensures { result ≡ ended (padded (head place.now day description.now)) }
+{
+    padded(&heading(place, day, description))
+}
+
+/// The text of the last line, padded with spaces, with a line feed.
+fn padded_last_line() -> [u8; WIDTH]
+    ensures { result ≡ ended (padded last_line) }
+{
+    padded(&last_line())
 }
 
 /// A line of 56 columns, padded with spaces to 483 columns. Both lines have a line feed.
@@ -91,7 +107,7 @@ fn text_of_detailed(line: &DetailedLine<'_>) -> ArrayVec<u8, ROOM>
 {
     let mut text = ArrayVec::new();
     put(&mut text, columns_of(&text_of_line(line.line())));
-    put_origin(&mut text, &line.origin);
+    put_origin(&mut text, line.origin());
     put(&mut text, b"\n");
     text
 }
@@ -106,10 +122,10 @@ fn put_origin(text: &mut ArrayVec<u8, ROOM>, origin: &LineOrigin<'_>)
     put(text, &origin.start.iso());
     put(text, b" ");
     put_number(text, origin.number);
-    put_record(text, origin.records.basic);
-    put_record(text, origin.records.extra);
-    put_record(text, origin.records.change);
-    put_record(text, origin.records.location);
+    put_record(text, origin.basic);
+    put_record(text, origin.extra);
+    put_record(text, origin.change);
+    put_record(text, origin.location);
     put_record(text, origin.association);
 }
 

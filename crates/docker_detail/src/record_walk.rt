@@ -4,7 +4,7 @@ ghost use Rattle.std.specs.Option.{option_copied};
 ghost use Rattle.docker_model.specs.records.Field.{HasGoodFields};
 ghost use Rattle.docker_model.specs.docker.Event.{has_identity};
 ghost use Rattle.docker_detail.specs.Meaning.{CanWalk, place_ahead, place_here};
-ghost use Rattle.docker_detail.specs.Records.{change_after, place_from};
+ghost use Rattle.docker_detail.specs.Records.{change_after, first_of, place_from};
 
 use cif_line::Line;
 use train_choice::event_count;
@@ -13,9 +13,9 @@ use train_choice::event_count;
 /// events it has passed, and the last change en route among the records that it has passed.
 #[derive(Debug, Drop)]
 pub(crate) struct RecordWalk<'a> {
-    pub(crate) rest: &'a [Line],
+    rest: &'a [Line],
     passed: u64,
-    pub(crate) change: Option<&'a Line>,
+    change: Option<&'a Line>,
 }
 
 impl<'a> RecordWalk<'a> {
@@ -52,6 +52,20 @@ impl<'a> RecordWalk<'a> {
             self.passed = passed;
             self.rest = rest;
         }
+    }
+
+    /// The record that the walk stands before.
+    pub(crate) fn location(&self) -> Option<&'a Line>
+        ensures { option_copied result ≡ first_of self.now.rest.now }
+    {
+        self.rest.first()
+    }
+
+    /// The change en route that is in force at this record.
+    pub(crate) fn change(&self) -> Option<&'a Line>
+        ensures { result ≡ self.now.change }
+    {
+        self.change
     }
 }
 

@@ -11,7 +11,7 @@ ghost use Rattle.docker_excerpt.specs.Walked.{state_of_entries};
 ghost use Rattle.docker_excerpt.specs.DayWalk.{HasPassed};
 
 use crate::excerpt_entry::excerpt_entry;
-use crate::start_days::may_count;
+use crate::near::may_count;
 use crate::walk::ExcerptWalk;
 use cif_change::Key;
 use cif_line::{Day, Memory, Tiploc};
@@ -22,7 +22,7 @@ use std::alloc::Global;
 #[derive(Drop)]
 pub(crate) struct DayWalk {
     alloc: Global,
-    pub(crate) day: Day,
+    day: Day,
     walk: ExcerptWalk,
     near: Given,
 }
@@ -46,7 +46,14 @@ impl DayWalk {
     pub(crate) fn place(&self) -> Tiploc
         ensures { result ≡ self.now.walk.place }
     {
-        self.walk.place
+        self.walk.place()
+    }
+
+    /// The day of the docker.
+    pub(crate) fn day(&self) -> Day
+        ensures { result ≡ self.now.day }
+    {
+        self.day
     }
 
     /// Moves past the next entry, which has this key. If memory runs out, the entry is dropped and
@@ -64,7 +71,8 @@ impl DayWalk {
         if !may_count(self.day, &key, &entry.op) {
             return Ok(());
         }
-        let entry = excerpt_entry(self.alloc, &self.walk.place, self.day, &key, entry)?;
+        let place = self.walk.place();
+        let entry = excerpt_entry(self.alloc, &place, self.day, &key, entry)?;
         let near = Given::with(&self.near, &key, &entry);
         self.walk.entry(&self.near, key, entry)?;
         self.near = near;
@@ -77,6 +85,7 @@ impl DayWalk {
         ensures { IfOk result (λ rows. (state : states.State) → HasPassed self state.entries
             → map row_meant rows.items ≡ (excerpt_on self.walk.place self.day state).entries) }
     {
-        self.walk.finish()
+        let DayWalk { walk, .. } = self;
+        walk.finish()
     }
 }

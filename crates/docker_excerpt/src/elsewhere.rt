@@ -75,5 +75,8 @@ fn line_of(bytes: &[u8; 80]) -> Line
     requires { IsRecord bytes.now }
     ensures { result ≡ bytes.now }
 {
-    Line::of(bytes).unwrap()
+    match Line::of(bytes) {
+        Some(line) => line,
+        None => unreachable!(),
+    }
 }

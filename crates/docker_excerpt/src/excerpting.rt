@@ -133,7 +133,7 @@ impl Excerpting {
     {
         let Excerpting { ledger, walk } = self;
         let place = walk.place();
-        let day = walk.day;
+        let day = walk.day();
         let rows = walk.finish()?;
         let (parts, given) = ledger.into_parts();
         let whole = with_rows(parts, rows)?;

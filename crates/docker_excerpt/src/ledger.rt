@@ -1,4 +1,4 @@
-//! Takes the parts of a state, and keeps only the state's ledger, to list the state's files.
+//! Takes the parts of a state, and keeps only the state's ledger.
 ghost use Rattle.std.specs.Prelude.{◌≡◌, ◌+◌, ◌-◌, ◌^◌, ◌<◌, [], ◌∷◌, ◌++◌, length, map, IsOk, IsErr, Some};
 ghost use Rattle.std.specs.Option.{option_copied, option_map};
 ghost use Rattle.docker_model.specs.state.State.{IsLedger, IsOpOf, IsValid};
@@ -7,14 +7,14 @@ ghost use Rattle.docker_model.specs.state.State as states;
 ghost use Rattle.cif_change.specs.Meaning.{key_meant};
 ghost use Rattle.docker_join.specs.Meaning.{entry_meant};
 ghost use Rattle.docker_state.specs.Meaning.{item_meant};
-ghost use Rattle.docker_state.specs.Parts.{last_key, under};
-ghost use Rattle.state_text.specs.PartsSoFar.{horizon_meant, with_item};
+ghost use Rattle.docker_state.specs.Parts.{last_key};
+ghost use Rattle.state_text.specs.PartsSoFar.{with_item};
 ghost use Rattle.docker_excerpt.specs.Values.{with_entries};
 ghost use Rattle.docker_excerpt.specs.Ledger.{IsLedgerOf};
 
 use cif_change::Key;
-use cif_line::{Day, Memory};
-use state_text::{Entry, Given, LedgerItem, Maker, PartKeeper, Parts};
+use cif_line::Memory;
+use state_text::{Entry, Given, LedgerItem, PartKeeper, Parts};
 use std::alloc::Global;
 use std::fmt;
 use std::marker::Model;
@@ -128,7 +128,12 @@ impl Ledger {
         ensures parts { result.0 ≡ record { horizon = 0; ledger = self.ledger; entries = [] } }
         ensures given { result.1.entries ≡ self.entries }
     {
-        let Ledger { parts, given, .. } = self;
+        let Ledger {
+            parts,
+            last: _,
+            count: _,
+            given,
+        } = self;
         (parts, given)
     }
 }
@@ -156,48 +161,9 @@ impl PartKeeper for Ledger {
     }
 
     fn last(&self) -> Option<&Key> {
-        self.last()
-    }
-}
-
-/// The ledger and the horizon of a state, without the entries. In contracts, the value of a
-/// `KeptLedger` is the whole state. A `KeptLedger` is used only to list the state's files, and
-/// can't be written, joined or sent.
-#[derive(Debug, Drop)]
-pub struct KeptLedger {
-    ledger: Ledger,
-    horizon: Option<Day>,
-}
-
-impl Model for KeptLedger {
-    ghost Value = { states.State };
-
-    ghost view = { λ it. under (horizon_meant it.horizon) it.ledger };
-
-    ghost invariant = { λ it. IsValid (under (horizon_meant it.horizon) it.ledger) };
-}
-
-impl KeptLedger {
-    /// The ledger items, in ascending order.
-    pub fn items(&self) -> &[LedgerItem]
-        ensures items { map item_meant result.now ≡ self.now.ledger }
-        ensures valid { IsValid self.now }
-    {
-        self.ledger.items()
-    }
-}
-
-impl Maker for Ledger {
-    type Made = KeptLedger;
-
-    ghost makes = { λ made state. made ≡ state };
-
-    /// Returns the ledger with the horizon. The call allocates nothing, so it never returns
-    /// `Memory`.
-    fn finish(self, horizon: Option<Day>) -> Result<KeptLedger, Memory> {
-        Ok(KeptLedger {
-            ledger: self,
-            horizon,
-        })
+        match &self.last {
+            Some(key) => Some(key),
+            None => None,
+        }
     }
 }

@@ -75,7 +75,9 @@ fn past_terminus(last: Option<u16>, line: &Line) -> Option<u16>
 fn past(last: Option<u16>, time: Option<Time>) -> Option<u16>
     ensures { result ≡ past last time }
 {
-    let before = last?;
+    let Some(before) = last else {
+        return None;
+    };
     let Some(time) = time else {
         return Some(before);
     };

@@ -28,7 +28,11 @@ pub(crate) fn is_here(place: &Tiploc, key: &Key) -> bool
 pub(crate) fn may_matter(place: &Tiploc, key: &Key) -> bool
     ensures { result ≡ may_matter place.now (key_meant key.now) }
 {
-    matches!(key, Key::Schedule(_)) || is_here(place, key)
+    match key {
+        Key::Tiploc(_) => is_here(place, key),
+        Key::Assoc(_) => is_here(place, key),
+        Key::Schedule(_) => true,
+    }
 }
 
 /// The UID of the associated train of a live association. Returns `None` for any other entry.
@@ -65,7 +69,10 @@ pub(crate) fn has_name(names: &[Uid], uid: &Uid) -> bool
 pub(crate) fn is_needed_with(needed: bool, place: &Tiploc, op: &Op) -> bool
     ensures { result ≡ (needed || is_call place.now (op_meant op.now)) }
 {
-    needed || is_call(place, op)
+    if needed {
+        return true;
+    }
+    is_call(place, op)
 }
 
 /// Whether the entry with this op is a live schedule that calls at the place.

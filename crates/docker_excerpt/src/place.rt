@@ -1,32 +1,16 @@
 //! An excerpt whose place and day are determined by its type. A reader passes a state's parts to an
 //! `ExcerptingAt`, as to any `PartKeeper`.
-ghost use Rattle.std.specs.Prelude.{◌≡◌, ℕ, [], List};
+ghost use Rattle.std.specs.Prelude.{◌≡◌, []};
 ghost use Rattle.docker_model.specs.state.State as states;
 
 use crate::excerpt::Excerpt;
 use crate::excerpting::Excerpting;
+use crate::place_day::PlaceDay;
 use cif_change::Key;
 use cif_line::{Day, Memory, Tiploc};
 use state_text::{Entry, LedgerItem, Maker, PartKeeper};
 use std::alloc::Global;
-use std::marker::{Brand, Model, PhantomData};
-
-/// A place and a day as a type, for proofs only. `ThinSoFar` and `ExcerptingAt` have a type of this
-/// trait as a parameter. The readers of files and states must work for any keeper, so their
-/// contracts can't mention a place or a day.
-pub trait PlaceDay {
-    // The TIPLOC of the place.
-    ghost place: { List ℕ };
-
-    // The day number.
-    ghost day: { ℕ };
-}
-
-impl PlaceDay for Brand {
-    ghost place = { [] };
-
-    ghost day = { 0 };
-}
+use std::marker::{Model, PhantomData};
 
 /// An `Excerpting` whose place and day are determined by the type `P`.
 #[derive(Debug, Drop)]

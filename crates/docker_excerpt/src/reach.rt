@@ -49,7 +49,10 @@ fn runs_before(basic: &Basic<'_>, day: u16) -> bool
     ensures { is_deletion basic.now ≡ false → result
         ≡ (schedule_runs basic.now (day - 1) || schedule_runs basic.now (day - 2)) }
 {
-    runs_on(basic, day.saturating_sub(1)) || runs_on(basic, day.saturating_sub(2))
+    if runs_on(basic, day.saturating_sub(1)) {
+        return true;
+    }
+    runs_on(basic, day.saturating_sub(2))
 }
 
 /// The first line as a basic schedule. Returns `None` if it isn't one, or has a bad field.

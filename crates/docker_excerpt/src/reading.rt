@@ -5,7 +5,7 @@ ghost use Rattle.cif_file.specs.FileEnds.{EndsReadingFile};
 ghost use Rattle.cif_file.specs.SourceRead.{WantsMemory};
 ghost use Rattle.docker_excerpt.specs.ThinEnded.{ReadsThin};
 
-use crate::place::PlaceDay;
+use crate::place_day::PlaceDay;
 use crate::thin_file::{ThinFile, thin_of};
 use crate::thin_kept::ThinSoFar;
 use cif_file::{FileReadFault, MOST_RECORDS, read_kept};

@@ -1,31 +1,13 @@
-//! Tests whether an entry or a schedule may count in the dockers of a given day: whether the schedule
-//! runs on a start day near this day.
+//! Tests whether a schedule may count in a docker of a given day: whether it runs on a start day
+//! near this day.
 ghost use Rattle.std.specs.Prelude.{◌≡◌, ◌&&◌, nat_le, false};
 ghost use Rattle.docker_model.specs.records.Record.{HasKind, basic_schedule};
 ghost use Rattle.docker_model.specs.records.Field.{HasGoodFields, is_deletion};
 ghost use Rattle.docker_model.specs.records.Date.{runs_on_weekday, weekday_of};
 ghost use Rattle.docker_model.specs.docker.Choice.{schedule_runs};
-ghost use Rattle.docker_model.specs.state.State.{IsOpOf};
-ghost use Rattle.docker_laws.specs.NearDay.{may_count, near_starts, runs_near};
-ghost use Rattle.cif_change.specs.Meaning.{key_meant};
-ghost use Rattle.docker_join.specs.Meaning.{op_meant};
+ghost use Rattle.docker_laws.specs.NearDay.{near_starts, runs_near};
 
-use cif_change::{Body, Key};
 use cif_line::{Basic, Day, Line};
-use state_text::Op;
-
-/// Whether an entry may count in the dockers of a day. The result is false only for a live schedule
-/// that doesn't run on any start day from three days before the day to the day after.
-#[tactic(auto, using(crate::proofs::NearFields::kept_schedule))]
-pub(crate) fn may_count(day: Day, key: &Key, op: &Op) -> bool
-    requires { IsOpOf (key_meant key.now) (op_meant op.now) }
-    ensures { result ≡ may_count day (op_meant op.now) }
-{
-    match op {
-        Op::Put(Body::Schedule(lines)) => runs_near(lines.as_slice().first().unwrap(), day),
-        _ => true,
-    }
-}
 
 /// Whether a basic schedule runs on a start day near `day`: from three days before `day` to one day
 /// after `day`.
@@ -37,7 +19,10 @@ pub(crate) fn runs_near(line: &Line, day: Day) -> bool
     ensures { result ≡ runs_near day line.now }
 {
     let first = line.day(10).number();
-    let last = line.end_unless_deleted(16).unwrap().number();
+    let last = match line.end_unless_deleted(16) {
+        Some(last) => last.number(),
+        None => unreachable!(),
+    };
     let flags: &[u8; 7] = line.field(22);
     let starts = near_starts(day);
     starts
@@ -75,7 +60,10 @@ pub(crate) fn runs_on(basic: &Basic<'_>, start: u16) -> bool
     ensures { is_deletion basic.now ≡ false → result ≡ schedule_runs basic.now start }
 {
     let line = basic.line();
-    !line.is_deletion() && line_runs_on(line, start)
+    if line.is_deletion() {
+        return false;
+    }
+    line_runs_on(line, start)
 }
 
 /// Whether the basic schedule in this line runs on a start day, given as a day number.
@@ -87,7 +75,10 @@ fn line_runs_on(line: &Line, start: u16) -> bool
     ensures { result ≡ schedule_runs line.now start }
 {
     let first = line.day(10).number();
-    let last = line.end_unless_deleted(16).unwrap().number();
+    let last = match line.end_unless_deleted(16) {
+        Some(last) => last.number(),
+        None => unreachable!(),
+    };
     runs_within(first, last, line.field(22), start)
 }
 
@@ -97,5 +88,8 @@ pub(crate) fn runs_near_unless_deleted(basic: &Basic<'_>, day: Day) -> bool
     ensures { is_deletion basic.now ≡ false → result ≡ runs_near day basic.now }
 {
     let line = basic.line();
-    !line.is_deletion() && runs_near(line, day)
+    if line.is_deletion() {
+        return false;
+    }
+    runs_near(line, day)
 }

@@ -5,8 +5,9 @@ ghost use Rattle.docker_excerpt.specs.ThinEnded.{thin_parts_ended, thin_ended};
 
 use crate::changes_so_far::ChangesSoFar;
 use crate::elsewhere::Elsewhere;
-use crate::place::PlaceDay;
+use crate::place_day::PlaceDay;
 use crate::thin_kept::ThinSoFar;
+use crate::thinned::Thinned;
 use crate::wanted::{uids_named, wanted, with_bodies};
 use cif_file::{Ended, FileParts};
 use cif_line::{Day, Header, Tiploc};
@@ -36,6 +37,27 @@ impl Model for ThinFile {
 }
 
 impl ThinFile {
+    /// Makes a thin file from these parts, which were kept for this place and day. `so_far` records
+    /// all changes of the file for proofs.
+    pub(crate) fn of(
+        place: Tiploc,
+        day: Day,
+        parts: FileParts,
+        elsewhere: Vec<Elsewhere>,
+        so_far: ChangesSoFar,
+    ) -> ThinFile
+        requires { AreThinParts place day so_far.changes parts elsewhere }
+        ensures { result ≡ thin_of_parts place day so_far.changes parts elsewhere }
+    {
+        ThinFile {
+            place,
+            day,
+            parts,
+            elsewhere,
+            so_far,
+        }
+    }
+
     /// A view of the file's header.
     pub fn header(&self) -> Header<'_>
         ensures header { result ≡ self.now.file.header_line }
@@ -58,8 +80,17 @@ impl ThinFile {
         } = self;
         let uids = uids_named(alloc, parts.changes.as_slice())?;
         let elsewhere = wanted(elsewhere, uids.as_slice());
-        let changes = with_bodies(alloc, &place, parts.changes, elsewhere)?;
-        Ok(FileParts { changes, ..parts })
+        let FileParts {
+            header,
+            records,
+            changes,
+        } = parts;
+        let changes = with_bodies(alloc, &place, changes, elsewhere)?;
+        Ok(FileParts {
+            header,
+            records,
+            changes,
+        })
     }
 }
 
@@ -74,16 +105,18 @@ pub(crate) fn thin_of<P: PlaceDay>(ended: Ended<ThinSoFar<P>>) -> ThinFile
         records,
         keeper,
     } = ended;
-    let thinned = keeper.thinned;
-    ThinFile {
-        place: thinned.place,
-        day: thinned.day,
-        parts: FileParts {
-            header,
-            records,
-            changes: thinned.made,
-        },
-        elsewhere: thinned.elsewhere,
-        so_far: keeper.so_far,
-    }
+    let (thinned, so_far) = keeper.into_kept();
+    let Thinned {
+        place,
+        day,
+        made,
+        elsewhere,
+        ..
+    } = thinned;
+    let parts = FileParts {
+        header,
+        records,
+        changes: made,
+    };
+    ThinFile::of(place, day, parts, elsewhere, so_far)
 }

@@ -3,7 +3,7 @@ ghost use Rattle.std.specs.Prelude.{◌≡◌, [], ⊤};
 ghost use Rattle.docker_excerpt.specs.ThinKept.{KeepsThin};
 
 use crate::changes_so_far::{ChangesSoFar, OpenLines};
-use crate::place::PlaceDay;
+use crate::place_day::PlaceDay;
 use crate::start_days::runs_near_unless_deleted;
 use crate::thinned::Thinned;
 use cif_file::{ChangeKeeper, Opened, Single, changes_of};
@@ -18,8 +18,8 @@ use std::marker::PhantomData;
 pub(crate) struct ThinSoFar<P> {
     open: OpenLines,
     runs_near: bool,
-    pub(crate) thinned: Thinned,
-    pub(crate) so_far: ChangesSoFar,
+    thinned: Thinned,
+    so_far: ChangesSoFar,
     of: PhantomData<P>,
 }
 
@@ -40,6 +40,19 @@ impl<P: PlaceDay> ThinSoFar<P> {
             of: PhantomData,
         }
     }
+
+    /// The changes that were kept and, for proofs, all changes.
+    pub(crate) fn into_kept(self) -> (Thinned, ChangesSoFar)
+        ensures thinned { result.0 ≡ self.thinned }
+        ensures so_far { result.1 ≡ self.so_far }
+    {
+        let ThinSoFar {
+            thinned,
+            so_far,
+            ..
+        } = self;
+        (thinned, so_far)
+    }
 }
 
 impl<P: PlaceDay> ChangeKeeper for ThinSoFar<P> {
@@ -48,7 +61,7 @@ impl<P: PlaceDay> ChangeKeeper for ThinSoFar<P> {
     ghost wants = { ⊤ };
 
     fn begin(&mut self, basic: &Basic<'_>) -> Result<(), AllocError> {
-        self.runs_near = runs_near_unless_deleted(basic, self.thinned.day);
+        self.runs_near = runs_near_unless_deleted(basic, self.thinned.day());
         self.open.lines.push(basic.line().as_new())?;
         Ok(())
     }

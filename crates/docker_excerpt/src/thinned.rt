@@ -45,6 +45,13 @@ impl Thinned {
         }
     }
 
+    /// The day of the docker.
+    pub(crate) fn day(&self) -> Day
+        ensures { result ≡ self.now.day }
+    {
+        self.day
+    }
+
     /// Whether a change to this schedule was kept. In most extracts the changes are nearly sorted by
     /// key. So the function first compares the key with the greatest kept key, which needs no
     /// search.
@@ -68,8 +75,10 @@ impl Thinned {
         let Key::Schedule(schedule) = key else {
             return Ok(());
         };
-        self.keys.insert(*schedule)?;
-        Ok(())
+        match self.keys.insert(*schedule) {
+            Ok(_) => Ok(()),
+            Err(_) => Err(AllocError),
+        }
     }
 
     /// Appends a change that is to be kept, and adds its key to the set if it is the key of a

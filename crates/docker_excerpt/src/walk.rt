@@ -20,7 +20,7 @@ use std::alloc::Global;
 /// kept or dropped as a whole.
 #[derive(Debug, Drop)]
 pub(crate) struct ExcerptWalk {
-    pub(crate) place: Tiploc,
+    place: Tiploc,
     kept: Vec<(Key, Entry)>,
     run: Vec<(Key, Entry)>,
     // whether the schedules in `run` are needed: their UID is in `names`, or one of them calls at
@@ -46,6 +46,13 @@ impl ExcerptWalk {
         }
     }
 
+    /// The place of the excerpt.
+    pub(crate) fn place(&self) -> Tiploc
+        ensures { result ≡ self.now.place }
+    {
+        self.place
+    }
+
     /// Moves past the next entry, which has this key. If memory runs out, the entry is dropped and
     /// doesn't count as passed.
     pub(crate) fn entry(&mut self, given: &Given, key: Key, entry: Entry) -> Result<(), Memory>
@@ -56,13 +63,10 @@ impl ExcerptWalk {
         ensures err { IsErr result → HasWalked self.new given.now.entries }
         ensures place { self.new.place ≡ self.old.place }
     {
-        let Key::Schedule(schedule) = key else {
-            return self.single(given, key, entry);
-        };
-        if goes_on(self.run.as_slice(), &schedule.uid) {
-            self.join(given, schedule, entry)
-        } else {
-            self.begin(given, schedule, entry)
+        match key {
+            Key::Tiploc(_) => self.single(given, key, entry),
+            Key::Assoc(_) => self.single(given, key, entry),
+            Key::Schedule(schedule) => self.schedule(given, schedule, entry),
         }
     }
 
@@ -85,6 +89,21 @@ impl ExcerptWalk {
         }
         self.kept.push_reserved((key, entry));
         Ok(())
+    }
+
+    /// Moves past a schedule, which may have the UID of the schedules in `run` or another UID.
+    fn schedule(&mut self, given: &Given, key: ScheduleKey, entry: Entry) -> Result<(), Memory>
+        requires { HasWalked self.old given.now.entries }
+        ensures ok { IsOk result → HasWalked self.new
+            (given.now.entries ++ (key_meant (Key.Schedule key), entry_meant entry) ∷ []) }
+        ensures err { IsErr result → HasWalked self.new given.now.entries }
+        ensures place { self.new.place ≡ self.old.place }
+    {
+        if goes_on(self.run.as_slice(), &key.uid) {
+            self.join(given, key, entry)
+        } else {
+            self.begin(given, key, entry)
+        }
     }
 
     /// Adds a schedule to `run`, which has schedules of the same UID.

@@ -9,7 +9,7 @@ ghost use Rattle.docker_excerpt.specs.Elsewhere.{all_kept, uid_named, uids_named
 
 use crate::elsewhere::{Elsewhere, ends_elsewhere};
 use crate::needs::has_name;
-use cif_change::{Change, Key};
+use cif_change::{Change, Key, ScheduleKey};
 use cif_line::{Tiploc, Uid};
 use std::alloc::{AllocError, Global};
 
@@ -41,13 +41,21 @@ pub(crate) fn uids_named(alloc: Global, made: &[Change]) -> Result<Vec<Uid>, All
     Ok(uids)
 }
 
+/// Whether the UID of a schedule's key is among these sorted UIDs.
+fn is_wanted(uids: &[Uid], key: &ScheduleKey) -> bool
+    requires { IsSorted bytes_cmp uids.now }
+    ensures { result ≡ is_wanted uids.now (key_meant (Key.Schedule key.now)) }
+{
+    has_name(uids, &key.uid)
+}
+
 /// Those of the schedules whose UIDs are among these sorted UIDs.
 pub(crate) fn wanted(mut elsewhere: Vec<Elsewhere>, uids: &[Uid]) -> Vec<Elsewhere>
     requires { IsSorted bytes_cmp uids.now }
     ensures { result.items ≡ filter (λ (schedule : one.Elsewhere).
         is_wanted uids.now (key_meant (Key.Schedule schedule.key))) elsewhere.items }
 {
-    elsewhere.retain(|schedule| has_name(uids, &schedule.key.uid));
+    elsewhere.retain(|schedule| is_wanted(uids, &schedule.key));
     elsewhere
 }
 

@@ -12,5 +12,7 @@ pub fn tell_text<L: Sink>(text: &[u8], faults: &mut L)
         (faults_view (L.taken faults.old) (L.failures faults.old))
         (faults_view (L.taken faults.new) (L.failures faults.new)) }
 {
-    let _ = write_all(faults, text);
+    match write_all(faults, text) {
+        Ok(()) | Err(_) => {}
+    }
 }

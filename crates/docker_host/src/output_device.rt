@@ -80,11 +80,13 @@ impl<W: Write> Sink for OutputDevice<W> {
         ensures bytes { WriteAppends (W.contents self.old.writer) (W.contents self.new.writer)
             result piece.now }
     {
-        let written = write_some(&mut self.writer, piece);
-        if written.is_err() {
-            self.failures += 1;
+        match write_some(&mut self.writer, piece) {
+            Ok(n) => Ok(n),
+            Err(failed) => {
+                self.failures += 1;
+                Err(failed)
+            }
         }
-        written
     }
 
     fn failures(&self) -> u64 {

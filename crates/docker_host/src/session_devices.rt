@@ -2,10 +2,10 @@
 ghost use Rattle.std.specs.Prelude.{◌≡◌, []};
 ghost use Rattle.docker_host.specs.SessionHost.{FailedFew};
 
-use crate::host::SessionHost;
 use crate::input_device::InputDevice;
 use crate::output_device::OutputDevice;
 use crate::real_folder::RealFolder;
+use crate::session_host::SessionHost;
 use crate::streams::Streams;
 use std::io::{Stderr, Stdin, Stdout};
 

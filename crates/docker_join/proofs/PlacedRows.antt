@@ -1,7 +1,6 @@
 -- Joining two tables by placing rows, from the greatest key to the smallest: after each step the placed rows are right.
 use Rattle.cif_laws.proofs.Common.{◌≡◌, ℕ, ◌+◌, ◌-◌, ◌<◌, ◌≤◌, List, [], ◌∷◌, ◌++◌, length, get_or, take, drop, refl, ap, sym, rules, common_steps, ◌∙◌, subst}
-use Rattle.cif_laws.proofs.Common.{append_assoc, length-append, length-drop, arith, true, false, cond, Some, None, MatchOption, Bool, Option, slice_index_or}
-use Rattle.cif_laws.proofs.Common.{not, append-nil}
+use Rattle.cif_laws.proofs.Common.{append_assoc, length-append, length-drop, arith, true, false, cond, Some, None, MatchOption, Bool, Option, not, append-nil}
 use Rattle.cif_laws.proofs.Common.{get_or-drop, get_or-take, length-take-le, take-append-drop, take_more, take-append_seam, AllByRecursion, recursion_from_All}
 use Rattle.cif_laws.proofs.Common.{Ordering, Less, Equal, Greater, is_eq, is_lt, ordering_reverse, IsTotalOrder, tied_itself, key_cmp, IsBelow}
 use Rattle.std.proofs.lemmas.List.{get_or-append_right}
@@ -9,7 +8,7 @@ use Rattle.std.proofs.lemmas.List.{drop-drop, same_from_push}
 use Rattle.std.proofs.lemmas.List.Folds.{find-append}
 use Rattle.std.proofs.Math.Seq.{drop-append_seam, take-add}
 use Rattle.std.specs.Ordering.{is_gt}
-use Rattle.std.specs.Cmp.{alike_right, Equal-is}
+use Rattle.std.specs.Cmp.{alike_right}
 use Rattle.docker_model.specs.file.Change as model
 use Rattle.cif_laws.proofs.orders.Orders.{key_total, exact_key}
 use Rattle.cif_laws.proofs.orders.Ascending.{later_of, ascending_of, below_next}
@@ -57,16 +56,6 @@ module _ {E : Type 0} where
   parts : (rows front back : List (Key × E)) (m : ℕ) → rows ≡ front ++ back → m ≡ length back
       → (left_rows m rows ≡ back) × (take (length rows - m) rows ≡ front)
   parts = grind (common_steps, arith, length-append, drop-append_seam, take-append_seam)
-
--- if the last row of the ring buffer has a key, the row that is removed from its end has this key
-pub level_taken : {E : Type 0} (key : model.Key) (rows : List (Key × E)) (n : ℕ) (top : Key × E) (b : Bool)
-    → ((d : Key × E) → b ≡ is_level_at key rows n d) → b ≡ true → (found : Option (Key × E))
-    → ((d : Key × E) → 0 < n → found ≡ Some (slice_index_or rows (n - 1) d)) → 0 < n → found ≡ Some top
-    → key_cmp (key_meant top.0) key ≡ Equal
-level_taken {E} key rows n top b is passes found at some found_is =
-    let found_at : Some (slice_index_or rows (n - 1) top) ≡ Some top = sym (at top some) ∙ found_is in
-    let same : slice_index_or rows (n - 1) top ≡ top = cc in
-    ap (λ (row : Key × E). key_cmp (key_meant row.0) key) (sym same) ∙ (Equal-is _).0 (sym (is top) ∙ passes)
 
 module _ {E : Type 0} (picked : E → E → E) where
   -- if the keys of two tables pass a test, so do the keys of their join

@@ -1,10 +1,9 @@
--- The orders of stamps and entries are total. Stamps that compare as equal are equal. Entries that compare as equal are equal if the lines of
+-- Stamps that compare as equal are equal. Entries that compare as equal are equal if the lines of
 -- their bodies are records.
 use Rattle.std.proofs.Common.{◌≡◌, refl, ap, arith}
 use Rattle.std.specs.Prelude.{⊤}
 use Rattle.std.specs.declared.cmp.Ordering.TheVariants.{Equal}
 use Rattle.std.specs.Ordering.{on, nat_cmp}
-use Rattle.std.specs.Cmp.{IsTotalOrder, on_total}
 use Rattle.std.proofs.lemmas.Map.Lookups.{exact_unsigned, exact_bytes}
 use Rattle.docker_model.specs.state.Order.{bytes_cmp}
 use Rattle.docker_model.specs.state.Stamp.{file_stamp_cmp, stamp_cmp}
@@ -21,18 +20,6 @@ use Rattle.docker_join.specs.declared.entry.Op.TheVariants as op
 use Rattle.docker_join.specs.declared.entry.Entry.{Entry}
 use Rattle.docker_join.specs.Meaning.{file_stamp_meant, stamp_meant, op_meant, entry_meant}
 use Rattle.docker_join.specs.Records.{IsOfRecords, HasRecords}
-
--- the order of file stamps is total
-pub file_stamps_total : IsTotalOrder (on file_stamp_meant file_stamp_cmp)
-file_stamps_total = on_total file_stamp_meant laws.file_stamp_total
-
--- the order of stamps is total
-pub stamps_total : IsTotalOrder (on stamp_meant stamp_cmp)
-stamps_total = on_total stamp_meant laws.stamp_total
-
--- the order of entries is total
-pub entries_total : IsTotalOrder (on entry_meant entry_cmp)
-entries_total = on_total entry_meant laws.entry_total
 
 -- the conversion of file stamps is injective: file stamps of the code are equal if they are
 -- converted to equal file stamps of the definitions

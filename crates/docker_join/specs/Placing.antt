@@ -1,7 +1,8 @@
 -- The steps of joining two tables: rows are placed from the greatest key to the smallest. The rows
 -- of the first table are in a ring buffer (`VecDeque`). The buffer's first rows are the placed
 -- rows, and its last rows are still to be placed.
-use Rattle.std.specs.Prelude.{◌≡◌, ℕ, ◌+◌, ◌-◌, ◌<◌, ◌≤◌, Bool, true, false, List, [], ◌∷◌, ◌++◌, length, take, drop, slice_index_or}
+use Rattle.std.specs.Prelude.{◌≡◌, ℕ, ◌+◌, ◌-◌, ◌<◌, ◌≤◌, Bool, true, false, List, Option, Some, None, [], ◌∷◌, ◌++◌, length, take, drop, slice_index_or}
+use Rattle.std.specs.declared.cmp.Ordering.TheVariants.{Equal}
 use Rattle.std.specs.Ordering.{is_eq, is_gt}
 use Rattle.docker_model.specs.file.Change as model
 use Rattle.docker_model.specs.state.Op.{key_cmp}
@@ -24,6 +25,13 @@ pub record IsRunAbove {E : Type 0} (key : model.Key) (rows : List (Key × E)) (n
   pub within : run ≤ left
   pub above : (d : Key × E) → 0 < run → is_above_at key rows n run d ≡ true
   pub below : (d : Key × E) → run < left → is_above_at key rows n (run + 1) d ≡ false
+
+-- Says what taking the last row of a ring buffer does. If a row is left to be placed and the last
+-- row has the key, the last row was removed. Otherwise no row was taken, and the ring buffer is
+-- unchanged.
+abbrev pub IsTaken : {E : Type 0} → model.Key → ℕ → ℕ → List (Key × E) → List (Key × E) → Option (Key × E) → Type 0
+IsTaken key n left old new None = (new ≡ old) × ((d : _) → 0 < left → is_level_at key old n d ≡ false)
+IsTaken key n left old new (Some own) = (old ≡ new ++ own ∷ []) × ((key_cmp (key_meant own.0) key ≡ Equal) × (0 < left))
 
 -- the rows of the first table that aren't placed yet, which are the last rows of the ring buffer
 abbrev pub left_rows : {E : Type 0} → ℕ → List (Key × E) → List (Key × E)

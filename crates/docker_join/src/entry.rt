@@ -10,7 +10,7 @@ ghost use Rattle.docker_join.specs.Meaning.{op_meant, entry_meant};
 ghost use Rattle.docker_model.specs.state.Order.{IsGreater};
 ghost use Rattle.cif_laws.proofs.orders.Greater.{greater_closed, greater_one, greater_commutes, greater_associates, greater_itself, greater_max};
 ghost use Rattle.docker_join.specs.Records.{HasRecords};
-ghost use Rattle.docker_join.specs.Exact.{entries_total, exact_entry};
+ghost use Rattle.docker_join.specs.Exact.{exact_entry};
 
 use crate::merge::{Merge, Pick};
 use crate::stamp::Stamp;
@@ -50,7 +50,8 @@ impl Op {
             (if result then lapsed else op_meant self.now) }
     {
         match self {
-            Op::Deleted | Op::Lapsed => false,
+            Op::Deleted => false,
+            Op::Lapsed => false,
             Op::Put(body) => body.end_number() < horizon,
         }
     }
@@ -91,10 +92,15 @@ impl Ord for Op {
 
     fn cmp(&self, other: &Op) -> Ordering {
         match (self, other) {
+            (Op::Deleted, Op::Deleted) => Ordering::Equal,
+            (Op::Deleted, Op::Lapsed) => Ordering::Less,
+            (Op::Deleted, Op::Put(_)) => Ordering::Less,
+            (Op::Lapsed, Op::Deleted) => Ordering::Greater,
+            (Op::Lapsed, Op::Lapsed) => Ordering::Equal,
+            (Op::Lapsed, Op::Put(_)) => Ordering::Less,
+            (Op::Put(_), Op::Deleted) => Ordering::Greater,
+            (Op::Put(_), Op::Lapsed) => Ordering::Greater,
             (Op::Put(a), Op::Put(b)) => a.cmp(b),
-            (Op::Deleted, Op::Deleted) | (Op::Lapsed, Op::Lapsed) => Ordering::Equal,
-            (Op::Deleted, _) | (_, Op::Put(_)) => Ordering::Less,
-            (_, Op::Deleted) | (Op::Put(_), _) => Ordering::Greater,
         }
     }
 }
@@ -142,7 +148,7 @@ impl Eq for Entry {
 impl PartialOrd for Entry {
     ghost partial_cmp = { as_partial_cmp (on entry_meant entry_cmp) };
 
-    ghost laws = { partial_order_from_total entries_total };
+    ghost laws = { partial_order_from_total (on_total entry_meant entry_total) };
 
     fn partial_cmp(&self, other: &Entry) -> Option<Ordering> {
         Some(self.cmp(other))
@@ -152,7 +158,7 @@ impl PartialOrd for Entry {
 impl Ord for Entry {
     ghost cmp = { on entry_meant entry_cmp };
 
-    ghost total = { entries_total };
+    ghost total = { on_total entry_meant entry_total };
 
     ghost matches_partial_cmp = { λ a b. refl };
 
@@ -171,18 +177,20 @@ impl Merge for Entry {
 
     ghost is_join = { IsGreater (on entry_meant entry_cmp) };
 
-    ghost closed = { greater_closed (λ entry. HasRecords (op_meant entry.op)) entries_total };
+    ghost closed = { greater_closed (λ entry. HasRecords (op_meant entry.op))
+        (on_total entry_meant entry_total) };
 
     ghost one = { greater_one (λ entry. HasRecords (op_meant entry.op))
-        entries_total exact_entry };
+        (on_total entry_meant entry_total) exact_entry };
 
     ghost commutative = { greater_commutes (λ entry. HasRecords (op_meant entry.op))
-        entries_total };
+        (on_total entry_meant entry_total) };
 
     ghost associative = { greater_associates (λ entry. HasRecords (op_meant entry.op))
-        entries_total exact_entry };
+        (on_total entry_meant entry_total) exact_entry };
 
-    ghost idempotent = { greater_itself (λ entry. HasRecords (op_meant entry.op)) entries_total };
+    ghost idempotent = { greater_itself (λ entry. HasRecords (op_meant entry.op))
+        (on_total entry_meant entry_total) };
 
     /// The greater of the two entries. No memory is allocated.
     fn join(self, _alloc: Global, other: Entry) -> Result<Entry, (Entry, Entry)>
@@ -196,7 +204,8 @@ impl Merge for Entry {
 impl Pick for Entry {
     ghost picked = { ord_max (on entry_meant entry_cmp) };
 
-    ghost joins = { greater_max (λ entry. HasRecords (op_meant entry.op)) entries_total };
+    ghost joins = { greater_max (λ entry. HasRecords (op_meant entry.op))
+        (on_total entry_meant entry_total) };
 
     /// The greater of the two entries.
     fn pick(self, other: Entry) -> Entry {

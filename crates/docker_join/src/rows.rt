@@ -1,12 +1,12 @@
 //! The rows of tables. Entries lapse if their bodies ended before a horizon. The rows of two tables
 //! are joined in the memory of the first table.
-ghost use Rattle.std.specs.Prelude.{◌≡◌, ◌+◌, ◌<◌, ◌≤◌, true, false, map, vec_len, vec_capacity};
+ghost use Rattle.std.specs.Prelude.{◌≡◌, ◌+◌, ◌<◌, ◌≤◌, true, false, map, vec_len, vec_capacity, MatchOption};
 ghost use Rattle.std.specs.VecDeque.{deque_len, deque_capacity};
 ghost use Rattle.cif_change.specs.Meaning.{key_meant};
 ghost use Rattle.docker_model.specs.state.Lapse.{lapse_entries};
 ghost use Rattle.docker_join.specs.Meaning.{row_meant};
 ghost use Rattle.docker_join.specs.Rows.{AreAscending, IsJoinOfRows};
-ghost use Rattle.docker_join.specs.Placing.{is_above_at, is_level_at, IsRunAbove, IsPlaced};
+ghost use Rattle.docker_join.specs.Placing.{is_above_at, is_level_at, IsRunAbove, IsTaken, IsPlaced};
 
 use crate::entry::Entry;
 use crate::merge::Pick;
@@ -63,23 +63,44 @@ fn place<E: Pick>(rows: &mut VecDeque<(Key, E)>, left: usize, row: (Key, E)) -> 
     let run = run_above(rows, left, &row.0);
     rows.rotate_right(run);
     let left = left - run;
-    if !is_level(rows, left, &row.0) {
-        rows.push_front_reserved(row);
-        return left;
+    match take_level(rows, left, &row.0) {
+        Some(own) => {
+            rows.push_front_reserved((own.0, own.1.pick(row.1)));
+            left - 1
+        }
+        None => {
+            rows.push_front_reserved(row);
+            left
+        }
     }
-    let own = rows.pop_back().unwrap();
-    rows.push_front_reserved((own.0, own.1.pick(row.1)));
-    left - 1
 }
 
-/// Whether a row is still to be placed and the last row of the ring buffer has this key.
-fn is_level<E>(rows: &VecDeque<(Key, E)>, left: usize, key: &Key) -> bool
-    requires { left ≤ deque_len rows.now }
-    ensures some { result ≡ true → 0 < left }
-    ensures level { (d : _) → 0 < left → result
+/// Removes the last row of the ring buffer and returns it, if a row is still to be placed and the
+/// last row has this key.
+fn take_level<E>(rows: &mut VecDeque<(Key, E)>, left: usize, key: &Key) -> Option<(Key, E)>
+    requires { left ≤ deque_len rows.old }
+    ensures taken { IsTaken (key_meant key.now) (deque_len rows.old) left rows.old.items
+        rows.new.items result }
+    ensures len { MatchOption result (deque_len rows.new ≡ deque_len rows.old)
+        (λ _. deque_len rows.new + 1 ≡ deque_len rows.old) }
+    ensures capacity { deque_capacity rows.new ≡ deque_capacity rows.old }
+{
+    if left == 0 {
+        return None;
+    }
+    if !is_level(rows, key) {
+        return None;
+    }
+    rows.pop_back()
+}
+
+/// Whether the last row of the ring buffer has this key.
+fn is_level<E>(rows: &VecDeque<(Key, E)>, key: &Key) -> bool
+    requires { 0 < deque_len rows.now }
+    ensures { (d : _) → result
         ≡ is_level_at (key_meant key.now) rows.now.items (deque_len rows.now) d }
 {
-    left > 0 && rows[rows.len() - 1].0.cmp(key).is_eq()
+    rows[rows.len() - 1].0.cmp(key).is_eq()
 }
 
 /// Whether a row has a key greater than this key. The row is given by its distance `back` from the

@@ -1,14 +1,14 @@
 //! Stamps: which record of which file an entry comes from.
 ghost use Rattle.std.specs.Prelude.{◌↔◌, IfOk, IsOk, IsTrue, ⊤};
 ghost use Rattle.std.specs.Ordering.{on, as_partial_cmp, eq_by_cmp, ord_max};
-ghost use Rattle.std.specs.Cmp.{partial_equiv_from_equiv, on_equiv, eq_by_cmp_equiv, partial_order_from_total};
+ghost use Rattle.std.specs.Cmp.{partial_equiv_from_equiv, on_equiv, on_total, eq_by_cmp_equiv, partial_order_from_total};
 ghost use Rattle.std.proofs.Common.{refl};
 ghost use Rattle.docker_model.specs.state.Stamp.{file_stamp_cmp, stamp_cmp, IsKept};
 ghost use Rattle.cif_laws.proofs.orders.Orders.{file_stamp_total, stamp_total};
 ghost use Rattle.docker_join.specs.Meaning.{file_stamp_meant, floor_meant, stamp_meant};
 ghost use Rattle.docker_model.specs.state.Order.{IsGreater};
 ghost use Rattle.cif_laws.proofs.orders.Greater.{greater_closed, greater_one, greater_commutes, greater_associates, greater_itself, greater_max};
-ghost use Rattle.docker_join.specs.Exact.{file_stamps_total, stamps_total, exact_file_stamp, exact_stamp};
+ghost use Rattle.docker_join.specs.Exact.{exact_file_stamp, exact_stamp};
 
 use crate::merge::{Merge, Pick};
 use cif_change::Day;
@@ -58,7 +58,7 @@ impl Eq for FileStamp {
 impl PartialOrd for FileStamp {
     ghost partial_cmp = { as_partial_cmp (on file_stamp_meant file_stamp_cmp) };
 
-    ghost laws = { partial_order_from_total file_stamps_total };
+    ghost laws = { partial_order_from_total (on_total file_stamp_meant file_stamp_total) };
 
     fn partial_cmp(&self, other: &FileStamp) -> Option<Ordering> {
         Some(self.cmp(other))
@@ -68,7 +68,7 @@ impl PartialOrd for FileStamp {
 impl Ord for FileStamp {
     ghost cmp = { on file_stamp_meant file_stamp_cmp };
 
-    ghost total = { file_stamps_total };
+    ghost total = { on_total file_stamp_meant file_stamp_total };
 
     ghost matches_partial_cmp = { λ a b. refl };
 
@@ -87,15 +87,17 @@ impl Merge for FileStamp {
 
     ghost is_join = { IsGreater (on file_stamp_meant file_stamp_cmp) };
 
-    ghost closed = { greater_closed (λ _. ⊤) file_stamps_total };
+    ghost closed = { greater_closed (λ _. ⊤) (on_total file_stamp_meant file_stamp_total) };
 
-    ghost one = { greater_one (λ _. ⊤) file_stamps_total exact_file_stamp };
+    ghost one = { greater_one (λ _. ⊤)
+        (on_total file_stamp_meant file_stamp_total) exact_file_stamp };
 
-    ghost commutative = { greater_commutes (λ _. ⊤) file_stamps_total };
+    ghost commutative = { greater_commutes (λ _. ⊤) (on_total file_stamp_meant file_stamp_total) };
 
-    ghost associative = { greater_associates (λ _. ⊤) file_stamps_total exact_file_stamp };
+    ghost associative = { greater_associates (λ _. ⊤)
+        (on_total file_stamp_meant file_stamp_total) exact_file_stamp };
 
-    ghost idempotent = { greater_itself (λ _. ⊤) file_stamps_total };
+    ghost idempotent = { greater_itself (λ _. ⊤) (on_total file_stamp_meant file_stamp_total) };
 
     /// The greater of the two file stamps: the stamp of the newer file. No memory is allocated.
     fn join(self, _alloc: Global, other: FileStamp) -> Result<FileStamp, (FileStamp, FileStamp)>
@@ -109,7 +111,7 @@ impl Merge for FileStamp {
 impl Pick for FileStamp {
     ghost picked = { ord_max (on file_stamp_meant file_stamp_cmp) };
 
-    ghost joins = { greater_max (λ _. ⊤) file_stamps_total };
+    ghost joins = { greater_max (λ _. ⊤) (on_total file_stamp_meant file_stamp_total) };
 
     /// The greater of the two file stamps.
     fn pick(self, other: FileStamp) -> FileStamp {
@@ -144,7 +146,7 @@ impl Eq for Stamp {
 impl PartialOrd for Stamp {
     ghost partial_cmp = { as_partial_cmp (on stamp_meant stamp_cmp) };
 
-    ghost laws = { partial_order_from_total stamps_total };
+    ghost laws = { partial_order_from_total (on_total stamp_meant stamp_total) };
 
     fn partial_cmp(&self, other: &Stamp) -> Option<Ordering> {
         Some(self.cmp(other))
@@ -154,7 +156,7 @@ impl PartialOrd for Stamp {
 impl Ord for Stamp {
     ghost cmp = { on stamp_meant stamp_cmp };
 
-    ghost total = { stamps_total };
+    ghost total = { on_total stamp_meant stamp_total };
 
     ghost matches_partial_cmp = { λ a b. refl };
 
@@ -172,15 +174,16 @@ impl Merge for Stamp {
 
     ghost is_join = { IsGreater (on stamp_meant stamp_cmp) };
 
-    ghost closed = { greater_closed (λ _. ⊤) stamps_total };
+    ghost closed = { greater_closed (λ _. ⊤) (on_total stamp_meant stamp_total) };
 
-    ghost one = { greater_one (λ _. ⊤) stamps_total exact_stamp };
+    ghost one = { greater_one (λ _. ⊤) (on_total stamp_meant stamp_total) exact_stamp };
 
-    ghost commutative = { greater_commutes (λ _. ⊤) stamps_total };
+    ghost commutative = { greater_commutes (λ _. ⊤) (on_total stamp_meant stamp_total) };
 
-    ghost associative = { greater_associates (λ _. ⊤) stamps_total exact_stamp };
+    ghost associative = { greater_associates (λ _. ⊤)
+        (on_total stamp_meant stamp_total) exact_stamp };
 
-    ghost idempotent = { greater_itself (λ _. ⊤) stamps_total };
+    ghost idempotent = { greater_itself (λ _. ⊤) (on_total stamp_meant stamp_total) };
 
     /// The greater of the two stamps, which is the newer stamp. No memory is allocated.
     fn join(self, _alloc: Global, other: Stamp) -> Result<Stamp, (Stamp, Stamp)>
@@ -194,7 +197,7 @@ impl Merge for Stamp {
 impl Pick for Stamp {
     ghost picked = { ord_max (on stamp_meant stamp_cmp) };
 
-    ghost joins = { greater_max (λ _. ⊤) stamps_total };
+    ghost joins = { greater_max (λ _. ⊤) (on_total stamp_meant stamp_total) };
 
     /// The greater of the two stamps.
     fn pick(self, other: Stamp) -> Stamp {

@@ -1,8 +1,7 @@
 //! Tables, which have one row for each key.
-ghost use Rattle.std.specs.Prelude.{◌≡◌, ◌==◌, ◌+◌, ◌≤◌, [], false, length, map, vec_len, vec_capacity, IfOk, IfErr, List};
+ghost use Rattle.std.specs.Prelude.{◌≡◌, ◌==◌, ◌+◌, ◌≤◌, [], false, length, map, vec_len, vec_capacity, IfOk, IfErr};
 ghost use Rattle.std.specs.Option.{option_copied};
 ghost use Rattle.cif_change.specs.Meaning.{key_meant};
-ghost use Rattle.cif_change.specs.declared.key.Key.{Key};
 ghost use Rattle.docker_model.specs.state.Lapse.{lapse_entries};
 ghost use Rattle.docker_join.specs.Meaning.{row_meant};
 ghost use Rattle.docker_join.specs.Rows.{AreAscending, value_at};
@@ -22,6 +21,10 @@ pub struct Table<E> {
 }
 
 impl<E> Model for Table<E> {
+    ghost use Rattle.std.specs.Prelude.{List};
+    ghost use Rattle.cif_change.specs.declared.key.Key.{Key};
+    ghost use Rattle.docker_join.specs.Rows.{AreAscending};
+
     ghost Value = { List (Key × E) };
 
     ghost view = { λ table. table.rows.items };
@@ -60,7 +63,8 @@ impl<E> Table<E> {
         ensures rows { result.items ≡ self }
         ensures ascending { AreAscending self }
     {
-        self.rows
+        let Table { rows } = self;
+        rows
     }
 
     /// The rows, in the order of their keys, in a vector with room for `more` further rows. If

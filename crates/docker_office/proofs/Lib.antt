@@ -4,4 +4,3 @@ pub mod MetEvents
 pub mod RunSoFar
 pub mod RunClauses
 pub mod EndedRuns
-pub mod ExcerptDocker

@@ -3,6 +3,8 @@
 #![tactic(auto)]
 
 mod event;
+mod excerpt_docker;
+mod exchange;
 mod fault;
 mod files;
 pub mod headline;
@@ -15,9 +17,10 @@ mod steps;
 
 pub use docker_bytes::{StateCause, StateFault};
 pub use event::Event;
+pub use exchange::Exchange;
 pub use fault::OfficeFault;
 pub use ledger_office::LedgerOffice;
 pub use office::Office;
 pub use place_office::PlaceOffice;
 pub use reply::{Reply, RunFault};
-pub use runs::{Exchange, run};
+pub use runs::run;

@@ -12,11 +12,12 @@ ghost use Rattle.docker_office.specs.Faults.{IsOfDocker};
 ghost use Rattle.docker_office.specs.Office.{HoldsState, PrintsDocker, PrintsPart, TakesFile, no_state};
 ghost use Rattle.docker_office.specs.OfficeReads.{EndsReadingState, EndsTakingFile};
 
+use crate::excerpt_docker::docker_of;
 use crate::fault::OfficeFault;
 use cif_file::MOST_RECORDS;
 use cif_line::{Day, Sink, Source, Tiploc};
 use docker_bytes::{Excerpt, read_excerpt};
-use docker_day::{docker_in, write_docker};
+use docker_day::write_docker;
 use docker_excerpt::read_thin;
 use std::alloc::Global;
 use std::marker::Model;
@@ -111,9 +112,7 @@ impl PlaceOffice {
             (K.failures sink.old) (K.failures sink.new) }
         ensures only { IfErr result IsOfDocker }
     {
-        let timetable = self.excerpt.timetable();
-        let place = self.excerpt.place();
-        let docker = docker_in(self.alloc, &timetable, place, self.excerpt.day())?;
+        let docker = docker_of(self.alloc, &self.excerpt)?;
         write_docker(&docker, sink).map_err(|_| OfficeFault::Sink)
     }
 }

@@ -1,63 +1,14 @@
-//! Runs of events at several offices, and their results.
-ghost use Rattle.std.specs.Prelude.{◌≡◌, ℕ, ◌<◌, All, length, map, IfOk};
+//! Runs of events at several offices.
+ghost use Rattle.std.specs.Prelude.{◌≡◌, ℕ, ◌<◌, All, length, IfOk};
 ghost use Rattle.docker_model.specs.run.Knowledge.{sent_count};
-ghost use Rattle.docker_model.specs.run.Run as model;
-ghost use Rattle.docker_office.specs.RunMeaning.{IsRunReply, events_meant, reply_meant, texts_of};
+ghost use Rattle.docker_office.specs.RunMeaning.{events_meant};
 ghost use Rattle.docker_office.specs.RunEnds.{HasGoodLimit, HasSummary, IsReplyAt, LeavesRun, TellsSummary};
 
 use crate::event::Event;
-use crate::office::Office;
-use crate::reply::Reply;
+use crate::exchange::Exchange;
 use crate::steps::Holdings;
-use cif_line::{Kept, Memory};
+use cif_line::Memory;
 use std::alloc::Global;
-use std::marker::Model;
-
-/// The result of a run: the offices, all messages that were sent, and a reply to each event.
-#[derive(Debug, Drop)]
-pub struct Exchange {
-    offices: Vec<Office>,
-    messages: Vec<Kept>,
-    replies: Vec<Reply>,
-}
-
-impl Model for Exchange {
-    ghost Value = { model.Exchange };
-
-    ghost view = { λ exchange. record {
-      states = exchange.offices.items;
-      messages = texts_of exchange.messages.items;
-      replies = map reply_meant exchange.replies.items;
-    } };
-
-    ghost invariant = { λ exchange. All IsRunReply exchange.replies.items };
-}
-
-impl Exchange {
-    /// Returns the offices, with their states at the end of the run.
-    pub fn offices(&self) -> &[Office]
-        ensures { result.now ≡ self.now.states }
-    {
-        self.offices.as_slice()
-    }
-
-    /// Returns all messages, whether they were delivered or not, in the order in which they were
-    /// sent. Each message holds its whole text.
-    pub fn messages(&self) -> &[Kept]
-        ensures { texts_of result.now ≡ self.now.messages }
-    {
-        self.messages.as_slice()
-    }
-
-    /// Returns the replies, one for each event, in the order of the events. The only office faults
-    /// among the replies are `File` and `Memory`.
-    pub fn replies(&self) -> &[Reply]
-        ensures meant { map reply_meant result.now ≡ self.now.replies }
-        ensures each { All IsRunReply result.now }
-    {
-        self.replies.as_slice()
-    }
-}
 
 /// Runs the events in order at `offices` offices, which know nothing at first, and returns the
 /// result. Fails with `Memory` only before the first event, if there is no room for the offices,
@@ -92,9 +43,5 @@ pub fn run(alloc: Global, offices: usize, events: &[Event<'_>]) -> Result<Exchan
     for event in events {
         replies.push_reserved(held.meet(alloc, event));
     }
-    Ok(Exchange {
-        offices: held.offices,
-        messages: held.messages,
-        replies,
-    })
+    Ok(Exchange::of(held.offices, held.messages, replies))
 }

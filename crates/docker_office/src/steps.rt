@@ -1,12 +1,15 @@
 //! The steps of a run, one for each event.
-ghost use Rattle.std.specs.Prelude.{◌≡◌, ◌+◌, ◌^◌, ◌<◌, ◌≤◌, [], All, length, vec_len, vec_capacity, IfSome, IfNone, IfOk};
+ghost use Rattle.std.specs.Prelude.{◌≡◌, ◌≢◌, ◌+◌, ◌^◌, ◌<◌, ◌≤◌, [], All, length, vec_len, vec_capacity, IfSome, IfNone, IsOk, IsErr, IfOk, IfErr, Some, Err};
+ghost use Rattle.cif_file.specs.SourceRead.{RefusesText};
+ghost use Rattle.docker_bytes.specs.SourceRead.{JoinsState, ReadsState, RefusesState};
 ghost use Rattle.docker_model.specs.state.StateText.{dks_2, state_text};
 ghost use Rattle.docker_model.specs.state.Summary.{IsSummary};
 ghost use Rattle.docker_model.specs.run.Run.{KnownSets, take_file, send_state, deliver, reload, horizon_event};
 ghost use Rattle.docker_model.specs.run.Knowledge.{IsGoodEvent, message_text};
+ghost use Rattle.docker_office.specs.Faults.{IsOfFile, IsOfState};
+ghost use Rattle.docker_office.specs.Office.{TakesFile};
 ghost use Rattle.docker_office.specs.RunMeaning.{IsMissing, event_meant, reply_for, texts_of};
 ghost use Rattle.docker_office.specs.RunEnds.{HasGoodLimit};
-ghost use Rattle.docker_office.specs.RunSteps.{AreOf, MeetsEvent};
 
 use crate::event::Event;
 use crate::fault::OfficeFault;
@@ -25,6 +28,8 @@ pub(crate) struct Holdings {
 }
 
 impl Holdings {
+    ghost use Rattle.docker_office.specs.RunSteps.{AreOf, MeetsEvent};
+
     /// Returns `offices` offices that know nothing, with room for `messages` messages. Returns
     /// `Memory` if there isn't enough memory for the offices and the messages.
     pub(crate) fn new(alloc: Global, offices: usize, messages: usize) -> Result<Holdings, Memory>
@@ -94,8 +99,7 @@ impl Holdings {
         if office >= self.offices.len() {
             return Reply::Refused(RunFault::NoOffice);
         }
-        let office = &mut self.offices[office];
-        reply_to(office.take(&mut Bytes::new(text, PIECE), limit))
+        reply_to(take_text(&mut self.offices[office], text, limit))
     }
 
     /// Has an office send its state. If memory runs out, no message is sent.
@@ -124,12 +128,13 @@ impl Holdings {
             → MeetsEvent known (deliver office message) result self.new }
         ensures messages { self.new.messages ≡ self.old.messages }
     {
-        if let Some(fault) = self.missing(office, message) {
-            return Reply::Refused(fault);
+        match self.missing(office, message) {
+            Some(fault) => Reply::Refused(fault),
+            None => {
+                let text = text_at(self.messages.as_slice(), message);
+                reply_to(receive_text(&mut self.offices[office], text))
+            }
         }
-        let text = text_at(self.messages.as_slice(), message);
-        let office = &mut self.offices[office];
-        reply_to(office.receive(&mut Bytes::new(text, PIECE), text.len() as u64))
     }
 
     /// Has an office replace its state with the state in a message.
@@ -138,12 +143,13 @@ impl Holdings {
             → MeetsEvent known (reload office message) result self.new }
         ensures messages { self.new.messages ≡ self.old.messages }
     {
-        if let Some(fault) = self.missing(office, message) {
-            return Reply::Refused(fault);
+        match self.missing(office, message) {
+            Some(fault) => Reply::Refused(fault),
+            None => {
+                let text = text_at(self.messages.as_slice(), message);
+                reply_to(reload_text(&mut self.offices[office], text))
+            }
         }
-        let text = text_at(self.messages.as_slice(), message);
-        let office = &mut self.offices[office];
-        reply_to(office.reload(&mut Bytes::new(text, PIECE), text.len() as u64))
     }
 
     /// Sets the horizon of an office.
@@ -163,6 +169,44 @@ impl Holdings {
     }
 }
 
+/// Has an office take the file with this text.
+fn take_text(office: &mut Office, text: &[u8], limit: u32) -> Result<(), OfficeFault>
+    requires { limit ≤ MOST_RECORDS }
+    ensures ok { IsOk result → TakesFile limit (Some text.now) office.old office.new }
+    ensures unchanged { IsErr result → office.new ≡ office.old }
+    ensures file { (fault : _) → result ≡ Err (OfficeFault.File fault)
+        → RefusesText limit (Some text.now) fault }
+    ensures source { result ≢ Err OfficeFault.Source }
+    ensures only { IfErr result IsOfFile }
+{
+    office.take(&mut Bytes::new(text, PIECE), limit)
+}
+
+/// Has an office receive the state with this text.
+fn receive_text(office: &mut Office, text: &[u8]) -> Result<(), OfficeFault>
+    ensures ok { IsOk result
+        → JoinsState dks_2 (length text.now) (Some text.now) office.old office.new }
+    ensures unchanged { IsErr result → office.new ≡ office.old }
+    ensures state { (fault : _) → result ≡ Err (OfficeFault.State fault)
+        → RefusesState dks_2 (length text.now) (Some text.now) fault }
+    ensures source { result ≢ Err OfficeFault.Source }
+    ensures only { IfErr result IsOfState }
+{
+    office.receive(&mut Bytes::new(text, PIECE), text.len() as u64)
+}
+
+/// Has an office replace its state with the state that has this text.
+fn reload_text(office: &mut Office, text: &[u8]) -> Result<(), OfficeFault>
+    ensures ok { IsOk result → ReadsState dks_2 (length text.now) (Some text.now) office.new }
+    ensures unchanged { IsErr result → office.new ≡ office.old }
+    ensures state { (fault : _) → result ≡ Err (OfficeFault.State fault)
+        → RefusesState dks_2 (length text.now) (Some text.now) fault }
+    ensures source { result ≢ Err OfficeFault.Source }
+    ensures only { IfErr result IsOfState }
+{
+    office.reload(&mut Bytes::new(text, PIECE), text.len() as u64)
+}
+
 /// Returns the message that an office sends: the text of its state. Room for the whole text is
 /// reserved before the first byte is written. Returns `Memory` if there isn't enough room, or if
 /// the length doesn't fit in a `usize`.
@@ -174,8 +218,10 @@ fn message_of(alloc: Global, office: &Office) -> Result<Kept, Memory>
     };
     let mut message = Kept::new(alloc, room)?;
     // A sink in memory fails only if it is full.
-    office.send(&mut message).map_err(|_| Memory)?;
-    Ok(message)
+    match office.send(&mut message) {
+        Ok(()) => Ok(message),
+        Err(_) => Err(Memory),
+    }
 }
 
 /// Returns the text of a message.

@@ -6,7 +6,7 @@ use Rattle.docker_host.specs.History.{Bytes, Event, looked, drafted, undrafted, 
 use Rattle.docker_office.specs.declared.fault.OfficeFault.TheVariants as office
 use Rattle.docker_cmd.specs.Words.{Text}
 use Rattle.docker_cmd.specs.Job.{JobView}
-use Rattle.docker_cmd.specs.declared.fault.JobFault.TheVariants as job
+use Rattle.docker_cmd.specs.declared.job_fault.JobFault.TheVariants as job
 use Rattle.docker_cmd.specs.Prepared.{IsOutputText, IsRefusedDocker, PreparedView}
 use Rattle.docker_cmd.specs.declared.fault.Fault.{Fault}
 use Rattle.docker_cmd.specs.declared.fault.Fault.TheVariants.{Job, Office}

@@ -10,7 +10,7 @@ use Rattle.docker_cmd.specs.Job.{NameNoJob}
 use Rattle.docker_cmd.specs.Tasks.{AreWordsOf, TaskView}
 use Rattle.docker_cmd.specs.Words.{OfOne, OfThree, OfTwo, Text}
 use Rattle.docker_cmd.specs.declared.fault.Fault.TheVariants.{Job}
-use Rattle.docker_cmd.specs.declared.fault.JobFault.TheVariants as job
+use Rattle.docker_cmd.specs.declared.job_fault.JobFault.TheVariants as job
 use Rattle.docker_program.specs.Program.{EndsBy, Performs, word_bytes}
 use Rattle.docker_program.proofs.ProgramLemmas.{performs_telling, with_faults}
 

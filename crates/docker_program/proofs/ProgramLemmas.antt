@@ -8,7 +8,7 @@ use Rattle.docker_office.specs.declared.fault.OfficeFault.{OfficeFault}
 use Rattle.docker_office.specs.declared.fault.OfficeFault.TheVariants as office
 use Rattle.docker_cmd.specs.Words.{Text}
 use Rattle.docker_cmd.specs.Job.{JobView, NameNoJob}
-use Rattle.docker_cmd.specs.declared.fault.JobFault.TheVariants as job
+use Rattle.docker_cmd.specs.declared.job_fault.JobFault.TheVariants as job
 use Rattle.docker_cmd.specs.Prepared.{PreparedView}
 use Rattle.docker_cmd.specs.declared.fault.Fault.{Fault}
 use Rattle.docker_cmd.specs.declared.fault.Fault.TheVariants.{Job, Office}

@@ -10,8 +10,8 @@ use Rattle.docker_office.specs.declared.fault.OfficeFault.TheVariants as office
 use Rattle.docker_cmd.specs.Words.{Text}
 use Rattle.docker_cmd.specs.Job.{JobView, IsJobOf, NameNoJob}
 use Rattle.docker_cmd.specs.JobLine.{ReadsAtMost, ReadsJob, HasJob, HasNoJob}
-use Rattle.docker_cmd.specs.declared.fault.JobFault.{JobFault}
-use Rattle.docker_cmd.specs.declared.fault.JobFault.TheVariants as job
+use Rattle.docker_cmd.specs.declared.job_fault.JobFault.{JobFault}
+use Rattle.docker_cmd.specs.declared.job_fault.JobFault.TheVariants as job
 use Rattle.docker_cmd.specs.Prepared.{PreparedView}
 use Rattle.docker_cmd.specs.FaultLine.{IsCounted, fault_line, status_of}
 use Rattle.docker_cmd.specs.declared.fault.Fault.{Fault}

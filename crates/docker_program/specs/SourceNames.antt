@@ -6,10 +6,10 @@ use Rattle.docker_cmd.specs.Job.{JobView}
 use Rattle.docker_cmd.specs.Reads as reads
 use Rattle.docker_cmd.specs.Reads.{Sources}
 use Rattle.docker_cmd.specs.Tasks.{sources_of, writes_of}
-use Rattle.docker_cmd.specs.declared.tasks.OutputKind.{OutputKind}
-use Rattle.docker_cmd.specs.declared.tasks.OutputKind.TheVariants as kind
-use Rattle.docker_program.specs.declared.job_names.SourceNames as declared
-use Rattle.docker_program.specs.declared.job_names.SourceNames.TheVariants as code
+use Rattle.docker_cmd.specs.declared.writes.OutputKind.{OutputKind}
+use Rattle.docker_cmd.specs.declared.writes.OutputKind.TheVariants as kind
+use Rattle.docker_program.specs.declared.names.SourceNames as declared
+use Rattle.docker_program.specs.declared.names.SourceNames.TheVariants as code
 
 -- the sources of a job, in the order of its words. Standard input may be the only source, or follow
 -- a file

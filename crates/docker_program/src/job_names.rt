@@ -1,26 +1,9 @@
 //! Finds what the words of a job name: its sources, and the file that it writes.
 ghost use Rattle.std.specs.Prelude.{◌≡◌, option_map};
-ghost use Rattle.docker_program.specs.SourceNames.{file_and_word, first_word, names_meant, names_of, only_source, second_word, stored_by};
+ghost use Rattle.docker_program.specs.SourceNames.{file_and_word, file_or_input, first_word, names_meant, names_of, only_source, second_word, stored_by};
 
+use crate::names::{STDIN, SourceNames};
 use docker_cmd::{Job, OutputKind, Sources};
-
-/// The word that names standard input.
-const STDIN: &str = "stdin";
-
-/// The sources of a job, in the order of its words.
-#[derive(Clone, Copy, Debug)]
-pub(crate) enum SourceNames<'a> {
-    /// No source.
-    None,
-    /// Standard input.
-    Stdin,
-    /// The file with this name.
-    File(&'a str),
-    /// The file with this name, and then standard input.
-    FileAndStdin(&'a str),
-    /// The file with the first name, and then the file with the second name.
-    Files(&'a str, &'a str),
-}
 
 /// Returns the sources that the words of a job name.
 pub(crate) fn names(job: &Job) -> SourceNames<'_>
@@ -54,13 +37,19 @@ fn only_source(output: OutputKind, word: &str) -> SourceNames<'_>
 {
     match output {
         OutputKind::State => SourceNames::File(word),
-        OutputKind::Counts | OutputKind::Docker | OutputKind::Files => {
-            if word == STDIN {
-                return SourceNames::Stdin;
-            }
-            SourceNames::File(word)
-        }
+        OutputKind::Counts | OutputKind::Docker | OutputKind::Files => file_or_input(word),
     }
+}
+
+/// Returns the source that a word names: standard input if the word is `stdin`, and otherwise a
+/// file.
+fn file_or_input(word: &str) -> SourceNames<'_>
+    ensures { names_meant result ≡ file_or_input word.now }
+{
+    if word == STDIN {
+        return SourceNames::Stdin;
+    }
+    SourceNames::File(word)
 }
 
 /// Returns two sources: the file with the first name, and whatever the second word names. `stdin`

@@ -6,7 +6,8 @@ ghost use Rattle.docker_host.specs.History.{Bytes as HeldBytes};
 ghost use Rattle.docker_program.specs.SourceNames.{file_and_input, two_files};
 ghost use Rattle.docker_program.specs.Sources.{ReadsBy, ReadsNamed, asking};
 
-use crate::job_names::{SourceNames, names};
+use crate::job_names::names;
+use crate::names::SourceNames;
 use cif_line::{Bytes, Source};
 use docker_cmd::{Job, OfficeFault, Prepared, prepare};
 use docker_host::Folder;

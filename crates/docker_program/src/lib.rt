@@ -2,15 +2,22 @@
 //! reports how the job ended.
 #![tactic(auto)]
 
+mod fault_report;
 mod given;
 mod job_names;
 mod job_output;
 mod job_sources;
 pub mod laws;
+mod looks;
+mod names;
 mod program;
+mod real_run;
+mod request;
 mod shelf_runs;
 
 pub use docker_cmd::{Fault, JobFault};
-pub use given::{own_words, perform_given, run};
-pub use program::{perform, tell};
+pub use fault_report::tell;
+pub use given::perform_given;
+pub use program::perform;
+pub use real_run::{own_words, run};
 pub use shelf_runs::{check_on_a_shelf, take_on_a_shelf};

@@ -1,17 +1,11 @@
 -- The floor of two ledgers together, given the floor of each.
-use Rattle.cif_laws.proofs.Common.{◌≡◌, Bool, true, false, cond, Option, Some, None, refl, subst, List, ◌++◌, sym, ◌∙◌, inl, inr, ◌⊎◌, Contains, rules, on}
-use Rattle.cif_laws.proofs.Common.{Contains-append_left, Contains-append_right, Contains-append_cases}
-use Rattle.cif_laws.proofs.Common.{IsAtMost, LedgerItem, IsFloor, file_stamp_cmp, IsFull, on_total, ⊤}
-use Rattle.std.specs.Option.{option_cmp}
-use Rattle.std.specs.Ordering.{ord_max}
+use Rattle.cif_laws.proofs.Common.{List, ◌++◌, sym, ◌∙◌, inl, inr, ◌⊎◌, Contains, rules, on, Contains-append_left, Contains-append_right, Contains-append_cases}
+use Rattle.cif_laws.proofs.Common.{IsAtMost, LedgerItem, file_stamp_cmp, IsFull}
 use Rattle.docker_model.specs.state.Order.{IsGreater}
 use Rattle.docker_model.specs.state.Stamp as stamps
 use Rattle.docker_model.specs.state.Stamp.{HasNoFull, IsGreatestFull}
 use Rattle.cif_laws.proofs.orders.Orders.{file_stamp_total}
 use Rattle.cif_laws.proofs.orders.AtMost.{at_most_trans}
-use Rattle.cif_laws.proofs.orders.Greater.{greater_max}
-use Rattle.docker_join.specs.declared.stamp.FileStamp.{FileStamp}
-use Rattle.docker_join.specs.Meaning.{file_stamp_meant, floor_meant}
 
 module _ (left right : List LedgerItem) where
   -- if neither ledger has a full extract, the two ledgers together have no full extract
@@ -75,21 +69,3 @@ module _ (left right : List LedgerItem) where
 -- if `c` is the greater of `a` and `b` by the values of `f`, then `f c` is the greater of `f a` and `f b`
 pub greater_meant : {A B : Type 0} (f : A → B) (cmp : _) (a b c : A) → IsGreater (on f cmp) a b c → IsGreater cmp (f a) (f b) (f c)
 greater_meant = search rules
-
-some_of : {A : Type 0} (t : Bool) (a b : A) → cond t (Some a) (Some b) ≡ Some (cond t a b)
-some_of true a b = refl
-some_of false a b = refl
-
--- the greater of the floors of two ledgers is the floor of both ledgers together
-pub common : (left right : List LedgerItem) (first second greater : Option FileStamp)
-    → greater ≡ ord_max (option_cmp (on file_stamp_meant file_stamp_cmp)) first second
-    → IsFloor left (floor_meant first) → IsFloor right (floor_meant second) → IsFloor (left ++ right) (floor_meant greater)
-common left right None None greater is one other = subst (λ f. IsFloor (left ++ right) (floor_meant f)) (sym is) (neither_full left right one other)
-common left right (Some a) None greater is one other =
-    subst (λ f. IsFloor (left ++ right) (floor_meant f)) (sym is) (left_full left right (file_stamp_meant a) one other)
-common left right None (Some b) greater is one other =
-    subst (λ f. IsFloor (left ++ right) (floor_meant f)) (sym is) (right_full left right (file_stamp_meant b) one other)
-common left right (Some a) (Some b) greater is one other =
-    subst (λ f. IsFloor (left ++ right) (floor_meant f)) (sym (is ∙ some_of _ a b))
-    (both_full left right (file_stamp_meant a) (file_stamp_meant b) _ one other
-    (greater_meant file_stamp_meant file_stamp_cmp a b _ (greater_max (λ _. ⊤) (on_total file_stamp_meant file_stamp_total) a b)))

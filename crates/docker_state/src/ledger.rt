@@ -1,11 +1,8 @@
-//! Ledgers, the sorted lists of the files that count in a state: their union, their floor, and the
-//! removal of the items below a floor. The floor is the file stamp of the newest full extract in a
-//! state's ledger. Ledger items and entries whose file stamp is below the floor are dropped.
-ghost use Rattle.std.specs.Prelude.{◌≡◌, ◌==◌, ◌+◌, ◌≤◌, ◌↔◌, ◌++◌, [], find, length, map, vec_len, vec_capacity, IfSome, IsTrue, Contains};
-ghost use Rattle.std.specs.Option.{option_copied};
-ghost use Rattle.docker_model.specs.state.Stamp.{file_stamp_cmp, ledger_item_cmp, IsFloor, IsKept};
+//! Ledgers, the sorted lists of the files that count in a state: their union, and the removal of
+//! the items below a floor.
+ghost use Rattle.std.specs.Prelude.{◌≡◌, ◌+◌, ◌≤◌, ◌↔◌, ◌++◌, [], length, map, vec_len, vec_capacity, IfSome, IsTrue, Contains};
+ghost use Rattle.docker_model.specs.state.Stamp.{file_stamp_cmp, ledger_item_cmp, IsKept};
 ghost use Rattle.docker_model.specs.state.Order.{IsBelow, IsStrictlyAscending};
-ghost use Rattle.docker_model.specs.state.State.{IsLedger};
 ghost use Rattle.docker_join.specs.Meaning.{file_stamp_meant, floor_meant};
 ghost use Rattle.docker_state.specs.Meaning.{item_meant};
 ghost use Rattle.docker_state.specs.Staging.{HasIfKept, HasKeptItems};
@@ -40,19 +37,33 @@ pub(crate) fn union_of(
         ↔ Contains (map item_meant first.entry.now ++ map item_meant second.entry.now) item }
 {
     loop {
-        let (item, left, right) = match (first, second) {
+        let item = match (first, second) {
             ([], []) => break,
-            ([one, left @ ..], []) => (one, left, second),
-            ([], [other, right @ ..]) => (other, first, right),
+            ([one, others @ ..], []) => {
+                first = others;
+                one
+            }
+            ([], [one, others @ ..]) => {
+                second = others;
+                one
+            }
             ([one, left @ ..], [other, right @ ..]) => match one.cmp(other) {
-                Ordering::Less => (one, left, second),
-                Ordering::Equal => (one, left, right),
-                Ordering::Greater => (other, first, right),
+                Ordering::Less => {
+                    first = left;
+                    one
+                }
+                Ordering::Equal => {
+                    first = left;
+                    second = right;
+                    one
+                }
+                Ordering::Greater => {
+                    second = right;
+                    other
+                }
             },
         };
         items.push_reserved(*item);
-        first = left;
-        second = right;
     }
     items
 }
@@ -64,8 +75,15 @@ pub(crate) fn kept_items(mut items: Vec<LedgerItem>, floor: &Option<FileStamp>) 
     ensures members { (item : _) → Contains (map item_meant result.items) item
         ↔ (Contains (map item_meant items.items) item × IsKept (floor_meant floor.now) item.stamp) }
 {
-    items.retain(|item| item.stamp().is_kept(floor));
+    items.retain(|item| is_kept_item(floor, item));
     items
+}
+
+/// Whether an item isn't below a floor. Returns true if there is no floor.
+fn is_kept_item(floor: &Option<FileStamp>, item: &LedgerItem) -> bool
+    ensures { IsTrue result ↔ IsKept (floor_meant floor.now) (item_meant item.now).stamp }
+{
+    item.stamp().is_kept(floor)
 }
 
 /// Whether a ledger has each of these items that isn't below the floor.
@@ -93,7 +111,7 @@ fn has_if_kept(ledger: &[LedgerItem], item: &LedgerItem, floor: &Option<FileStam
     ensures { IsTrue result
         ↔ HasIfKept (map item_meant ledger.now) (item_meant item.now) (floor_meant floor.now) }
 {
-    !item.stamp().is_kept(floor) || has_item(ledger, item)
+    !is_kept_item(floor, item) || has_item(ledger, item)
 }
 
 /// Whether a ledger has this item, found by binary search.
@@ -115,30 +133,4 @@ pub(crate) fn is_above_all(ledger: &[LedgerItem], stamp: &FileStamp) -> bool
         Some((item, _)) => item.stamp() < *stamp,
         None => true,
     }
-}
-
-/// The first ledger item that is for a full extract. Returns `None` if there is no full extract.
-fn first_full(items: &[LedgerItem]) -> Option<&LedgerItem>
-    ensures { option_copied result ≡ find (λ item. (item_meant item).indicator == 70) items.now }
-{
-    items.iter().find(|item| item.is_full())
-}
-
-/// The floor of a ledger: the stamp of its first full extract. This extract is the newest full
-/// extract, since a ledger has no items below its floor. Returns `None` if there is no full
-/// extract.
-pub(crate) fn floor_of(items: &[LedgerItem]) -> Option<FileStamp>
-    requires { IsLedger (map item_meant items.now) }
-    ensures { IsFloor (map item_meant items.now) (floor_meant result) }
-{
-    Some(first_full(items)?.stamp())
-}
-
-/// The floor of two ledgers together, given the floor of each: the greater of the two floors.
-pub(crate) fn common_floor(first: Option<FileStamp>, second: Option<FileStamp>) -> Option<FileStamp>
-    ensures { (left right : _) → IsFloor left (floor_meant first)
-        → IsFloor right (floor_meant second) → IsFloor (left ++ right) (floor_meant result) }
-{
-    // `None` is less than each file stamp.
-    first.max(second)
 }

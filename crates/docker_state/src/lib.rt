@@ -3,21 +3,30 @@
 //! States can be joined in any order, any number of times.
 #![tactic(auto)]
 
+mod covers;
+mod floor;
+mod indexing;
 mod item;
 mod ledger;
 mod live;
+mod near;
 mod parts;
+mod place_rows;
 mod rows;
-mod search;
 mod sifted;
+mod sort;
 mod staging;
 mod state;
 mod timetable;
+mod timetable_rows;
+mod uid_rows;
 
 pub use docker_join::Merge;
 pub use item::LedgerItem;
-pub use live::{Live, PlaceRows};
+pub use live::Live;
 pub use parts::Parts;
+pub use place_rows::PlaceRows;
 pub use staging::Staging;
 pub use state::State;
-pub use timetable::{Timetable, TimetableRows, UidSchedules};
+pub use timetable::Timetable;
+pub use timetable_rows::{TimetableRows, UidSchedules};

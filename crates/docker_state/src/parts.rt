@@ -91,7 +91,10 @@ impl Parts {
     pub fn last(&self) -> Option<&Key>
         ensures { option_map key_meant (option_copied result) ≡ last_key self.now.entries }
     {
-        Some(&self.entries.last()?.0)
+        match self.entries.last() {
+            Some(row) => Some(&row.0),
+            None => None,
+        }
     }
 
     /// Makes the state from what was added, with an index. If memory runs out, the ledger items and
@@ -101,14 +104,18 @@ impl Parts {
         ensures { IfOk result (λ state. state ≡ self) }
     {
         let alloc = *self.entries.allocator();
-        self.finish_unindexed().indexed(alloc).map_err(|_| Memory)
+        match self.finish_unindexed().indexed(alloc) {
+            Ok(state) => Ok(state),
+            Err(_) => Err(Memory),
+        }
     }
 
     /// Like `finish`, but the state has no index. Allocates nothing.
     pub fn finish_unindexed(self) -> State
         ensures { result ≡ self }
     {
-        State::of_rows(0, self.ledger, self.entries, None)
+        let Parts { ledger, entries } = self;
+        State::of_rows(0, ledger, entries, None)
     }
 
     /// Makes the state with this horizon from what was added, without an index. The caller ensures
@@ -117,6 +124,7 @@ impl Parts {
         requires { IsValid (under horizon self) }
         ensures { result ≡ under horizon self }
     {
-        State::of_rows(horizon.number(), self.ledger, self.entries, None)
+        let Parts { ledger, entries } = self;
+        State::of_rows(horizon.number(), ledger, entries, None)
     }
 }

@@ -5,7 +5,7 @@ ghost use Rattle.std.specs.Option.{option_map};
 ghost use Rattle.docker_model.specs.state.Row.{Row};
 ghost use Rattle.cif_change.specs.Meaning.{key_meant, body_meant};
 ghost use Rattle.docker_join.specs.Meaning.{row_meant};
-ghost use Rattle.docker_state.specs.PlaceRows.{is_here, row_here, rows_here};
+ghost use Rattle.docker_state.specs.PlaceRows.{is_call, is_here, is_link, row_here, rows_here};
 
 use cif_file::{Body, Key, calls_at};
 use cif_line::Tiploc;
@@ -85,10 +85,16 @@ fn found<'a>(row: &'a (Key, Entry), place: &Tiploc, links: bool) -> Option<(&'a 
     ensures { option_map (λ here. (key_meant here.0.now, body_meant here.1.now)) result
         ≡ row_here links place.now (row_meant row.entry.now) }
 {
-    let Op::Put(body) = &row.1.op else {
-        return None;
-    };
-    is_here(links, place, &row.0, body).then_some((&row.0, body))
+    match &row.1.op {
+        Op::Put(body) => {
+            if is_here(links, place, &row.0, body) {
+                Some((&row.0, body))
+            } else {
+                None
+            }
+        }
+        _ => None,
+    }
 }
 
 /// Whether a live key with this body is at the place. If `links` is true, it must be an association
@@ -96,9 +102,29 @@ fn found<'a>(row: &'a (Key, Entry), place: &Tiploc, links: bool) -> Option<(&'a 
 fn is_here(links: bool, place: &Tiploc, key: &Key, body: &Body) -> bool
     ensures { result ≡ is_here links place.now (key_meant key.now) (body_meant body.now) }
 {
-    match (links, key, body) {
-        (false, Key::Schedule(_), Body::Schedule(lines)) => calls_at(place, lines.as_slice()),
-        (true, Key::Assoc(key), Body::Assoc(_)) => key.location == *place,
+    if links {
+        is_link(place, key, body)
+    } else {
+        is_call(place, key, body)
+    }
+}
+
+/// Whether the key is a schedule's, and the schedule with this body calls at the place.
+fn is_call(place: &Tiploc, key: &Key, body: &Body) -> bool
+    ensures { result ≡ is_call place.now (key_meant key.now) (body_meant body.now) }
+{
+    match (key, body) {
+        (Key::Schedule(_), Body::Schedule(lines)) => calls_at(place, lines.as_slice()),
+        _ => false,
+    }
+}
+
+/// Whether the key is an association's, and the association is at the place.
+fn is_link(place: &Tiploc, key: &Key, body: &Body) -> bool
+    ensures { result ≡ is_link place.now (key_meant key.now) (body_meant body.now) }
+{
+    match (key, body) {
+        (Key::Assoc(key), Body::Assoc(_)) => key.location == *place,
         _ => false,
     }
 }

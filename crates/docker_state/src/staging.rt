@@ -1,22 +1,21 @@
 //! Receives another state entry by entry. Entries that have to be taken over are staged, and a
-//! commit then takes them over all at once. Also finds out whether joining another state would add
-//! any item or entry to a state. If it wouldn't, the join of the two states is the first state with
-//! the greater of the two horizons.
+//! commit then takes them over all at once.
 ghost use Rattle.std.specs.Prelude.{◌≡◌, ◌==◌, ◌↔◌, ◌++◌, [], List, length, map, IsTrue, IsOk, IsErr, IfOk};
 ghost use Rattle.docker_model.specs.file.Change as model;
 ghost use Rattle.docker_model.specs.state.Op as ops;
 ghost use Rattle.docker_model.specs.state.Stamp.{ledger_item_cmp, IsFloor};
 ghost use Rattle.docker_model.specs.state.Order.{IsStrictlyAscending};
-ghost use Rattle.docker_model.specs.state.State.{raise_horizon, IsLedger, IsGoodEntry, IsJoin, IsValid};
+ghost use Rattle.docker_model.specs.state.State.{IsLedger, IsGoodEntry, IsJoin, IsValid};
 ghost use Rattle.state_laws.specs.Staging.{IsToStage, IsStaged, IsCommit, staged_state};
 ghost use Rattle.cif_change.specs.Meaning.{key_meant};
-ghost use Rattle.docker_join.specs.Meaning.{entry_meant, floor_meant, row_meant};
+ghost use Rattle.docker_join.specs.Meaning.{entry_meant, floor_meant};
 ghost use Rattle.docker_state.specs.Meaning.{item_meant, state_meant};
-ghost use Rattle.docker_state.specs.Staging.{IsAboveStaged, IsOffered, HasNoneToStage, HasNothingNew, with_staged, staging_meant};
+ghost use Rattle.docker_state.specs.Staging.{IsAboveStaged, IsOffered, HasNothingNew, with_staged, staging_meant};
 ghost use Rattle.docker_state.specs.Staging as received;
 
+use crate::floor::{common_floor, floor_of};
 use crate::item::LedgerItem;
-use crate::ledger::{common_floor, floor_of, has_kept_items, is_above_all};
+use crate::ledger::{has_kept_items, is_above_all};
 use crate::state::State;
 use cif_file::Key;
 use cif_line::Memory;
@@ -129,7 +128,7 @@ impl Staging {
 
 /// Whether an entry has to be staged: it isn't below the floor, and the state has no equal or
 /// greater entry for the same key. The state's entry is first looked for at index `near`.
-fn is_to_stage(
+pub(crate) fn is_to_stage(
     state: &State,
     floor: &Option<FileStamp>,
     key: &Key,
@@ -150,50 +149,7 @@ fn is_to_stage(
     }
 }
 
-/// Whether these entries add nothing to a state. An entry adds nothing if it is below the floor, or
-/// if the state has an equal or greater entry for the same key. If the keys of the rows ascend,
-/// each lookup begins near the previous lookup.
-fn none_to_stage(own: &State, rows: &[(Key, Entry)], floor: &Option<FileStamp>) -> bool
-    ensures { IsTrue result
-        → HasNoneToStage own.now (floor_meant floor.now) (map row_meant rows.now) }
-{
-    let mut near = 0;
-    let mut rest = rows;
-    while let Some((row, behind)) = rest.split_first() {
-        if is_to_stage(own, floor, &row.0, &row.1, &mut near) {
-            return false;
-        }
-        rest = behind;
-    }
-    true
-}
-
-/// Whether the other state has no entry that the state `own` would have to take over. If all files
-/// of the other state are below the floor, none of its rows is read.
-fn brings_none(own: &State, other: &State, floor: &Option<FileStamp>) -> bool
-    ensures { IsTrue result → HasNoneToStage own.now (floor_meant floor.now) other.now.entries }
-{
-    if let Some(least) = floor {
-        if is_above_all(other.ledger(), least) {
-            return true;
-        }
-    }
-    none_to_stage(own, other.entries(), floor)
-}
-
 impl State {
-    /// Whether the join with another state is this state with the greater of the two horizons.
-    /// Returns true only if this state has each ledger item of the other state. For each entry of
-    /// the other state, this state must also have an equal or greater entry for the same key. Items
-    /// and entries below the common floor of the two states don't count.
-    pub(crate) fn covers(&self, other: &State) -> bool
-        ensures { IsTrue result
-            → IsJoin self.now other.now (raise_horizon other.now.horizon self.now) }
-    {
-        let floor = self.floor_with(other);
-        has_kept_items(self.ledger(), other.ledger(), &floor) && brings_none(self, other, &floor)
-    }
-
     /// Joins the state with the received ledger items and entries. The ledger becomes the union of
     /// both ledgers, and each staged entry is written at its key. Entries and items below the floor
     /// of both ledgers together are dropped, and each entry whose body ended before this state's

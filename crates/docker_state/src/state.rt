@@ -9,7 +9,7 @@ ghost use Rattle.docker_model.specs.state.State.{entry_at, live_table, raise_hor
 ghost use Rattle.docker_model.specs.records.Date.{IsDay};
 ghost use Rattle.docker_model.specs.state.Lapse.{lapse_entries, lapse_table};
 ghost use Rattle.std.specs.Option.{option_copied, option_map};
-ghost use Rattle.cif_change.specs.Meaning.{change_meant, key_meant};
+ghost use Rattle.cif_change.specs.Meaning.{key_meant};
 ghost use Rattle.docker_model.specs.state.Stamp.{IsFloor, ledger_item_of};
 ghost use Rattle.docker_join.specs.Meaning.{entry_meant, file_stamp_meant, row_meant, floor_meant};
 ghost use Rattle.docker_join.specs.Room.{HasRoomOf};
@@ -18,17 +18,22 @@ ghost use Rattle.docker_model.specs.state.Summary.{IsSummary, HaveDistinctMoment
 ghost use Rattle.docker_model.specs.state.Table as tables;
 ghost use Rattle.docker_model.specs.state.Table.{IsPlainTable};
 ghost use Rattle.cif_file.specs.FileRead.{IsOfRecords};
+ghost use Rattle.cif_change.specs.Meaning.{change_meant};
 ghost use Rattle.docker_state.specs.Indexed.{HasRoomIfAny, IsIndexIfAny, IsIndexed};
 ghost use Rattle.docker_state.specs.MadeState.{HaveRecords, IsMadeState, MakeValid};
 ghost use Rattle.docker_state.specs.Live.{live_rows, AreInKeyOrder};
 ghost use Rattle.docker_state.specs.Meaning.{item_meant, state_meant};
 
+use crate::floor::{common_floor, floor_of};
+use crate::indexing::refill;
 use crate::item::{LedgerItem, item_of};
-use crate::ledger::{common_floor, floor_of, kept_items, room_for, union_of};
-use crate::live::{Live, PlaceRows, Walk};
+use crate::ledger::{kept_items, room_for, union_of};
+use crate::live::Live;
+use crate::near::entry_near;
+use crate::place_rows::{PlaceRows, Walk};
 use crate::rows::{kept_rows, last_greatest, rows_made};
-use crate::search::{entry_near, rows_of_uid};
 use crate::sifted::{SiftedRows, count_calls};
+use crate::uid_rows::rows_of_uid;
 use cif_file::{CifFile, FileParts, Key};
 use cif_line::{Day, Memory, Tiploc, Uid};
 use docker_join::{Entry, FileStamp, Merge, Table, join_rows, lapse_rows};
@@ -105,9 +110,31 @@ impl State {
         let Ok(index) = Index::of(alloc, self.entries.as_slice()) else {
             return Err(self);
         };
-        let mut state = self;
-        state.index = Some(index);
-        Ok(state)
+        let State {
+            horizon,
+            ledger,
+            entries,
+            ..
+        } = self;
+        Ok(State {
+            horizon,
+            ledger,
+            entries,
+            index: Some(index),
+        })
+    }
+
+    /// The same state, with an index if the other state has one. Fails for the same reasons as
+    /// `indexed`.
+    fn indexed_like(self, alloc: Global, other: &State) -> Result<State, State>
+        ensures ok { IfOk result (λ state. state ≡ self) }
+        ensures err { IfErr result (λ back. back ≡ self) }
+    {
+        if other.index.is_some() {
+            self.indexed(alloc)
+        } else {
+            Ok(self)
+        }
     }
 
     /// The state of one file, with an index. If memory runs out, the file is returned unchanged. It
@@ -236,6 +263,15 @@ impl State {
         }
     }
 
+    /// The state after its horizon was raised to a day number.
+    fn raised(mut self, horizon: u16) -> State
+        requires { IsDay horizon }
+        ensures { result ≡ raise_horizon horizon self }
+    {
+        self.raise(horizon);
+        self
+    }
+
     /// The ledger items, in ascending order.
     pub fn ledger(&self) -> &[LedgerItem]
         ensures items { map item_meant result.now ≡ self.now.ledger }
@@ -357,6 +393,39 @@ impl State {
         }
     }
 
+    /// Takes the state apart, makes room for `more` rows after its rows, and drops its index. If
+    /// memory runs out, returns the state unchanged.
+    fn opened(self, more: usize) -> Result<OpenedState, State>
+        ensures parts { IfOk result (λ opened.
+            state_meant opened.horizon opened.ledger.items opened.rows.items ≡ self) }
+        ensures ascending { IfOk result (λ opened. AreAscending opened.rows.items) }
+        ensures room { IfOk result (λ opened.
+            vec_len opened.rows + more ≤ vec_capacity opened.rows) }
+        ensures valid { IfOk result (λ opened.
+            IsValid (state_meant opened.horizon opened.ledger.items opened.rows.items)) }
+        ensures err { IfErr result (λ back. back ≡ self) }
+    {
+        let State {
+            horizon,
+            ledger,
+            entries,
+            index,
+        } = self;
+        match entries.with_room(more) {
+            Ok(rows) => Ok(OpenedState {
+                horizon,
+                ledger,
+                rows,
+            }),
+            Err(entries) => Err(State {
+                horizon,
+                ledger,
+                entries,
+                index,
+            }),
+        }
+    }
+
     /// The join of any two states. The rows of the shorter table are placed among the rows of the
     /// longer table.
     fn join_into_longer(self, alloc: Global, other: State) -> Result<State, (State, State)>
@@ -386,56 +455,44 @@ impl State {
             return Err((self, other));
         };
         let floor = self.floor_with(&other);
-        let State {
-            horizon,
-            ledger,
-            entries,
-            index,
-        } = self;
-        match entries.with_room(other.entries.len()) {
-            Ok(rows) => {
-                drop(index);
-                let joined = State::join_opened(horizon, ledger, rows, other, items, &floor);
-                Ok(joined.refilled(room))
-            }
-            Err(entries) => {
-                let own = State {
-                    horizon,
-                    ledger,
-                    entries,
-                    index,
-                };
-                Err((own, other))
-            }
-        }
+        let opened = match self.opened(other.entries.len()) {
+            Ok(opened) => opened,
+            Err(back) => return Err((back, other)),
+        };
+        let joined = State::join_opened(opened, other, items, &floor);
+        Ok(joined.refilled(room))
     }
 
-    /// The join of a state with another state. The state was taken apart: `own` is its horizon,
-    /// `first` its ledger and `rows` its rows, with spare memory after them. The join has no index,
-    /// and the other state's index is dropped before any row is moved. `floor` is the floor of both
-    /// ledgers together, and `items` has room for the items of both.
+    /// The join of a state that was taken apart with another state. The join has no index, and the
+    /// other state's index is dropped before any row is moved. `floor` is the floor of both ledgers
+    /// together, and `items` has room for the items of both.
     fn join_opened(
-        own: u16,
-        first: Vec<LedgerItem>,
-        rows: Vec<(Key, Entry)>,
+        opened: OpenedState,
         other: State,
         items: Vec<LedgerItem>,
         floor: &Option<FileStamp>,
     ) -> State
-        requires valid { IsValid (state_meant own first.items rows.items) }
-        requires room { vec_len rows + length other.entries ≤ vec_capacity rows }
-        requires items { HasRoomOf (length first.items + length other.ledger) items }
-        requires floor { IsFloor (map item_meant first.items ++ other.ledger)
+        requires valid { IsValid
+            (state_meant opened.horizon opened.ledger.items opened.rows.items) }
+        requires room { vec_len opened.rows + length other.entries ≤ vec_capacity opened.rows }
+        requires items { HasRoomOf (length opened.ledger.items + length other.ledger) items }
+        requires floor { IsFloor (map item_meant opened.ledger.items ++ other.ledger)
             (floor_meant floor.now) }
-        ensures { IsJoin (state_meant own first.items rows.items) other result }
+        ensures { IsJoin (state_meant opened.horizon opened.ledger.items opened.rows.items)
+            other result }
     {
+        let OpenedState {
+            horizon: own,
+            ledger: first,
+            rows,
+        } = opened;
         let State {
             horizon: theirs,
             ledger: second,
             entries: right,
-            index,
+            index: their_index,
         } = other;
-        drop(index);
+        drop(their_index);
         let left = lapsed_under(rows, own, theirs);
         let right = lapsed_under(right.into_rows(), theirs, own);
         let joined = join_rows(left, right);
@@ -447,29 +504,24 @@ impl State {
 
     /// The same state, with the index that is made in the memory `room`, if any was reserved. The
     /// state's present index is dropped.
-    fn refilled(mut self, room: Option<Index>) -> State
+    fn refilled(self, room: Option<Index>) -> State
         requires { HasRoomIfAny (items_of self.entries) room }
         ensures { result ≡ self }
     {
-        self.index = room;
-        refill(&mut self.index, self.entries.as_slice());
-        self
-    }
-
-    /// The join with a state that this state covers: this state with the greater of the two
-    /// horizons, and with an index if either state has one. Fails for the same reasons as
-    /// `indexed`.
-    fn join_covered(self, alloc: Global, other: &State) -> Result<State, State>
-        ensures ok { IfOk result (λ state. state ≡ raise_horizon other.now.horizon self) }
-        ensures err { IfErr result (λ back. back ≡ self) }
-    {
-        let mut state = if other.index.is_some() {
-            self.indexed(alloc)?
-        } else {
-            self
-        };
-        state.raise(other.horizon());
-        Ok(state)
+        let State {
+            horizon,
+            ledger,
+            entries,
+            ..
+        } = self;
+        let mut index = room;
+        refill(&mut index, entries.as_slice());
+        State {
+            horizon,
+            ledger,
+            entries,
+            index,
+        }
     }
 
     /// The file stamp of the newest full extract in the state's ledger. Returns `None` if the
@@ -523,20 +575,29 @@ impl Merge for State {
             → IsSummary files g self → IsSummary others h other
             → IfOk result (IsSummary (files ++ others) (max g h)) }
     {
+        let own = self.horizon();
+        let theirs = other.horizon();
         if self.covers(&other) {
-            return match self.join_covered(alloc, &other) {
-                Ok(joined) => Ok(joined),
-                Err(own) => Err((own, other)),
+            return match self.indexed_like(alloc, &other) {
+                Ok(state) => Ok(state.raised(theirs)),
+                Err(back) => Err((back, other)),
             };
         }
         if other.covers(&self) {
-            return match other.join_covered(alloc, &self) {
-                Ok(joined) => Ok(joined),
-                Err(theirs) => Err((self, theirs)),
+            return match other.indexed_like(alloc, &self) {
+                Ok(state) => Ok(state.raised(own)),
+                Err(back) => Err((self, back)),
             };
         }
         self.join_into_longer(alloc, other)
     }
+}
+
+/// The fields of a state except its index, with spare memory after its rows.
+struct OpenedState {
+    horizon: u16,
+    ledger: Vec<LedgerItem>,
+    rows: Vec<(Key, Entry)>,
 }
 
 /// Makes an entry lapse if its body ended before the horizon `other`. Entries whose bodies ended
@@ -555,15 +616,4 @@ fn lapsed_under(mut rows: Vec<(Key, Entry)>, own: u16, other: u16) -> Vec<(Key, 
         lapse_rows(&mut rows, other);
     }
     rows
-}
-
-/// Makes the index of these rows, in memory that was reserved beforehand, if there is an index.
-fn refill(index: &mut Option<Index>, rows: &[(Key, Entry)])
-    requires { HasRoomIfAny (items_of (map row_meant rows.now)) index.old }
-    ensures index { IsIndexIfAny (map row_meant rows.now) index.new }
-    ensures room { HasRoomIfAny (items_of (map row_meant rows.now)) index.new }
-{
-    if let Some(index) = index {
-        index.refill(rows);
-    }
 }

@@ -1,23 +1,22 @@
 //! Timetables: the live entries of a state that count for a docker. These are all live entries, or
 //! only the permanent entries.
-ghost use Rattle.std.specs.Prelude.{◌≡◌, List, true, false, option_map};
-ghost use Rattle.std.specs.Iterator.{YieldsFirstBy, item_count};
+ghost use Rattle.std.specs.Prelude.{◌≡◌, true, false, option_map};
 ghost use Rattle.std.specs.Option.{option_copied};
-ghost use Rattle.cif_change.specs.Meaning.{key_meant, body_meant};
+ghost use Rattle.cif_change.specs.Meaning.{body_meant};
 ghost use Rattle.docker_model.specs.file.Change.{tiploc_key};
 ghost use Rattle.docker_model.specs.records.Date.{IsDay};
-ghost use Rattle.docker_model.specs.docker.Permanent.{is_permanent};
-ghost use Rattle.docker_model.specs.state.Row.{Row};
+ghost use Rattle.docker_model.specs.state.Op.{body_of};
 ghost use Rattle.docker_model.specs.state.State.{IsValid};
-ghost use Rattle.state_laws.specs.CountedRows.{IsOfGoodRows, counted_rows};
-ghost use Rattle.docker_state.specs.Timetables.{counts, live_in};
+ghost use Rattle.state_laws.specs.CountedRows.{IsOfGoodRows};
+ghost use Rattle.docker_state.specs.Timetables.{live_in};
 ghost use Rattle.docker_state.specs.Timetables as timetables;
 ghost use Rattle.state_laws.specs.Index.{AreCalling, AreLinked, AreOfUid};
+ghost use Rattle.docker_join.specs.Meaning.{op_meant};
 
-use crate::live::{Live, PlaceRows};
 use crate::state::State;
+use crate::timetable_rows::{TimetableRows, UidSchedules};
 use cif_file::{Body, Key};
-use cif_line::{Stp, Tiploc, Uid};
+use cif_line::{Tiploc, Uid};
 use docker_join::Op;
 use std::marker::Model;
 
@@ -93,10 +92,9 @@ impl<'a> Timetable<'a> {
             ≡ live_in self.now (tiploc_key tiploc.now) }
         ensures good { IsOfGoodRows (live_in self.now) }
     {
-        let entry = self.state.get(&Key::Tiploc(*tiploc))?;
-        match &entry.op {
-            Op::Put(body) => Some(body),
-            Op::Deleted | Op::Lapsed => None,
+        match self.state.get(&Key::Tiploc(*tiploc)) {
+            Some(entry) => put_in(&entry.op),
+            None => None,
         }
     }
 
@@ -129,105 +127,12 @@ impl<'a> Timetable<'a> {
     }
 }
 
-/// An iterator over those rows at a place that count in the timetable, in key order. For each row
-/// it returns the row's index among all rows, the key and the body. No clause says that the row's
-/// index is right: it is only a hint for a later search.
-#[derive(Clone, Debug, Drop)]
-pub struct TimetableRows<'a> {
-    rows: PlaceRows<'a>,
-    permanent: bool,
-}
-
-impl<'a> Model for TimetableRows<'a> {
-    ghost Value = { List Row };
-
-    ghost view = { λ walk. counted_rows (counts walk.permanent) walk.rows };
-}
-
-impl<'a> TimetableRows<'a> {
-    /// An iterator over these rows. If `permanent` is true, it skips the rows that aren't
-    /// permanent.
-    pub(crate) fn of(rows: PlaceRows<'a>, permanent: bool) -> TimetableRows<'a>
-        ensures { result ≡ counted_rows (counts permanent) rows.entry }
-    {
-        TimetableRows { rows, permanent }
-    }
-}
-
-impl<'a> Iterator for TimetableRows<'a> {
-    type Item = (usize, &'a Key, &'a Body);
-
-    ghost next_gives = { YieldsFirstBy
-        (λ row. (key_meant row.1.now, body_meant row.2.now)) (λ walk. walk) };
-
-    ghost remaining = { item_count (λ walk. walk) };
-
-    fn next(&mut self) -> Option<(usize, &'a Key, &'a Body)> {
-        while let Some((row, key, body)) = self.rows.next() {
-            if is_counted(self.permanent, key) {
-                return Some((row, key, body));
-            }
-        }
-        None
-    }
-}
-
-/// An iterator over those schedules of a UID that count in the timetable, in key order. It returns
-/// the key and the body of each schedule.
-#[derive(Clone, Debug, Drop)]
-pub struct UidSchedules<'a> {
-    rows: Live<'a>,
-    permanent: bool,
-}
-
-impl<'a> Model for UidSchedules<'a> {
-    ghost Value = { List Row };
-
-    ghost view = { λ walk. counted_rows (counts walk.permanent) walk.rows };
-}
-
-impl<'a> UidSchedules<'a> {
-    /// An iterator over these schedules. If `permanent` is true, it skips the schedules that aren't
-    /// permanent.
-    pub(crate) fn of(rows: Live<'a>, permanent: bool) -> UidSchedules<'a>
-        ensures { result ≡ counted_rows (counts permanent) rows.entry }
-    {
-        UidSchedules { rows, permanent }
-    }
-}
-
-impl<'a> Iterator for UidSchedules<'a> {
-    type Item = (&'a Key, &'a Body);
-
-    ghost next_gives = { YieldsFirstBy
-        (λ row. (key_meant row.0.now, body_meant row.1.now)) (λ walk. walk) };
-
-    ghost remaining = { item_count (λ walk. walk) };
-
-    fn next(&mut self) -> Option<(&'a Key, &'a Body)> {
-        while let Some((key, body)) = self.rows.next() {
-            if is_counted(self.permanent, key) {
-                return Some((key, body));
-            }
-        }
-        None
-    }
-}
-
-/// Whether a row with this key counts: always, or only if the key is permanent.
-fn is_counted(permanent: bool, key: &Key) -> bool
-    ensures { result ≡ counts permanent (key_meant key.now) }
+/// The body that an op puts. Returns `None` if the op isn't a put.
+fn put_in(op: &Op) -> Option<&Body>
+    ensures { option_map body_meant (option_copied result) ≡ body_of (op_meant op.entry.now) }
 {
-    !permanent || is_permanent(key)
-}
-
-/// Whether a key is permanent: it is a timing point's, or it has the STP indicator `P`.
-fn is_permanent(key: &Key) -> bool
-    ensures { result ≡ is_permanent (key_meant key.now) }
-{
-    match key {
-        Key::Tiploc(_) => true,
-        Key::Assoc(key) => key.stp == Stp::Permanent,
-        Key::Schedule(key) => key.stp == Stp::Permanent,
+    match op {
+        Op::Put(body) => Some(body),
+        Op::Deleted | Op::Lapsed => None,
     }
 }

@@ -1,7 +1,6 @@
 -- A list of trains is written row by row, by a walk over all live rows.
-use Rattle.cif_laws.proofs.Common.{◌≡◌, ℕ, cond, List, [], ◌∷◌, refl, ap, sym, ◌∙◌, subst, Some, None, append-nil, Contains, arith, rules, common_steps, Option}
-use Rattle.cif_laws.proofs.Common.{◌↔◌, Bool, true, false, flat_map}
-use Rattle.cif_laws.proofs.Common.{Train, ended, Key, Body, ScheduleKey, AreInKeyOrder, AreRowsOf, Row, HasGoodBodies, State, live_table, Table}
+use Rattle.cif_laws.proofs.Common.{◌≡◌, ℕ, List, [], ◌∷◌, sym, subst, Some, append-nil, Contains, arith, rules, common_steps, Option, ◌↔◌, Bool, true, false}
+use Rattle.cif_laws.proofs.Common.{flat_map, Train, ended, Key, Body, ScheduleKey, AreInKeyOrder, AreRowsOf, Row, HasGoodBodies, State, live_table, Table}
 use Rattle.cif_device.specs.Device.{Takes, TakesPart}
 use Rattle.cif_laws.proofs.lists.Membership.{cons-Contains, cons-Contains-first}
 use Rattle.docker_day.proofs.Written.{Leads, both_taken, part_of_back, part_of_front}
@@ -86,14 +85,3 @@ list_taken = search (rules, is_trains_text)
 pub list_begun : (state : State) (rows : List Row) → AreRowsOf (live_table state) rows → (identity : List ℕ) (day : ℕ) (old new : Option (List ℕ))
     → TakesPart old (flat_map (row_line rows identity day) rows) new → ListsPart (live_table state) identity day old new
 list_begun = search (rules, is_trains_text)
-
-gains_nothing : (old : Option (List ℕ)) → Takes old [] old
-gains_nothing None = refl
-gains_nothing (Some taken) = ap Some (sym (append-nil taken))
-
--- a sink gains the line of a schedule that isn't listed if it gains nothing
-pub none_told : (rows : List Row) (identity : List ℕ) (day : ℕ) (train : Train) (found : Option Train) (has : Bool) (old : Option (List ℕ))
-    → found ≡ Some train → has ≡ is_listed rows identity day train → has ≡ false → Takes old (schedule_line rows identity day found) old
-none_told rows identity day train found has old is told idle =
-    subst (λ (it : Option Train). Takes old (schedule_line rows identity day it) old) (sym is)
-    (subst (λ (listed : Bool). Takes old (cond listed (ended (train_columns day train.key)) []) old) (sym (sym told ∙ idle)) (gains_nothing old))

@@ -1,60 +1,23 @@
-//! The schedule that is chosen for a UID on a day, with its stamp. The stamp identifies the extract
-//! that the schedule came from.
-ghost use Rattle.std.specs.Prelude.{◌≡◌, ◌<◌};
+//! The schedule that is chosen for a UID on a day.
+ghost use Rattle.std.specs.Prelude.{◌≡◌};
 ghost use Rattle.std.specs.Option.{option_copied, option_map};
 ghost use Rattle.docker_join.specs.Meaning.{stamp_meant};
 ghost use Rattle.docker_model.specs.lists.TrainText.{found_lines};
 ghost use Rattle.docker_model.specs.lists.TrainText as text;
 ghost use Rattle.docker_train.specs.Answer as answer;
 
+use crate::stamped::Stamped;
 use cif_line::{Day, Line, Uid};
 use docker_join::Stamp;
 use std::marker::Model;
 use train_choice::ScheduleView;
 
-/// A live schedule, with the stamp of the change that it comes from.
-#[derive(Debug, Drop)]
-pub(crate) struct Stamped<'a> {
-    pub(crate) schedule: ScheduleView<'a>,
-    pub(crate) stamp: &'a Stamp,
-}
-
-impl<'a> Model for Stamped<'a> {
-    ghost Value = { text.Stamped };
-
-    ghost view = { λ stamped. record {
-      schedule = stamped.schedule;
-      stamp = stamp_meant stamped.stamp.now;
-    } };
-
-    ghost invariant = { λ stamped. stamped.stamp.now.file.minute < 1440 };
-}
-
-impl<'a> Stamped<'a> {
-    /// The schedule: its key and its lines.
-    pub(crate) fn schedule(&self) -> &ScheduleView<'a>
-        ensures { result.now ≡ self.now.schedule }
-    {
-        &self.schedule
-    }
-
-    /// The stamp of the change that the schedule comes from. The stamp has the date, time and
-    /// reference of the schedule's extract, and the number of the schedule's record in this
-    /// extract.
-    pub(crate) fn stamp(&self) -> &'a Stamp
-        ensures stamp { stamp_meant result.now ≡ self.now.stamp }
-        ensures minute { result.now.file.minute < 1440 }
-    {
-        self.stamp
-    }
-}
-
 /// A UID, a day, and the schedule that is chosen for them, or `None` if no schedule runs.
 #[derive(Debug, Drop)]
 pub struct ChosenTrain<'a> {
-    pub(crate) uid: Uid,
-    pub(crate) day: Day,
-    pub(crate) found: Option<Stamped<'a>>,
+    uid: Uid,
+    day: Day,
+    found: Option<Stamped<'a>>,
 }
 
 impl<'a> Model for ChosenTrain<'a> {
@@ -68,6 +31,13 @@ impl<'a> Model for ChosenTrain<'a> {
 }
 
 impl<'a> ChosenTrain<'a> {
+    /// The UID and the day, with the schedule found for them.
+    pub(crate) fn of(uid: Uid, day: Day, found: Option<Stamped<'a>>) -> ChosenTrain<'a>
+        ensures { result ≡ record { uid = uid; day = day; found = found.entry } }
+    {
+        ChosenTrain { uid, day, found }
+    }
+
     /// The UID.
     pub fn uid(&self) -> Uid
         ensures { result ≡ self.now.uid }
@@ -88,7 +58,10 @@ impl<'a> ChosenTrain<'a> {
         ensures { option_copied result
             ≡ option_map (λ (it : text.Stamped). it.schedule) self.now.found }
     {
-        Some(self.found.as_ref()?.schedule())
+        match &self.found {
+            Some(stamped) => Some(stamped.schedule()),
+            None => None,
+        }
     }
 
     /// The stamp of the chosen schedule, or `None` if no schedule runs. The stamp has the date,
@@ -98,7 +71,10 @@ impl<'a> ChosenTrain<'a> {
         ensures { option_map stamp_meant (option_copied result)
             ≡ option_map (λ (it : text.Stamped). it.stamp) self.now.found }
     {
-        Some(self.found.as_ref()?.stamp())
+        match &self.found {
+            Some(stamped) => Some(stamped.stamp()),
+            None => None,
+        }
     }
 
     /// The chosen schedule with its stamp, or `None` if no schedule runs.

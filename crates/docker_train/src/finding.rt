@@ -5,7 +5,8 @@ ghost use Rattle.train_choice.specs.Along.{IsLiveTrain};
 ghost use Rattle.docker_train.specs.Answer.{IsAnswerOf};
 ghost use Rattle.docker_model.specs.lists.TrainText.{IsStampOf};
 
-use crate::chosen_train::{ChosenTrain, Stamped};
+use crate::chosen_train::ChosenTrain;
+use crate::stamped::Stamped;
 use cif_line::{Day, Uid};
 use docker_day::{DockerFault, Key, State};
 use train_choice::{ScheduleView, chosen};
@@ -22,15 +23,10 @@ pub fn find_train<'a>(state: &'a State, uid: &Uid, day: Day) -> Result<ChosenTra
     if day.number() < state.horizon() {
         return Err(DockerFault::Lapsed);
     }
-    let found = match chosen(state, uid, day) {
-        Some(schedule) => Some(stamped(state, schedule)),
-        None => None,
-    };
-    Ok(ChosenTrain {
-        uid: *uid,
-        day,
-        found,
-    })
+    match chosen(state, uid, day) {
+        Some(schedule) => Ok(ChosenTrain::of(*uid, day, Some(stamped(state, schedule)))),
+        None => Ok(ChosenTrain::of(*uid, day, None)),
+    }
 }
 
 /// A live schedule with the stamp of its entry in the state.
@@ -40,10 +36,7 @@ fn stamped<'a>(state: &'a State, schedule: ScheduleView<'a>) -> Stamped<'a>
     ensures stamp { IsStampOf state.now schedule.entry result.stamp }
 {
     match state.get(&Key::Schedule(*schedule.key())) {
-        Some(entry) => Stamped {
-            schedule,
-            stamp: &entry.stamp,
-        },
+        Some(entry) => Stamped::of(schedule, &entry.stamp),
         None => unreachable!(),
     }
 }

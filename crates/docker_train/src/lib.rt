@@ -9,6 +9,7 @@ mod finding;
 pub mod laws;
 mod listing;
 mod print;
+mod stamped;
 mod trains;
 mod word;
 

@@ -65,9 +65,13 @@ impl<'a> Listing<'a> {
         ensures answer { (rows : List Row) → AreRowsOf (live_in self.old.timetable) rows
             → result ≡ is_listed rows self.old.identity self.old.day train.now }
     {
-        train.runs_on(self.day)
-            && is_identified(train.lines(), &self.identity)
-            && self.trains.runs_by(0, train)
+        if !train.runs_on(self.day) {
+            return false;
+        }
+        if !is_identified(train.lines(), &self.identity) {
+            return false;
+        }
+        self.trains.runs_by(0, train)
     }
 }
 

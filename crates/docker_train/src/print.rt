@@ -1,6 +1,6 @@
 //! The text for a UID and a day: a heading, the records of the chosen schedule and a last line.
 //! Each line of the text has 80 columns and a line feed.
-ghost use Rattle.std.specs.Prelude.{◌≡◌, ℕ, List, ◌-◌, ◌^◌, ◌<◌, ◌↔◌, IsOk, IsErr, Err, OnOk, OnErr};
+ghost use Rattle.std.specs.Prelude.{◌≡◌, ℕ, List, ◌-◌, ◌^◌, ◌<◌, ◌↔◌, IsOk, IsErr, Err, OnOk, OnErr, Some};
 ghost use Rattle.std.specs.List.{flat_map};
 ghost use Rattle.std.specs.Option.{option_copied};
 ghost use Rattle.cif_device.specs.Device.{CountsFailure, Takes, TakesPart};
@@ -12,9 +12,10 @@ ghost use Rattle.docker_train.specs.Answer.{IsAnswerOf, PrintsPart, PrintsTrain,
 ghost use Rattle.docker_model.specs.records.PrintedNumber.{number_text};
 ghost use Rattle.docker_model.specs.lists.TrainText.{IsTrainText, found_text, running_text, stamp_text, train_end, train_heading_with};
 
-use crate::chosen_train::{ChosenTrain, Stamped};
+use crate::chosen_train::ChosenTrain;
 use crate::fault::TrainFault;
 use crate::finding::find_train;
+use crate::stamped::Stamped;
 use arrayvec::ArrayVec;
 use cif_line::{Day, Failed, Line, Sink, Stp, Uid, write_all};
 use docker_day::{State, clock_text};
@@ -96,19 +97,29 @@ fn heading(uid: &Uid, day: Day, found: &[u8; 46]) -> [u8; WIDTH]
     put(&mut text, &day.iso());
     put(&mut text, b" ");
     put(&mut text, found);
-    put(&mut text, b"        \n");
+    put(&mut text, b"        ");
+    put(&mut text, b"\n");
     whole(text)
 }
 
-/// Columns 27 to 72 of the heading. They have the STP indicator of the schedule found, whether its
-/// train runs, and its stamp. If no schedule runs, they say `NONE`.
+/// Columns 27 to 72 of the heading. They describe the schedule found, or say `NONE` if no schedule
+/// runs.
 #[tactic(auto, unfolding(docker_model::specs::lists::TrainText::found_text))]
 fn text_of_found(found: Option<&Stamped<'_>>) -> [u8; 46]
     ensures { result ≡ found_text (option_copied found.entry) }
 {
-    let Some(stamped) = found else {
-        return *b"  NONE                                        ";
-    };
+    match found {
+        Some(stamped) => text_of_stamped(stamped),
+        None => *b"  NONE                                        ",
+    }
+}
+
+/// Columns 27 to 72 of the heading for a schedule: its STP indicator, whether its train runs, and
+/// its stamp.
+#[tactic(auto, unfolding(docker_model::specs::lists::TrainText::found_text))]
+fn text_of_stamped(stamped: &Stamped<'_>) -> [u8; 46]
+    ensures { result ≡ found_text (Some stamped.now) }
+{
     let stp = stamped.schedule().key().stp;
     let mut text = ArrayVec::new();
     put(&mut text, &[stp.letter(), b' ']);

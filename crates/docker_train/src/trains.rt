@@ -6,9 +6,10 @@ ghost use Rattle.docker_model.specs.docker.DockerText.{ended};
 ghost use Rattle.docker_model.specs.state.Row.{Row, AreRowsOf};
 ghost use Rattle.docker_model.specs.state.State.{IsBodyOf, live_table};
 ghost use Rattle.docker_state.specs.Timetables.{live_in};
+ghost use Rattle.train_choice.specs.Along.{IsLiveTrain};
 ghost use Rattle.docker_train.specs.TrainsListed.{ListsPart, ListsTrains};
 ghost use Rattle.docker_model.specs.lists.TrainsText.{train_columns};
-ghost use Rattle.docker_train.specs.TrainRows.{row_line};
+ghost use Rattle.docker_train.specs.TrainRows.{row_line, schedule_line};
 
 use crate::fault::TrainFault;
 use crate::listing::Listing;
@@ -17,7 +18,7 @@ use cif_change::{Body, Key};
 use cif_line::{Day, Failed, Sink, write_all};
 use docker_day::{ScheduleKey, State};
 use fixed_text::{put, whole};
-use train_choice::schedule_of;
+use train_choice::{ScheduleView, schedule_of};
 
 /// How many bytes a line has: 19 columns and a line feed.
 const WIDTH: usize = 20;
@@ -96,10 +97,33 @@ fn write_row<'a, K: Sink>(
     ensures no_failure { OnOk result (K.failures sink.new ≡ K.failures sink.old) }
     ensures counted { OnErr result (K.failures sink.new ≡ K.failures sink.old + 1) }
 {
-    let Some(train) = schedule_of(key, body) else {
-        return Ok(());
-    };
-    if listing.has(&train) {
+    match schedule_of(key, body) {
+        Some(train) => write_schedule(listing, &train, sink),
+        None => Ok(()),
+    }
+}
+
+/// Writes the line of a schedule, if the schedule is listed.
+fn write_schedule<'a, K: Sink>(
+    listing: &mut Listing<'a>,
+    train: &ScheduleView<'a>,
+    sink: &mut K,
+) -> Result<(), Failed>
+    requires failures { K.failures sink.old < 2 ^ 64 - 1 }
+    requires live { IsLiveTrain (live_in listing.old.timetable) train.now }
+    ensures same { listing.new ≡ listing.old }
+    ensures whole { (rows : List Row) → AreRowsOf (live_in listing.old.timetable) rows
+        → OnOk result (Takes (K.taken sink.old)
+        (schedule_line rows listing.old.identity listing.old.day (Some train.now))
+        (K.taken sink.new)) }
+    ensures part { (rows : List Row) → AreRowsOf (live_in listing.old.timetable) rows
+        → OnErr result (TakesPart (K.taken sink.old)
+        (schedule_line rows listing.old.identity listing.old.day (Some train.now))
+        (K.taken sink.new)) }
+    ensures no_failure { OnOk result (K.failures sink.new ≡ K.failures sink.old) }
+    ensures counted { OnErr result (K.failures sink.new ≡ K.failures sink.old + 1) }
+{
+    if listing.has(train) {
         return write_all(sink, &text_of_train(train.key(), listing.day()));
     }
     Ok(())

@@ -10,7 +10,9 @@ pub fn put<const N: usize>(text: &mut ArrayVec<u8, N>, bytes: &[u8])
     ensures items { text.new.items ≡ text.old.items ++ bytes.now }
     ensures len { array_vec_len text.new ≡ array_vec_len text.old + length bytes.now }
 {
-    text.try_extend_from_slice(bytes).unwrap();
+    if text.try_extend_from_slice(bytes).is_err() {
+        unreachable!()
+    }
 }
 
 /// Returns the bytes of a text that is full.
@@ -18,5 +20,8 @@ pub fn whole<const N: usize>(text: ArrayVec<u8, N>) -> [u8; N]
     requires full { array_vec_len text ≡ N }
     ensures { result ≡ text.entry.items }
 {
-    text.into_inner().unwrap()
+    match text.into_inner() {
+        Ok(bytes) => bytes,
+        Err(_) => unreachable!(),
+    }
 }

@@ -8,7 +8,7 @@ use Rattle.state_index.specs.Counts.{IsCallingCount}
 use Rattle.state_index.specs.SpotOrder.{Spot}
 use Rattle.state_index.specs.Spots.{spot_at, posting_spot, spots_in, AreSpotsOf}
 use Rattle.state_index.specs.PlaceRows.{live_at, rows_at_spots, IsPieceAt}
-use Rattle.state_index.specs.declared.postings.Posting.{Posting}
+use Rattle.state_index.specs.declared.posting.Posting.{Posting}
 use Rattle.state_index.proofs.Pieces.{in_whole}
 use Rattle.state_index.proofs.LiveIndexes.{call_puts, calling_there, seen}
 use Rattle.state_index.proofs.Positions.{Keyed}

@@ -1,9 +1,7 @@
 -- Lemmas on the elements of a list at given indexes, and on the rows that spots name. A spot is a TIPLOC with the index of a row there.
-use Rattle.cif_laws.proofs.Common.{◌≡◌, ℕ, zero, suc, ◌+◌, ◌<◌, ◌≤◌, List, drop, get_or, drop_of_length-le, rules, [], ◌∷◌, length, map, refl, ap, sym, ◌∙◌}
-use Rattle.cif_laws.proofs.Common.{subst, inl, inr, ◌⊎◌, Some, None, Contains}
+use Rattle.cif_laws.proofs.Common.{◌≡◌, ℕ, zero, suc, ◌+◌, ◌<◌, List, [], ◌∷◌, length, map, refl, ap, sym, ◌∙◌, subst, inl, inr, ◌⊎◌, Some, None, Contains}
 use Rattle.cif_laws.proofs.Common.{arith, common_steps, Option, slice_get, AllByRecursion, filter_map, cons_option, Ordering, Less, Contains-append_right}
 use Rattle.cif_laws.proofs.Common.{Contains-append_cases, Key, Entry, IsBelow, IsStrictlyAscending}
-use Rattle.std.proofs.Math.Seq.{drop-cons}
 use Rattle.cif_laws.proofs.lists.Membership.{Contains-cons, cons-Contains, cons-Contains-first, nil-Contains, below_by_recursion, Contains-map, map-Contains}
 use Rattle.state_index.specs.SpotOrder.{Spot}
 use Rattle.state_index.specs.Spots.{Places, spot_at, spots_from, spots_of}
@@ -20,17 +18,8 @@ some_is a b h = cc
 
 module _ {A : Type 0} where
   -- a list without elements is empty
-  -- a list without elements is empty
-  pub ended : (xs : List A) → length xs ≡ 0 → xs ≡ []
-  ended = grind (common_steps, arith)
-
-  -- from an index at or after its end, a list has no elements
-  pub none_left : (i : ℕ) (xs : List A) → length xs ≤ i → drop i xs ≡ []
-  none_left = search (rules, drop_of_length-le)
-
-  -- the elements from an index on are the element at this index, and then the elements from the next index on
-  pub drop_next : (i : ℕ) (xs : List A) (x : A) → i < length xs → x ≡ get_or xs i x → drop i xs ≡ x ∷ drop (i + 1) xs
-  drop_next = search (rules, drop-cons)
+  pub none_left : (xs : List A) → length xs ≡ 0 → xs ≡ []
+  none_left = grind (common_steps, arith)
 
   -- an element that a list has at some index is a member of the list
   pub at_member : (xs : List A) (i : ℕ) (x : A) → slice_get xs i ≡ Some x → Contains xs x

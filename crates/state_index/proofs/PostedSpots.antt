@@ -2,7 +2,7 @@
 -- index.
 use Rattle.cif_laws.proofs.Common.{◌≡◌, ℕ, ◌+◌, ◌<◌, ◌^◌, List, [], ◌∷◌, ◌++◌, length, sym, subst, Some, vec_len, vec_capacity, append-nil, arith}
 use Rattle.cif_laws.proofs.Common.{rules, slice_get, Vec, length-append, append_assoc, filter_map-append, Contains-append_right, bytes_cmp, IsStrictlyAscending}
-use Rattle.state_index.specs.declared.postings.Posting.{Posting}
+use Rattle.state_index.specs.declared.posting.Posting.{Posting}
 use Rattle.state_index.specs.Posted.{ArePosted, CanPost}
 use Rattle.state_index.specs.Rooms.{Item, HasRoomAt, places_in}
 use Rattle.state_index.specs.SpotOrder.{Spot}

@@ -2,7 +2,7 @@
 use Rattle.cif_laws.proofs.Common.{◌≡◌, ℕ, Bool, ◌+◌, ◌*◌, ◌^◌, ◌<◌, rules, ◌==◌, ◌&&◌, IsTotalOrder, then_total, on_total, nat_cmp_total, ordering_then}
 use Rattle.cif_laws.proofs.Common.{nat_cmp}
 use Rattle.std.specs.Ordering.{eq_by_cmp}
-use Rattle.state_index.specs.declared.postings.Posting.{Posting}
+use Rattle.state_index.specs.declared.posting.Posting.{Posting}
 use Rattle.state_index.specs.PostingOrder.{posting_cmp}
 
 -- the order of postings is total

@@ -2,7 +2,7 @@
 use Rattle.cif_laws.proofs.Common.{◌≡◌, ℕ, ◌≤◌, List, take, drop, length, rules, refl, ap, sym, ◌∙◌, Bool, true, false, IsPartitionedBy, IsPartitionPoint}
 use Rattle.cif_laws.proofs.Common.{Ordering, Less, Equal, Greater, is_lt, nat_cmp, tied_itself, nat_cmp_total, exact_unsigned, IsStrictlyAscending}
 use Rattle.std.specs.Ordering.{is_le}
-use Rattle.state_index.specs.declared.postings.Posting.{Posting}
+use Rattle.state_index.specs.declared.posting.Posting.{Posting}
 use Rattle.state_index.proofs.Pieces.{piece_parts, parted_by}
 use Rattle.state_index.specs.PostingOrder.{posting_cmp}
 use Rattle.state_index.specs.PlaceRows.{IsPieceOf}

@@ -5,7 +5,7 @@ use Rattle.cif_laws.proofs.Common.{nat_list_cmp_total, filter_map-append, exact_
 use Rattle.std.proofs.lemmas.Cmp.{ranked}
 use Rattle.cif_laws.proofs.lists.Membership.{nil-Contains, cons-Contains, cons-Contains-first, Contains-map}
 use Rattle.state_index.specs.SpotOrder.{Spot, spot_cmp}
-use Rattle.state_index.specs.declared.postings.Posting.{Posting}
+use Rattle.state_index.specs.declared.posting.Posting.{Posting}
 use Rattle.state_index.specs.PostingOrder.{posting_cmp}
 use Rattle.state_index.specs.Spots.{Places, spot_at, spots_of, posting_spot, spots_in, ArePostingsOf}
 use Rattle.state_index.specs.PlaceRows.{live_row, rows_at_spots, rows_at_postings, IsPieceAt, IsPieceOf}

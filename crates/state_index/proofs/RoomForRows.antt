@@ -6,7 +6,7 @@ use Rattle.cif_laws.proofs.lists.Membership.{Contains-cons, cons-Contains, cons-
 use Rattle.cif_laws.proofs.orders.Orders.{key_total}
 use Rattle.state_index.specs.NamedPlaces.{call_places, link_places}
 use Rattle.state_index.specs.declared.index.Index.{Index}
-use Rattle.state_index.specs.declared.postings.Posting.{Posting}
+use Rattle.state_index.specs.declared.posting.Posting.{Posting}
 use Rattle.state_index.specs.Spots.{Places}
 use Rattle.state_index.specs.Rooms.{Item, ComeFrom, HasRoomAt, HasRoomFor, items_of, places_in}
 use Rattle.state_index.proofs.Positions.{Keyed}

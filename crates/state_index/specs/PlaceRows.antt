@@ -6,7 +6,7 @@ use Rattle.docker_model.specs.file.Change.{Key}
 use Rattle.docker_model.specs.state.Op.{Entry, body_of}
 use Rattle.docker_model.specs.state.Row.{Row}
 use Rattle.state_index.specs.SpotOrder.{Spot}
-use Rattle.state_index.specs.declared.postings.Posting.{Posting}
+use Rattle.state_index.specs.declared.posting.Posting.{Posting}
 
 -- the key and the body of a row, or `None` if its op isn't a put
 abbrev pub live_row : Key × Entry → Option Row

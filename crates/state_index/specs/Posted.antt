@@ -4,7 +4,7 @@ use Rattle.std.specs.Global.{Vec}
 use Rattle.std.specs.Vec.{vec_len, vec_capacity}
 use Rattle.docker_model.specs.state.Order.{bytes_cmp, IsStrictlyAscending}
 use Rattle.state_index.specs.NamedPlaces.{call_places, link_places}
-use Rattle.state_index.specs.declared.postings.Posting.{Posting}
+use Rattle.state_index.specs.declared.posting.Posting.{Posting}
 use Rattle.state_index.specs.Rooms.{Includes}
 use Rattle.state_index.specs.SpotOrder.{Spot}
 use Rattle.state_index.specs.Spots.{Places, spots_in}

@@ -1,7 +1,7 @@
 -- The order of postings: by place, and then by row.
 use Rattle.std.specs.declared.cmp.Ordering.{Ordering}
 use Rattle.std.specs.Ordering.{ordering_then, nat_cmp}
-use Rattle.state_index.specs.declared.postings.Posting.{Posting}
+use Rattle.state_index.specs.declared.posting.Posting.{Posting}
 
 -- compares two postings: by place, and then by row
 abbrev pub posting_cmp : Posting → Posting → Ordering

@@ -8,7 +8,7 @@ use Rattle.docker_model.specs.state.Op.{Op, Entry, op_of, body_of}
 use Rattle.docker_model.specs.state.Order.{bytes_cmp, IsStrictlyAscending}
 use Rattle.state_index.specs.NamedPlaces.{call_places, link_places}
 use Rattle.state_index.specs.declared.index.Index.{Index}
-use Rattle.state_index.specs.declared.postings.Posting.{Posting}
+use Rattle.state_index.specs.declared.posting.Posting.{Posting}
 use Rattle.state_index.specs.declared.survey.Survey.{Survey}
 use Rattle.state_index.specs.Spots.{Places}
 

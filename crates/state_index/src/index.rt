@@ -14,7 +14,8 @@ ghost use Rattle.state_index.specs.Spots.{IsIndexOf};
 use crate::memo::Memo;
 use crate::names::ascending_places;
 use crate::place_rows::{IndexedRows, postings_at};
-use crate::postings::{Posting, post_rows, settle};
+use crate::posting::Posting;
+use crate::postings::{post_rows, settle};
 use crate::survey::Survey;
 use cif_change::{Change, Key, Memory, Tiploc};
 use docker_join::Entry;
@@ -85,8 +86,11 @@ impl Index {
         ensures { IfOk result (HasRoomFor
             (items_of (map row_meant rows.now) ++ items_of (map row_meant others.now))) }
     {
-        let most = rows.len().saturating_add(others.len());
-        let mut survey = Survey::new(alloc, self.places.as_slice(), most)?;
+        let mut survey = Survey::new(
+            alloc,
+            self.places.as_slice(),
+            rows.len().saturating_add(others.len()),
+        )?;
         survey.count_rows(rows)?;
         survey.survey_rows(others)?;
         Index::of_survey(alloc, survey)
@@ -97,13 +101,19 @@ impl Index {
         ensures { (items : List Item) (old : Survey) → HasGrownBy items old survey
             → IfOk result (HasRoomFor items) }
     {
-        let places = ascending_places(survey.names);
-        if u32::try_from(places.len()).is_err() || u32::try_from(survey.rows).is_err() {
+        let Survey {
+            names,
+            calls,
+            rows,
+            ..
+        } = survey;
+        let places = ascending_places(names);
+        if u32::try_from(places.len()).is_err() || u32::try_from(rows).is_err() {
             return Err(Memory);
         }
-        let memo = Memo::of(alloc, places.as_slice(), survey.rows)?;
-        let calls = Vec::with_capacity(alloc, survey.calls)?;
-        let links = Vec::with_capacity(alloc, survey.rows)?;
+        let memo = Memo::of(alloc, places.as_slice(), rows)?;
+        let calls = Vec::with_capacity(alloc, calls)?;
+        let links = Vec::with_capacity(alloc, rows)?;
         Ok(Index {
             places,
             calls,
@@ -135,8 +145,14 @@ impl Index {
         ensures { (state : State) → state.entries ≡ map row_meant rows.now
             → AreCalling (live_table state) tiploc.now result }
     {
-        let postings = postings_at(self.places.as_slice(), self.calls.as_slice(), tiploc);
-        IndexedRows::of(rows, postings)
+        IndexedRows::of(
+            rows,
+            postings_at(
+                self.places.as_slice(),
+                self.calls.as_slice(),
+                tiploc.bytes(),
+            ),
+        )
     }
 
     /// How many live schedules call at a TIPLOC. Two binary searches find the first and the last
@@ -147,7 +163,12 @@ impl Index {
         ensures { (state : State) → AreAscending state.entries → IsIndexOf state.entries self.now
             → IsCallingCount (live_table state) tiploc.now result }
     {
-        postings_at(self.places.as_slice(), self.calls.as_slice(), tiploc).len()
+        postings_at(
+            self.places.as_slice(),
+            self.calls.as_slice(),
+            tiploc.bytes(),
+        )
+        .len()
     }
 
     /// The live associations at a location, found by binary search. The index must be the index of
@@ -158,7 +179,13 @@ impl Index {
         ensures { (state : State) → state.entries ≡ map row_meant rows.now
             → AreLinked (live_table state) tiploc.now result }
     {
-        let postings = postings_at(self.places.as_slice(), self.links.as_slice(), tiploc);
-        IndexedRows::of(rows, postings)
+        IndexedRows::of(
+            rows,
+            postings_at(
+                self.places.as_slice(),
+                self.links.as_slice(),
+                tiploc.bytes(),
+            ),
+        )
     }
 }

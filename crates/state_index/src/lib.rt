@@ -7,10 +7,12 @@ mod laws;
 mod memo;
 mod names;
 mod place_rows;
+mod places;
+mod posting;
 mod postings;
 mod survey;
 
 pub use index::Index;
 pub use laws::{indexes_of_rows, one_index_of_rows};
 pub use place_rows::IndexedRows;
-pub use postings::Posting;
+pub use posting::Posting;

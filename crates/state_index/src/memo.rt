@@ -42,9 +42,11 @@ impl Memo {
             slots: vec![in alloc; 0u32; slots]?,
         };
         let mut at: u32 = 0;
-        for place in places {
+        let mut rest = places;
+        while let Some((place, behind)) = rest.split_first() {
             memo.set(place, at);
             at = at.saturating_add(1);
+            rest = behind;
         }
         Ok(memo)
     }

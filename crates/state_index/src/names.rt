@@ -1,23 +1,10 @@
-//! The ordered list of places in an index, and the records that name these places.
+//! The ordered list of places in an index.
 ghost use Rattle.std.specs.Prelude.{◌≡◌, ◌<◌, ◌^◌, ◌++◌, [], ◌∷◌, length, Contains, IsSome, IfSome, IsTrue, Some, slice_get};
 ghost use Rattle.std.specs.Int.{from_le_bytes, w64};
-ghost use Rattle.docker_model.specs.records.Record.{kind_of, is_location};
 ghost use Rattle.docker_model.specs.state.Order.{bytes_cmp, IsStrictlyAscending};
 ghost use Rattle.state_index.specs.Rooms.{Includes};
 
 use crate::memo::Memo;
-use cif_line::{Kind, Line, kind};
-
-/// Whether a line is a location record: an origin (LO), an intermediate location (LI) or a terminus
-/// (LT).
-pub(crate) fn is_location(line: &Line) -> bool
-    ensures { result ≡ is_location (kind_of line.now) }
-{
-    matches!(
-        kind(line),
-        Some(Kind::OriginLocation | Kind::IntermediateLocation | Kind::TerminatingLocation)
-    )
-}
 
 /// These places, sorted in ascending order and without duplicates.
 pub(crate) fn ascending_places(mut places: Vec<[u8; 7]>) -> Vec<[u8; 7]>
@@ -52,7 +39,10 @@ pub(crate) fn rank_in(places: &[[u8; 7]], memo: &Memo, place: &[u8; 7]) -> u32
     if let Some(rank) = memo.find(places, place) {
         return rank;
     }
-    rank_of(places, place).unwrap() as u32
+    match rank_of(places, place) {
+        Some(rank) => rank as u32,
+        None => unreachable!(),
+    }
 }
 
 /// Whether this place is at this index of a list of places.

@@ -5,6 +5,7 @@ ghost use Rattle.std.specs.Iterator.{YieldsFirstBy, item_count};
 ghost use Rattle.cif_change.specs.Meaning.{key_meant, body_meant};
 ghost use Rattle.docker_join.specs.Meaning.{row_meant};
 ghost use Rattle.std.specs.Option.{option_map};
+ghost use Rattle.std.specs.Ordering.{is_lt, is_le, nat_cmp};
 ghost use Rattle.docker_model.specs.state.Order.{bytes_cmp, IsStrictlyAscending};
 ghost use Rattle.docker_model.specs.file.Change as model;
 ghost use Rattle.docker_model.specs.state.Op as ops;
@@ -14,8 +15,8 @@ ghost use Rattle.state_index.specs.PostingOrder.{posting_cmp};
 ghost use Rattle.state_index.specs.PlaceRows.{rows_at_spots, rows_at_postings, live_at_posting, IsPieceAt, IsPieceOf};
 
 use crate::names::rank_of;
-use crate::postings::Posting;
-use cif_change::{Body, Key, Tiploc};
+use crate::posting::Posting;
+use cif_change::{Body, Key};
 use docker_join::{Entry, Op};
 use std::marker::Model;
 
@@ -68,10 +69,12 @@ fn live_at<'a>(rows: &'a [(Key, Entry)], posting: &Posting) -> Option<(&'a Key, 
     ensures { option_map (λ row. (key_meant row.0.now, body_meant row.1.now)) result
         ≡ live_at_posting (map row_meant rows.entry.now) posting.now }
 {
-    let (key, entry) = rows.get(posting.at as usize)?;
-    match &entry.op {
-        Op::Put(body) => Some((key, body)),
-        _ => None,
+    match rows.get(posting.at as usize) {
+        Some((key, entry)) => match &entry.op {
+            Op::Put(body) => Some((key, body)),
+            _ => None,
+        },
+        None => None,
     }
 }
 
@@ -81,11 +84,23 @@ pub(crate) fn postings_of<'a>(postings: &'a [Posting], rank: usize) -> &'a [Post
     requires { IsStrictlyAscending posting_cmp postings.now }
     ensures { IsPieceOf rank postings.entry.now result.now }
 {
-    let before = postings.partition_point(|posting| (posting.place as usize).cmp(&rank).is_lt());
-    let (_, rest) = postings.split_at(before);
-    let up_to = rest.partition_point(|posting| (posting.place as usize).cmp(&rank).is_le());
-    let (here, _) = rest.split_at(up_to);
+    let (_, rest) = postings.split_at(postings.partition_point(|posting| is_before(posting, rank)));
+    let (here, _) = rest.split_at(rest.partition_point(|posting| is_up_to(posting, rank)));
     here
+}
+
+/// Whether the index of a posting's place is below `rank`.
+fn is_before(posting: &Posting, rank: usize) -> bool
+    ensures { result ≡ is_lt (nat_cmp posting.now.place rank) }
+{
+    (posting.place as usize).cmp(&rank).is_lt()
+}
+
+/// Whether the index of a posting's place is `rank` or lower.
+fn is_up_to(posting: &Posting, rank: usize) -> bool
+    ensures { result ≡ is_le (nat_cmp posting.now.place rank) }
+{
+    (posting.place as usize).cmp(&rank).is_le()
 }
 
 /// The postings of one place among ascending postings, found by binary search. No postings are
@@ -93,7 +108,7 @@ pub(crate) fn postings_of<'a>(postings: &'a [Posting], rank: usize) -> &'a [Post
 pub(crate) fn postings_at<'a>(
     places: &[[u8; 7]],
     postings: &'a [Posting],
-    place: &Tiploc,
+    place: &[u8; 7],
 ) -> &'a [Posting]
     requires named { IsStrictlyAscending bytes_cmp places.now }
     requires up { IsStrictlyAscending posting_cmp postings.now }
@@ -103,7 +118,7 @@ pub(crate) fn postings_at<'a>(
     ensures rows { (rows : List (model.Key × ops.Entry)) → rows_at_postings rows result.now
         ≡ rows_at_spots rows (spots_in places.now result.now) }
 {
-    match rank_of(places, place.bytes()) {
+    match rank_of(places, place) {
         Some(rank) => postings_of(postings, rank),
         None => &postings[..0],
     }

@@ -1,6 +1,5 @@
-//! Postings, the entries of an index. They are written into memory that was reserved beforehand,
-//! and sorted.
-ghost use Rattle.std.specs.Prelude.{◌≡◌, ◌+◌, ◌*◌, ◌<◌, ◌^◌, ◌↔◌, ◌∷◌, [], length, map, vec_capacity, Contains};
+//! Writes the postings of rows into memory that was reserved beforehand, and sorts them.
+ghost use Rattle.std.specs.Prelude.{◌≡◌, ◌+◌, ◌<◌, ◌^◌, ◌↔◌, ◌∷◌, [], length, map, vec_capacity, Contains};
 ghost use Rattle.docker_model.specs.records.Record.{columns};
 ghost use Rattle.docker_model.specs.state.Order.{IsStrictlyAscending};
 ghost use Rattle.state_index.specs.NamedPlaces.{location_lines};
@@ -11,39 +10,12 @@ ghost use Rattle.state_index.specs.Posted.{ArePosted, CanPost, asked_places};
 ghost use Rattle.state_index.specs.Spots.{spot_at, spots_of};
 
 use crate::memo::Memo;
-use crate::names::{is_location, rank_in};
+use crate::names::rank_in;
+use crate::places::{is_location, tiploc_in};
+use crate::posting::Posting;
 use cif_change::{Body, Key};
 use cif_line::Line;
 use docker_join::{Entry, Op};
-use std::cmp::Ordering;
-
-/// An entry of an index: a place, with the row of a schedule that calls there or of an association
-/// there. Postings are ordered by place, and then by row.
-#[derive(Clone, Copy, PartialEq, Eq, PartialOrd, Ord, Debug)]
-pub struct Posting {
-    /// The index of the place in the index's list of places, from 0.
-    pub place: u32,
-    /// The index of the row in the table, from 0.
-    pub at: u32,
-}
-
-impl Posting {
-    /// The order of postings. Both fields are compared at once, as one number, which makes sorting
-    /// a third faster.
-    pub(crate) fn compare(&self, other: &Posting) -> Ordering
-        ensures { result ≡ posting_cmp self.now other.now }
-    {
-        self.number().cmp(&other.number())
-    }
-
-    /// The place in the upper half of a number, and the row in its lower half.
-    fn number(&self) -> u64
-        ensures number { result ≡ self.now.place * 2 ^ 32 + self.now.at }
-        ensures row { self.now.at < 2 ^ 32 }
-    {
-        u64::from(self.place) * 0x1_0000_0000 + u64::from(self.at)
-    }
-}
 
 /// Appends the postings of rows, row by row: the postings of their associations if `links` is true,
 /// and otherwise the postings of their calls. `places` must have each of their places, and there
@@ -112,7 +84,7 @@ fn post_locations(
     let mut rest = lines;
     while let Some((line, behind)) = rest.split_first() {
         if is_location(line) {
-            post_place(places, memo, line.field(3), at, postings);
+            post_place(places, memo, &tiploc_in(line), at, postings);
         }
         rest = behind;
     }

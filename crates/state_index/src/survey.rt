@@ -10,7 +10,8 @@ ghost use Rattle.docker_join.specs.Meaning.{op_meant, row_meant};
 ghost use Rattle.state_index.specs.Rooms.{Includes, HasGrownBy, changed_items, items_of, places_in};
 
 use crate::memo::Memo;
-use crate::names::is_location;
+use crate::names::ascending_places;
+use crate::places::{is_location, tiploc_in};
 use cif_change::{Act, Body, Change, Key, Memory};
 use cif_line::Line;
 use docker_join::{Entry, Op};
@@ -50,8 +51,10 @@ impl Survey {
     pub(crate) fn survey_rows(&mut self, rows: &[(Key, Entry)]) -> Result<(), Memory>
         ensures { IsOk result → HasGrownBy (items_of (map row_meant rows.now)) self.old self.new }
     {
-        for row in rows {
+        let mut rest = rows;
+        while let Some((row, behind)) = rest.split_first() {
             self.survey_row(&row.0, &row.1.op)?;
+            rest = behind;
         }
         Ok(())
     }
@@ -61,8 +64,10 @@ impl Survey {
         ensures { IsOk result
             → HasGrownBy (changed_items (map change_meant changes.now)) self.old self.new }
     {
-        for change in changes {
+        let mut rest = changes;
+        while let Some((change, behind)) = rest.split_first() {
             self.survey_change(change)?;
+            rest = behind;
         }
         Ok(())
     }
@@ -76,8 +81,10 @@ impl Survey {
             self.old.names.items }
         ensures { IsOk result → HasGrownBy (items_of (map row_meant rows.now)) self.old self.new }
     {
-        for row in rows {
+        let mut rest = rows;
+        while let Some((row, behind)) = rest.split_first() {
             self.count(most_calls(&row.1.op))?;
+            rest = behind;
         }
         Ok(())
     }
@@ -89,7 +96,8 @@ impl Survey {
     {
         match op {
             Op::Put(body) => self.survey_body(key, body),
-            Op::Deleted | Op::Lapsed => self.count(0),
+            Op::Deleted => self.count(0),
+            Op::Lapsed => self.count(0),
         }
     }
 
@@ -146,7 +154,7 @@ impl Survey {
         let mut rest = lines;
         while let Some((line, behind)) = rest.split_first() {
             if is_location(line) {
-                self.list(line.field(3))?;
+                self.list(&tiploc_in(line))?;
             }
             rest = behind;
         }
@@ -163,7 +171,9 @@ impl Survey {
         if self.memo.find(self.names.as_slice(), place).is_some() {
             return Ok(());
         }
-        let next = u32::try_from(self.names.len()).map_err(|_| Memory)?;
+        let Ok(next) = u32::try_from(self.names.len()) else {
+            return Err(Memory);
+        };
         self.names.push(*place)?;
         self.memo.set(place, next);
         Ok(())

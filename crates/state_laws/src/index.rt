@@ -5,7 +5,8 @@ ghost use Rattle.std.specs.List.{flat_map};
 ghost use Rattle.docker_model.specs.state.Order.{IsStrictlyAscending};
 ghost use Rattle.docker_model.specs.state.Table.{Table};
 ghost use Rattle.docker_model.specs.state.Row.{Row, AreRowsOf};
-ghost use Rattle.state_laws.specs.Index.{CallingRow, LinkedRow, calling_cmp, linked_cmp, calls_of, links_of, IsCallingIndex, IsLinkedIndex, AreCalling, AreLinked, AreOfUid};
+ghost use Rattle.state_laws.specs.Index.{CallingRow, LinkedRow, calling_cmp, linked_cmp, calls_of, links_of, IsCallingIndex, IsLinkedIndex};
+ghost use Rattle.state_laws.specs.Index.{AreCalling, AreLinked, AreOfUid};
 
 /// A live table has at most one index of calls and at most one index of associations. It has at
 /// most one list of rows for the schedules that call at a place, for the associations at a place,

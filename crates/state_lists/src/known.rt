@@ -4,8 +4,9 @@ ghost use Rattle.std.specs.Prelude.{◌≡◌, ◌<◌, IfSome, option_map};
 ghost use Rattle.docker_model.specs.records.Date.{IsDay};
 ghost use Rattle.docker_join.specs.Meaning.{file_stamp_meant};
 ghost use Rattle.docker_model.specs.lists.KnownText.{IsKnownText, count_line, full_line, horizon_line, horizon_text, last_day_line};
+ghost use Rattle.state_lists.specs.Tallies.{known_lines};
 
-use crate::tally::tally_of;
+use crate::tally::{Tally, tally_of};
 use arrayvec::ArrayVec;
 use cif_line::Day;
 use docker_day::clock_text;
@@ -26,16 +27,31 @@ pub fn known_text(state: &State) -> KnownText
     ensures { IsKnownText state.now result.items }
 {
     let tally = tally_of(state.entries());
+    lines_of(state.horizon(), state.floor(), &tally)
+}
+
+/// The text of all lines. `full` is the newest full extract.
+fn lines_of(horizon: u16, full: Option<FileStamp>, tally: &Tally) -> KnownText
+    requires day { IsDay horizon }
+    requires minute { IfSome full (λ stamp. stamp.minute < 1440) }
+    ensures { result.items ≡ known_lines horizon (option_map file_stamp_meant full) tally.now }
+{
     let mut text = ArrayVec::new();
-    put(&mut text, horizon_line(state.horizon()).as_slice());
-    put(&mut text, full_line(state.floor()).as_slice());
+    put(&mut text, horizon_line(horizon).as_slice());
+    put(&mut text, full_line(full).as_slice());
     put(&mut text, last_line(tally.last).as_slice());
-    let schedules = count_line(b"SCHEDULES   ", tally.schedules);
-    put(&mut text, schedules.as_slice());
-    let associations = count_line(b"ASSOCIATIONS", tally.associations);
-    put(&mut text, associations.as_slice());
-    let places = count_line(b"PLACES      ", tally.places);
-    put(&mut text, places.as_slice());
+    put(
+        &mut text,
+        count_line(b"SCHEDULES   ", tally.schedules).as_slice(),
+    );
+    put(
+        &mut text,
+        count_line(b"ASSOCIATIONS", tally.associations).as_slice(),
+    );
+    put(
+        &mut text,
+        count_line(b"PLACES      ", tally.places).as_slice(),
+    );
     text
 }
 
@@ -71,7 +87,10 @@ fn day_of(number: u16) -> Day
     requires { IsDay number }
     ensures { result ≡ number }
 {
-    Day::from_number(number).unwrap()
+    match Day::from_number(number) {
+        Some(day) => day,
+        None => unreachable!(),
+    }
 }
 
 /// The line of the newest full extract, with a line feed: date, time and reference. There is no

@@ -12,7 +12,7 @@ use Rattle.docker_state.specs.declared.item.LedgerItem.{LedgerItem}
 use Rattle.docker_state.specs.Meaning.{item_meant}
 use Rattle.docker_state.specs.Parts.{last_key}
 use Rattle.docker_state.specs.Staging.{Staging}
-use Rattle.state_text.specs.declared.received.Receiving.{Receiving}
+use Rattle.state_text.specs.declared.receiving.Receiving.{Receiving}
 
 -- the state with these ledger items and entries, and without a horizon
 abbrev pub given_state : List stamps.LedgerItem → List (model.Key × ops.Entry) → State

@@ -13,10 +13,12 @@ ghost use Rattle.state_text.specs.Head.{AreParts, IsBeforeBody, IsPutHead, Begin
 use crate::format::{
     ASSOC_TAG, LINE_COUNT, OP, PUT, SCHEDULE_KEY, SCHEDULE_TAG, STAMP, TAG, TIPLOC_TAG,
 };
-use crate::judged::{judged_key, judged_stamp, line_count};
 use crate::keeper::PartKeeper;
+use crate::key::judged_key;
 use crate::parts_so_far::PartsSoFar;
 use crate::stage::{Stage, Tag};
+use crate::stamp::judged_stamp;
+use crate::steps::line_count;
 use cif_file::Key;
 use docker_join::Stamp;
 
@@ -44,7 +46,9 @@ fn put_of<K: PartKeeper>(tag: Tag, parts: &PartsSoFar<K>, bytes: &[u8]) -> Optio
     let Ok(key) = judged_key(tag, parts, key) else {
         return None;
     };
-    let stamp = judged_stamp(parts.ledger(), stamp)?;
+    let Some(stamp) = judged_stamp(parts.ledger(), stamp) else {
+        return None;
+    };
     Some((key, stamp))
 }
 
@@ -67,8 +71,10 @@ fn body_head<K: PartKeeper>(
         return None;
     }
     let (put, _body) = bytes.split_at(len);
-    let (key, stamp) = put_of(tag, parts, put)?;
-    Some((Stage::Body(count, key, stamp), TAG + len))
+    match put_of(tag, parts, put) {
+        Some((key, stamp)) => Some((Stage::Body(count, key, stamp), TAG + len)),
+        None => None,
+    }
 }
 
 /// Reads the head of a schedule's put, up to its lines, from the bytes after its tag. The result is

@@ -107,6 +107,12 @@ impl<D: HorizonDay> Maker for Lapsing<D> {
     ghost makes = { λ made state. made ≡ raise_horizon D.day state };
 
     fn finish(self, horizon: Option<Day>) -> Result<State, Memory> {
-        Ok(self.parts.finish_unindexed_under(later(horizon, self.day)))
+        let Lapsing {
+            parts,
+            day,
+            given: _,
+            of: _,
+        } = self;
+        Ok(parts.finish_unindexed_under(later(horizon, day)))
     }
 }

@@ -11,7 +11,8 @@ ghost use Rattle.docker_state.specs.Parts.{last_key, under};
 ghost use Rattle.state_text.specs.PartsSoFar.{horizon_meant, with_item, with_row};
 
 use crate::keeper::{Maker, PartKeeper};
-use crate::received::{Received, Receiver};
+use crate::received::Received;
+use crate::receiving::Receiver;
 use cif_file::Key;
 use cif_line::{Day, Memory};
 use docker_join::Entry;
@@ -108,7 +109,8 @@ impl<K: Maker> PartsSoFar<K> {
         requires { IsValid self }
         ensures { IfOk result (λ made. K.makes made self) }
     {
-        self.keeper.finish(self.horizon)
+        let PartsSoFar { horizon, keeper } = self;
+        keeper.finish(horizon)
     }
 }
 
@@ -120,13 +122,15 @@ impl<R: Receiver> PartsSoFar<Received<R>> {
         ensures ok { IsOk result.1 → IsJoin R.own self result.0 }
         ensures err { IsErr result.1 → result.0 ≡ R.own }
     {
-        self.keeper.join(self.horizon)
+        let PartsSoFar { horizon, keeper } = self;
+        keeper.join(horizon)
     }
 
     /// Returns the receiving state unchanged.
     pub fn into_own(self) -> State
         ensures { result ≡ R.own }
     {
-        self.keeper.into_own()
+        let PartsSoFar { horizon: _, keeper } = self;
+        keeper.into_own()
     }
 }

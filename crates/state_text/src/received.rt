@@ -1,162 +1,19 @@
-//! A keeper that passes the parts of a text to a state, which receives them. Only the entries that
-//! the state will take over are staged.
-ghost use Rattle.std.specs.Prelude.{◌≡◌, ◌+◌, ◌-◌, ◌^◌, ◌<◌, ℕ, [], ◌∷◌, ◌++◌, length, IsOk, IsErr, IsSome, None};
-ghost use Rattle.docker_model.specs.state.State.{IsOpOf, IsValid, IsJoin};
+//! A keeper that passes the parts to a state, which receives them.
+ghost use Rattle.std.specs.Prelude.{◌≡◌, [], IsOk, IsErr};
+ghost use Rattle.docker_model.specs.state.State.{State, IsValid, IsJoin};
 ghost use Rattle.docker_model.specs.state.State as states;
-ghost use Rattle.docker_model.specs.state.StatePart.{IsStampHere};
-ghost use Rattle.cif_change.specs.Meaning.{key_meant};
-ghost use Rattle.docker_join.specs.Meaning.{entry_meant};
 ghost use Rattle.docker_state.specs.Parts.{under};
-ghost use Rattle.state_text.specs.PartsSoFar.{horizon_meant, with_row};
-ghost use Rattle.state_text.specs.Receiving.{given_state, given_of, IsStagedOf, IsReceiving};
+ghost use Rattle.state_text.specs.PartsSoFar.{horizon_meant};
+ghost use Rattle.state_text.specs.Receiving.{given_of, IsReceiving};
 
-use crate::given::Given;
 use crate::keeper::PartKeeper;
+use crate::receiving::{Receiver, Receiving};
 use cif_file::Key;
 use cif_line::{Day, Memory};
 use docker_join::Entry;
-use docker_state::{LedgerItem, Staging, State};
+use docker_state::{LedgerItem, State};
 use std::alloc::Global;
-use std::marker::{Brand, Model, PhantomData};
-use std::mem;
-
-/// A type that stands for the state that receives the parts of one text. It exists only for
-/// clauses. Since the type is part of the keeper's type, no call can replace the receiving state by
-/// another state.
-pub trait Receiver {
-    ghost use Rattle.docker_model.specs.state.State as states;
-
-    ghost own: { states.State };
-}
-
-impl Receiver for Brand {
-    ghost own = { record { horizon = 0; ledger = []; entries = [] } };
-}
-
-/// A state that receives another state's text. Before the first entry is given, `items` contains
-/// the ledger items received. With the first entry the staging begins, and from then on the staging
-/// contains the ledger items. `last` is the key of the last entry given, and `count` is the number
-/// of all entries given, whether staged or not.
-#[derive(Drop)]
-struct Receiving<R> {
-    alloc: Global,
-    own: State,
-    items: Vec<LedgerItem>,
-    staging: Option<Staging>,
-    last: Option<Key>,
-    count: u64,
-    given: Given,
-    of: PhantomData<R>,
-}
-
-/// Offers the next entry for staging. `given` records the entries before it for proofs.
-fn offer(
-    own: &State,
-    staging: &mut Staging,
-    given: &Given,
-    key: Key,
-    entry: Entry,
-) -> Result<(), Memory>
-    requires staged { IsStagedOf own.now staging.old given.now.entries }
-    requires here { IsStampHere (given_state staging.old.items given.now.entries)
-        (key_meant key) (entry_meant entry).stamp }
-    requires op { IsOpOf (key_meant key) (entry_meant entry).op }
-    ensures ok { IsOk result
-        → IsStagedOf own.now staging.new
-        (given.now.entries ++ (key_meant key, entry_meant entry) ∷ []) }
-    ensures items { staging.new.items ≡ staging.old.items }
-    ensures err { IsErr result → staging.new ≡ staging.old }
-{
-    staging.offer(own, key, entry)
-}
-
-impl<R: Receiver> Receiving<R> {
-    /// Starts receiving for the state `own`. No ledger item and no entry has been given yet.
-    fn new(alloc: Global, own: State) -> Receiving<R>
-        requires valid { IsValid own }
-        requires own { own ≡ R.own }
-        ensures receiving { IsReceiving R.own result }
-        ensures none { given_of result ≡ given_state [] [] }
-    {
-        Receiving {
-            alloc,
-            own,
-            items: Vec::new(alloc),
-            staging: None,
-            last: None,
-            count: 0,
-            given: Given::new(),
-            of: PhantomData,
-        }
-    }
-
-    /// Starts the staging, once the ledger is complete.
-    fn begin(&mut self) -> Result<(), Memory>
-        requires receiving { IsReceiving R.own self.old }
-        requires none { self.old.staging ≡ None }
-        ensures ok { IsOk result }
-        ensures some { IsSome self.new.staging }
-        ensures same { given_of self.new ≡ given_of self.old }
-        ensures receiving { IsReceiving R.own self.new }
-    {
-        let items = mem::replace(&mut self.items, Vec::new(self.alloc));
-        self.staging = Some(Staging::new(self.alloc, &self.own, items)?);
-        Ok(())
-    }
-
-    /// Takes the next entry, with its key.
-    fn entry(&mut self, key: Key, entry: Entry) -> Result<(), Memory>
-        requires receiving { IsReceiving R.own self.old }
-        requires few { length self.old.given.entries < 2 ^ 64 - 1 }
-        requires here { IsStampHere (given_of self.old) (key_meant key) (entry_meant entry).stamp }
-        requires op { IsOpOf (key_meant key) (entry_meant entry).op }
-        ensures ok { IsOk result → given_of self.new
-            ≡ with_row (given_of self.old) (key_meant key, entry_meant entry) }
-        ensures receiving { IsReceiving R.own self.new }
-    {
-        if self.staging.is_none() {
-            self.begin()?;
-        }
-        let given = Given::with(&self.given, &key, &entry);
-        match &mut self.staging {
-            Some(staging) => offer(&self.own, staging, &self.given, key, entry)?,
-            None => unreachable!(),
-        }
-        self.last = Some(key);
-        self.count += 1;
-        self.given = given;
-        Ok(())
-    }
-
-    /// Returns the join of the state with what it received. If memory runs out, returns the state
-    /// unchanged.
-    fn finish(self) -> (State, Result<(), Memory>)
-        requires { IsReceiving R.own self }
-        ensures ok { IsOk result.1 → (horizon : ℕ) → IsValid (under horizon (given_of self))
-            → IsJoin R.own (given_of self) result.0 }
-        ensures err { IsErr result.1 → result.0 ≡ R.own }
-    {
-        let Receiving {
-            alloc,
-            mut own,
-            items,
-            staging,
-            last: _,
-            count: _,
-            given: _,
-            of: _,
-        } = self;
-        let staging = match staging {
-            Some(staging) => staging,
-            None => match Staging::new(alloc, &own, items) {
-                Ok(staging) => staging,
-                Err(wanting) => return (own, Err(wanting)),
-            },
-        };
-        let done = own.commit(staging);
-        (own, done)
-    }
-}
+use std::marker::Model;
 
 /// The parts that a state has received.
 #[derive(Drop)]
@@ -193,7 +50,8 @@ impl<R: Receiver> Received<R> {
             → IsJoin R.own (under (horizon_meant horizon) self) result.0 }
         ensures err { IsErr result.1 → result.0 ≡ R.own }
     {
-        let (mut joined, done) = self.receiving.finish();
+        let Received { receiving } = self;
+        let (mut joined, done) = receiving.finish();
         if done.is_ok() {
             if let Some(day) = horizon {
                 joined.set_horizon(day);
@@ -206,7 +64,8 @@ impl<R: Receiver> Received<R> {
     pub(crate) fn into_own(self) -> State
         ensures { result ≡ R.own }
     {
-        self.receiving.own
+        let Received { receiving } = self;
+        receiving.into_own()
     }
 }
 
@@ -214,11 +73,7 @@ impl<R: Receiver> PartKeeper for Received<R> {
     ghost given = { λ received. received };
 
     fn item(&mut self, item: LedgerItem) -> Result<(), Memory> {
-        if self.receiving.staging.is_some() {
-            return Err(Memory);
-        }
-        self.receiving.items.push(item)?;
-        Ok(())
+        self.receiving.item(item)
     }
 
     fn entry(&mut self, key: Key, entry: Entry) -> Result<(), Memory> {
@@ -226,17 +81,14 @@ impl<R: Receiver> PartKeeper for Received<R> {
     }
 
     fn ledger(&self) -> &[LedgerItem] {
-        match &self.receiving.staging {
-            Some(staging) => staging.items(),
-            None => self.receiving.items.as_slice(),
-        }
+        self.receiving.ledger()
     }
 
     fn len(&self) -> u64 {
-        self.receiving.count
+        self.receiving.len()
     }
 
     fn last(&self) -> Option<&Key> {
-        self.receiving.last.as_ref()
+        self.receiving.last()
     }
 }

@@ -1,14 +1,15 @@
 //! Reads the lines of a schedule.
-ghost use Rattle.std.specs.Prelude.{◌≡◌, ◌+◌, ◌-◌, ◌<◌, ◌↔◌, ◌⊎◌, [], ◌∷◌, ◌++◌, ℕ, length, IsTrue, IsOk, IfOk, IfErr, List};
+ghost use Rattle.std.specs.Prelude.{◌≡◌, ◌+◌, ◌-◌, ◌<◌, ◌↔◌, ◌⊎◌, [], ◌∷◌, ◌++◌, ℕ, length, false, IsTrue, IsOk, IfOk, IfErr, List};
 ghost use Rattle.cif_change.specs.JourneyRead.{HasLines};
 ghost use Rattle.docker_model.specs.file.File.{BeginsSchedule};
 ghost use Rattle.cif_change.specs.Meaning.{schedule_key_meant};
+ghost use Rattle.state_text.specs.Judged.{IsOfKey, IsFirstOf};
 ghost use Rattle.state_text.specs.FaultMeaning.{cause_meant};
 ghost use Rattle.state_text.specs.Lines.{BeginUpTo, AreLinesIn, AreLinesUpToIn, IsLineRefusal, IsUpToRefusal};
 
+use crate::body::is_first_of;
 use crate::cause::StateCause;
 use crate::format::LINE;
-use crate::judged::is_first_of;
 use crate::keeper::PartKeeper;
 use crate::parts_so_far::PartsSoFar;
 use cif_file::{Journey, Lines, ScheduleKey};
@@ -41,6 +42,20 @@ fn let_go(journey: &mut Journey, lines: &mut Vec<Line>)
     lines.clear();
 }
 
+/// Replaces the memory of an empty buffer, unless the buffer already has room for exactly `count`
+/// lines. The new memory has room for `count` lines. If memory runs out, the buffer is unchanged.
+fn room_for(lines: &mut Vec<Line>, alloc: Global, count: usize)
+    requires { lines.old.items ≡ [] }
+    ensures { lines.new.items ≡ [] }
+{
+    if lines.capacity() == count {
+        return;
+    }
+    if let Ok(more) = Vec::with_capacity(alloc, count) {
+        *lines = more;
+    }
+}
+
 impl Gathered {
     /// Returns a buffer without lines.
     pub fn new(alloc: Global) -> Gathered
@@ -59,6 +74,13 @@ impl Gathered {
         let_go(&mut self.journey, &mut self.lines);
     }
 
+    /// How many lines were read.
+    pub(crate) fn len(&self) -> usize
+        ensures { result ≡ length self.now }
+    {
+        self.lines.len()
+    }
+
     /// Whether no lines were read.
     fn is_empty(&self) -> bool
         ensures { IsTrue result ↔ (self.now ≡ []) }
@@ -70,7 +92,10 @@ impl Gathered {
     pub fn has_more(&self, count: u32) -> bool
         ensures { IsTrue result ↔ (length self.now + 1 < count) }
     {
-        self.before_last(count) > 0
+        if count == 0 {
+            return false;
+        }
+        self.lines.len() < (count - 1) as usize
     }
 
     /// How many lines are still to be read before the last line, in a schedule of `count` lines.
@@ -88,12 +113,11 @@ impl Gathered {
     pub fn make_room(&mut self, alloc: Global, count: u32, bytes: usize)
         ensures { self.new ≡ self.old }
     {
-        let count = count as usize;
-        if bytes / LINE < count || !self.lines.is_empty() || self.lines.capacity() == count {
+        if bytes / LINE < count as usize {
             return;
         }
-        if let Ok(more) = Vec::with_capacity(alloc, count) {
-            self.lines = more;
+        if self.lines.is_empty() {
+            room_for(&mut self.lines, alloc, count as usize);
         }
     }
 
@@ -184,6 +208,23 @@ impl Gathered {
     }
 }
 
+/// Whether the key and the horizon allow this line to come next. They allow any line after the
+/// first. The first line must have the transaction `N` and this key, and its schedule must not end
+/// before the horizon. `Journey::line` judges the other fields.
+fn may_follow<K: PartKeeper>(
+    key: &ScheduleKey,
+    parts: &PartsSoFar<K>,
+    lines: &Gathered,
+    line: &Line,
+) -> bool
+    ensures first { IsTrue result → lines.now ≡ [] →
+        IsOfKey parts.now.horizon (schedule_key_meant key.now) line.now }
+    ensures refused { result ≡ false → (lines.now ≡ []) ×
+        (¬ IsFirstOf parts.now.horizon (schedule_key_meant key.now) line.now) }
+{
+    !lines.is_empty() || is_first_of(key, parts.horizon(), line)
+}
+
 /// Judges the next line of the schedule with this key and `count` lines, and then adds the line.
 /// Returns `Body` if the line doesn't continue such a schedule, or if the schedule ended before the
 /// horizon that was read. Returns `Memory` if there is no memory for the line.
@@ -206,8 +247,7 @@ pub fn judged_line<K: PartKeeper>(
     let Some(line) = Line::of(bytes) else {
         return Err(StateCause::Body);
     };
-    // `Journey::line` judges the other fields of the first line, and all other lines.
-    if lines.is_empty() && !is_first_of(key, parts.horizon(), &line) {
+    if !may_follow(key, parts, lines, &line) {
         return Err(StateCause::Body);
     }
     lines.take(&line, count)

@@ -1,7 +1,8 @@
 //! The stages of reading a state's text.
 ghost use Rattle.std.specs.Prelude.{◌≡◌, ◌≤◌, ℕ, List};
 ghost use Rattle.docker_model.specs.state.State as states;
-ghost use Rattle.docker_model.specs.state.StatePart.{width, key_width};
+ghost use Rattle.docker_model.specs.state.StatePart.{width, key_width, body_width};
+ghost use Rattle.cif_change.specs.Meaning.{key_meant};
 ghost use Rattle.state_text.specs.Stage.{tag_meant, stage_meant, begins_item};
 
 use crate::format::{
@@ -83,9 +84,7 @@ impl Stage {
             Stage::Op(_, _, _) => OP,
             Stage::Key(_, tag) => tag.width(),
             Stage::Stamp(_, _) => STAMP,
-            Stage::Body(_, Key::Tiploc(_), _) => TIPLOC_BODY,
-            Stage::Body(_, Key::Assoc(_), _) => LINE,
-            Stage::Body(_, Key::Schedule(_), _) => LINE_COUNT,
+            Stage::Body(_, key, _) => body_width(key),
             Stage::Line(_, _, _, _) => LINE,
             Stage::End => 0,
         }
@@ -102,5 +101,18 @@ impl Stage {
             Stage::Body(_, _, _) | Stage::Line(_, _, _, _) => false,
             _ => true,
         }
+    }
+}
+
+/// The width of the part after a put's op. This part is the body or, for a schedule, the number of
+/// its lines.
+fn body_width(key: &Key) -> usize
+    ensures value { result ≡ body_width (key_meant key.now) }
+    ensures bound { result ≤ LINE }
+{
+    match key {
+        Key::Tiploc(_) => TIPLOC_BODY,
+        Key::Assoc(_) => LINE,
+        Key::Schedule(_) => LINE_COUNT,
     }
 }

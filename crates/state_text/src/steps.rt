@@ -1,10 +1,12 @@
 //! Reads the parts of a state's text one by one: judges each part and returns the stage after it.
-ghost use Rattle.std.specs.Prelude.{◌≡◌, ◌+◌, ◌<◌, ◌≤◌, ℕ, List, [], length, IfOk, IfErr};
+ghost use Rattle.std.specs.Prelude.{◌≡◌, ◌+◌, ◌<◌, ◌≤◌, ◌↔◌, ℕ, List, [], length, IsTrue, IfOk, IfErr, MatchOption};
+ghost use Rattle.std.specs.Int.{w32, from_be_bytes};
 ghost use Rattle.docker_model.specs.file.Change.{tiploc_key, association_key, schedule_key};
 ghost use Rattle.docker_model.specs.state.State as states;
 ghost use Rattle.docker_model.specs.state.State.{IsOpOf};
+ghost use Rattle.docker_model.specs.state.StateText.{mark};
 ghost use Rattle.docker_model.specs.state.StateText as formats;
-ghost use Rattle.docker_model.specs.state.StatePart.{before_mark, before_horizon, before_item, in_entry, before_tag, before_key, before_stamp, before_op, before_body, before_line, AreGood, IsStampHere, width, key_width};
+ghost use Rattle.docker_model.specs.state.StatePart.{before_mark, before_horizon, before_item, in_entry, before_tag, before_key, before_stamp, before_op, before_body, before_line, AreGood, IsStampHere, IsLineCount, width, key_width};
 ghost use Rattle.state_laws.specs.TextStage.{after_items, after_entries, with_entry};
 ghost use Rattle.cif_change.specs.Meaning.{key_meant, association_key_meant, schedule_key_meant};
 ghost use Rattle.docker_join.specs.Meaning.{stamp_meant, op_meant};
@@ -12,33 +14,49 @@ ghost use Rattle.state_text.specs.FormatMeaning.{format_meant};
 ghost use Rattle.state_text.specs.Judged.{Judges};
 ghost use Rattle.state_text.specs.Stage.{tag_meant, stage_meant, IsReady, IsLast, IsFresh};
 
+use crate::body::{assoc_body, tiploc_body};
 use crate::cause::StateCause;
+use crate::fields::{number_16, number_32, number_64};
 use crate::format::{
     ASSOC_TAG, DELETED, Format, HORIZON, ITEM, LAPSED, LINE_COUNT, OP, PUT, SCHEDULE_TAG, STAMP,
     TAG, TIPLOC_BODY, TIPLOC_TAG,
 };
-use crate::judged::{
-    assoc_body, judged_item, judged_key, judged_stamp, line_count, number_16, number_64,
-    tiploc_body,
-};
+use crate::item::judged_item;
 use crate::keeper::PartKeeper;
+use crate::key::judged_key;
 use crate::parts_so_far::PartsSoFar;
 use crate::schedule::{Gathered, judged_line};
 use crate::stage::{Stage, Tag};
+use crate::stamp::judged_stamp;
 use cif_file::{AssocKey, Body, Key, ScheduleKey};
 use cif_line::{Day, Tiploc};
 use docker_join::{Entry, Op, Stamp};
 use std::alloc::Global;
+
+/// The greatest number of lines that a schedule may have.
+const MOST_LINES: u32 = 4_294_967_294;
+
+/// Whether the bytes are the mark of the format.
+fn is_mark(format: Format, bytes: &[u8]) -> bool
+    ensures { IsTrue result ↔ (bytes.now ≡ mark (format_meant format)) }
+{
+    matches!(
+        (format, bytes),
+        (Format::Dks1, b"DKS1") | (Format::Dks2, b"DKS2")
+    )
+}
 
 /// Reads the mark. Returns `Mark` if the bytes aren't the mark of the format.
 fn after_mark(format: Format, bytes: &[u8]) -> Result<Stage, StateCause>
     ensures { (state : states.State) (lines : List (List ℕ)) → IsFresh Stage.Mark state →
         Judges (format_meant format) before_mark bytes.now state lines result }
 {
-    match (format, bytes) {
-        (Format::Dks1, b"DKS1") => Ok(Stage::LedgerCount),
-        (Format::Dks2, b"DKS2") => Ok(Stage::Horizon),
-        _ => Err(StateCause::Mark),
+    if !is_mark(format, bytes) {
+        return Err(StateCause::Mark);
+    }
+    match format {
+        Format::Dks1 => Ok(Stage::LedgerCount),
+        Format::Dks2 => Ok(Stage::Horizon),
     }
 }
 
@@ -53,9 +71,13 @@ fn after_horizon<K: PartKeeper>(
     ensures { (lines : List (List ℕ)) →
         Judges format before_horizon bytes.now parts.new lines result }
 {
-    let day = Day::from_number(number_16(bytes, 0)).ok_or(StateCause::Horizon)?;
-    parts.set_horizon(day);
-    Ok(Stage::LedgerCount)
+    match Day::from_number(number_16(bytes, 0)) {
+        Some(day) => {
+            parts.set_horizon(day);
+            Ok(Stage::LedgerCount)
+        }
+        None => Err(StateCause::Horizon),
+    }
 }
 
 /// The stage after the ledger items that were read. The next part is another item or, if all
@@ -253,6 +275,24 @@ fn after_assoc_body<K: PartKeeper>(
         Some(body) => give(count, parts, Key::Assoc(key), stamp, Op::Put(body)),
         None => Err(StateCause::Body),
     }
+}
+
+/// Reads the number of a schedule's lines from four bytes. Returns `None` if no schedule can have
+/// this many lines.
+pub(crate) fn line_count(bytes: &[u8]) -> Option<u32>
+    requires { length bytes.now ≡ LINE_COUNT }
+    ensures { MatchOption result (¬ IsLineCount (from_be_bytes w32 bytes.now))
+        (λ count. (count ≡ from_be_bytes w32 bytes.now)
+        × IsLineCount (from_be_bytes w32 bytes.now)) }
+{
+    let count = number_32(bytes, 0);
+    if count == 0 {
+        return None;
+    }
+    if count > MOST_LINES {
+        return None;
+    }
+    Some(count)
 }
 
 /// Reads the number of a schedule's lines, and drops the previous schedule's lines. Returns `Body`

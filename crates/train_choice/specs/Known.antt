@@ -11,7 +11,7 @@ use Rattle.docker_model.specs.state.Order.{bytes_cmp}
 use Rattle.docker_model.specs.state.Row.{Row, AreRowsOf}
 use Rattle.docker_model.specs.state.Table.{Table}
 use Rattle.docker_state.specs.Timetables.{Timetable}
-use Rattle.train_choice.specs.declared.day_trains.UidTrain.{UidTrain}
+use Rattle.train_choice.specs.declared.uid_train.UidTrain.{UidTrain}
 
 -- a timetable and a start day
 pub record StartDay : Type 0 where

@@ -1,10 +1,12 @@
 //! Chooses the schedule according to which a train runs on a day.
 ghost use Rattle.std.specs.Prelude.{◌≡◌, true, List, None, Some};
 ghost use Rattle.std.specs.Ordering.{on};
-ghost use Rattle.docker_model.specs.state.State.{live_table};
+ghost use Rattle.cif_change.specs.Meaning.{key_meant, body_meant};
+ghost use Rattle.docker_model.specs.state.State.{IsBodyOf, live_table};
 ghost use Rattle.docker_model.specs.file.File.{first_record};
 ghost use Rattle.docker_model.specs.docker.Choice.{schedule_choice_cmp, schedule_runs, Train, IsChosenOn};
 ghost use Rattle.docker_laws.specs.Best.{with_one_more};
+ghost use Rattle.docker_laws.specs.ChoiceWalk.{next_chosen};
 ghost use Rattle.docker_model.specs.state.Row.{Row, AreRowsOf};
 ghost use Rattle.docker_laws.specs.LiveRows.{is_running, train_in, unless_cancelled};
 ghost use Rattle.cif_line.specs.Letter.{stp_letter};
@@ -13,8 +15,11 @@ ghost use Rattle.train_choice.specs.Ranked.{is_cancellation};
 ghost use Rattle.docker_state.specs.Timetables.{live_in};
 
 use crate::ranked::is_better;
-use crate::rows::{schedule_of, schedules_of};
+use crate::rows::schedule_of;
 use crate::schedule_view::ScheduleView;
+use crate::uid_search::UidSearch;
+use crate::walks::schedules_of;
+use cif_change::{Body, Key};
 use cif_line::{Day, Stp, Uid};
 use docker_state::{State, Timetable, UidSchedules};
 
@@ -32,7 +37,8 @@ pub fn chosen<'a>(state: &'a State, uid: &Uid, day: Day) -> Option<ScheduleView<
 fn chosen_in<'a>(timetable: &Timetable<'a>, uid: &Uid, day: Day) -> Option<ScheduleView<'a>>
     ensures { IsChosenOn (live_in timetable.now) uid.now day result }
 {
-    best_of(None, schedules_of(timetable, uid, 0), uid, day)
+    let from = UidSearch::without_hint(timetable);
+    best_of(None, schedules_of(&from, uid), uid, day)
 }
 
 /// The train of a UID that starts on a day: the schedule chosen in a timetable, unless the chosen
@@ -64,22 +70,19 @@ pub fn is_cancellation(stp: Stp) -> bool
 }
 
 /// Like `train_on`, but for the UID of a schedule that is known to run on the day. The walk over
-/// the UID's schedules starts with that schedule as the best so far. `row` is a hint: the index of
-/// the row at which the search for the UID's schedules begins.
+/// the UID's schedules starts with that schedule as the best so far.
 pub(crate) fn train_from<'a>(
-    timetable: &Timetable<'a>,
-    row: usize,
+    from: &UidSearch<'a>,
     train: &ScheduleView<'a>,
     day: Day,
 ) -> Option<ScheduleView<'a>>
-    requires live { IsLiveTrain (live_in timetable.now) train.now }
+    requires live { IsLiveTrain (live_in from.now) train.now }
     requires runs { schedule_runs (first_record train.now.lines) day ≡ true }
-    ensures { (rows : List Row) → AreRowsOf (live_in timetable.now) rows
+    ensures { (rows : List Row) → AreRowsOf (live_in from.now) rows
         → result ≡ train_in rows train.now.key.uid day }
 {
     let uid = &train.key().uid;
-    let rows = schedules_of(timetable, uid, row);
-    unless_cancelled(best_of(Some(train.again()), rows, uid, day))
+    unless_cancelled(best_of(Some(train.again()), schedules_of(from, uid), uid, day))
 }
 
 /// Returns the best schedule of a UID on a day among `so_far` and the schedules in these rows.
@@ -94,11 +97,27 @@ fn best_of<'a>(
 {
     let mut found = so_far;
     for (key, body) in rows {
-        if let Some(view) = schedule_of(key, body) {
-            found = with_one(found, view, uid, day);
-        }
+        found = with_row(found, key, body, uid, day);
     }
     found
+}
+
+/// Returns the best schedule among `found` and the schedule in one row.
+fn with_row<'a>(
+    found: Option<ScheduleView<'a>>,
+    key: &'a Key,
+    body: &'a Body,
+    uid: &Uid,
+    day: Day,
+) -> Option<ScheduleView<'a>>
+    requires { IsBodyOf (key_meant key.now) (body_meant body.now) }
+    ensures { result ≡ next_chosen uid.now day found.entry (key_meant key.entry.now)
+        (body_meant body.entry.now) }
+{
+    match schedule_of(key, body) {
+        Some(view) => with_one(found, view, uid, day),
+        None => found,
+    }
 }
 
 /// Returns the better of `found` and one more schedule. If the new schedule wouldn't be better than

@@ -13,57 +13,17 @@ ghost use Rattle.train_choice.specs.Along.{link_along, AreGoodRows};
 ghost use Rattle.train_choice.specs.Known.{group_cmp, HasOneMore, PlaceDay, AreDayLinks};
 ghost use Rattle.docker_state.specs.Timetables.{live_in};
 
+use crate::link_group::LinkGroup;
 use crate::link_view::LinkView;
 use crate::ranked::is_better;
-use crate::rows::{association_of, associations_at};
+use crate::rows::association_of;
+use crate::walks::associations_at;
 use cif_change::{AssocKey, Body, Key};
 use cif_line::{Day, Line, Memory, Tiploc, Uid};
 use docker_state::{Timetable, TimetableRows};
 use std::alloc::Global;
 use std::collections::BTreeMap;
 use std::marker::Model;
-
-/// A group of associations: all associations with the same two trains, the same place and the same
-/// suffix. For each start day of the base train, at most one association of a group is chosen.
-#[derive(Clone, Copy, PartialEq, Eq, PartialOrd, Ord, Debug)]
-pub(crate) struct LinkGroup {
-    base: Uid,
-    associated: Uid,
-    location: Tiploc,
-    suffix: u8,
-}
-
-impl Model for LinkGroup {
-    ghost Value = { Group };
-
-    ghost view = { λ group. record {
-      base = group.base;
-      associated = group.associated;
-      location = group.location;
-      suffix = group.suffix;
-    } };
-
-    ghost inverse = { λ group. record {
-      base = group.base;
-      associated = group.associated;
-      location = group.location;
-      suffix = group.suffix;
-    } };
-}
-
-impl LinkGroup {
-    /// The group of the association with this key.
-    pub(crate) fn of(key: &AssocKey) -> LinkGroup
-        ensures { result ≡ group_of (association_key_meant key.now) }
-    {
-        LinkGroup {
-            base: key.base,
-            associated: key.associated,
-            location: key.location,
-            suffix: key.suffix,
-        }
-    }
-}
 
 /// The associations chosen at a place on a start day of their base trains, one for each group. Of a
 /// group's associations that run on the day, the one whose STP indicator is first in the alphabet
@@ -135,12 +95,7 @@ impl<'a> DayLinks<'a> {
               suffix = suffix;
             }) self.now.day) }
     {
-        let group = LinkGroup {
-            base: *base,
-            associated: *associated,
-            location: self.place,
-            suffix,
-        };
+        let group = LinkGroup::at(base, associated, &self.place, suffix);
         match self.best.get(&group) {
             Some(link) => Some(link.line()),
             None => None,

@@ -1,5 +1,5 @@
 //! The trains that start on a day. The train that was looked up last is remembered.
-ghost use Rattle.std.specs.Prelude.{◌≡◌, true, List, Some};
+ghost use Rattle.std.specs.Prelude.{◌≡◌, true, List, IfSome};
 ghost use Rattle.docker_model.specs.file.File.{first_record};
 ghost use Rattle.docker_model.specs.state.Row.{Row, AreRowsOf};
 ghost use Rattle.docker_model.specs.docker.Choice.{schedule_runs};
@@ -12,30 +12,12 @@ ghost use Rattle.docker_state.specs.Timetables.{live_in};
 
 use crate::choice::train_from;
 use crate::schedule_view::ScheduleView;
+use crate::uid_search::UidSearch;
+use crate::uid_train::UidTrain;
 use cif_change::ScheduleKey;
-use cif_line::{Day, Uid};
+use cif_line::Day;
 use docker_state::Timetable;
 use std::marker::Model;
-
-/// A UID, and the schedule according to which its train runs on a start day. The schedule is `None`
-/// if the train doesn't run on that day.
-#[derive(Debug, Drop)]
-pub(crate) struct UidTrain<'a> {
-    uid: Uid,
-    train: Option<ScheduleView<'a>>,
-}
-
-impl UidTrain<'_> {
-    /// Whether the train runs according to the schedule with this key.
-    fn runs_by(&self, key: &ScheduleKey) -> bool
-        ensures { result ≡ runs_by self.now.train (schedule_key_meant key.now) }
-    {
-        match &self.train {
-            Some(view) => view.key().cmp(key).is_eq(),
-            None => false,
-        }
-    }
-}
 
 /// The trains that start on a day. The train of the UID that was looked up last is remembered. In a
 /// walk over a state's rows, all schedules of a UID are consecutive, so each UID is searched for
@@ -82,30 +64,42 @@ impl<'a> DayTrains<'a> {
         ensures answer { (rows : List Row) → AreRowsOf (live_in self.old.timetable) rows
             → result ≡ runs_by (train_in rows train.now.key.uid self.old.day) train.now.key }
     {
-        let known = self.take(row, train);
-        let answer = known.runs_by(train.key());
-        self.last = Some(known);
-        answer
+        match self.known(train.key()) {
+            Some(answer) => answer,
+            None => self.look_up(row, train),
+        }
     }
 
-    /// Takes the train of this schedule's UID. If it isn't the train that was looked up last, the
-    /// schedules of the UID are searched.
-    fn take(&mut self, row: usize, train: &ScheduleView<'a>) -> UidTrain<'a>
+    /// Whether the train that was looked up last runs according to the schedule with this key.
+    /// Returns `None` if no train has been looked up, or if that train has another UID.
+    fn known(&self, key: &ScheduleKey) -> Option<bool>
+        ensures { IfSome result (λ answer. (rows : List Row)
+            → AreRowsOf (live_in self.now.timetable) rows
+            → answer ≡ runs_by (train_in rows key.now.uid self.now.day)
+            (schedule_key_meant key.now)) }
+    {
+        match &self.last {
+            Some(last) => last.asked(key),
+            None => None,
+        }
+    }
+
+    /// Like `runs_by`, but always searches the schedules of the UID. Remembers the train that was
+    /// found.
+    fn look_up(&mut self, row: usize, train: &ScheduleView<'a>) -> bool
         requires live { IsLiveTrain (live_in self.old.timetable) train.now }
         requires runs { schedule_runs (first_record train.now.lines) self.old.day ≡ true }
         ensures same { self.new ≡ self.old }
-        ensures known { IsKnownTrain (live_in self.old.timetable) self.old.day (Some result) }
-        ensures uid { result.uid ≡ train.now.key.uid }
+        ensures answer { (rows : List Row) → AreRowsOf (live_in self.old.timetable) rows
+            → result ≡ runs_by (train_in rows train.now.key.uid self.old.day) train.now.key }
     {
-        let uid = train.key().uid;
-        if let Some(last) = self.last.take() {
-            if last.uid == uid {
-                return last;
-            }
-        }
-        UidTrain {
-            uid,
-            train: train_from(&self.timetable, row, train, self.day),
-        }
+        let key = train.key();
+        let found = UidTrain {
+            uid: key.uid,
+            train: train_from(&UidSearch::at_row(&self.timetable, row), train, self.day),
+        };
+        let answer = found.runs_by(key);
+        self.last = Some(found);
+        answer
     }
 }

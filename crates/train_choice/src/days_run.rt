@@ -4,7 +4,7 @@ ghost use Rattle.docker_model.specs.records.Record.{HasKind, association, basic_
 ghost use Rattle.docker_model.specs.records.Field.{HasGoodFields, is_deletion};
 ghost use Rattle.docker_model.specs.records.Date.{is_end_date, is_days};
 ghost use Rattle.cif_line.specs.FieldRead.{field_at};
-ghost use Rattle.docker_model.specs.docker.Choice.{runs, association_runs};
+ghost use Rattle.docker_model.specs.docker.Choice.{runs, schedule_runs, association_runs};
 ghost use Rattle.train_choice.specs.Runs.{runs_until};
 
 use cif_line::{Day, Kind, Line, kind};
@@ -12,7 +12,6 @@ use cif_line::{Day, Kind, Line, kind};
 /// Whether a basic schedule (BS) or an association (AA) runs on a day. The day must be in the
 /// period from the record's first date to its last date, and the weekday of the day must be among
 /// the record's days run.
-#[tactic(auto, using(crate::proofs::RunFields::schedule_fields))]
 pub fn runs(line: &Line, day: Day) -> bool
     requires kind { HasKind basic_schedule line.now ⊎ HasKind association line.now }
     requires good { HasGoodFields line.now }
@@ -20,12 +19,21 @@ pub fn runs(line: &Line, day: Day) -> bool
     ensures { result ≡ runs line.now day }
 {
     match kind(line) {
-        Some(Kind::BasicSchedule) => {
-            (line.day(10).number() <= day.number()) & schedule_runs_on(line, day)
-        }
+        Some(Kind::BasicSchedule) => schedule_runs(line, day),
         Some(Kind::Association) => association_runs(line, day),
         _ => unreachable!(),
     }
+}
+
+/// Whether a basic schedule runs on a day.
+#[tactic(auto, using(crate::proofs::RunFields::schedule_fields))]
+fn schedule_runs(line: &Line, day: Day) -> bool
+    requires kind { HasKind basic_schedule line.now }
+    requires good { HasGoodFields line.now }
+    requires no_deletion { is_deletion line.now ≡ false }
+    ensures { result ≡ schedule_runs line.now day }
+{
+    (line.day(10).number() <= day.number()) & schedule_runs_on(line, day)
 }
 
 /// Whether a basic schedule runs on a day that isn't before its first date. The first date isn't
@@ -63,8 +71,16 @@ fn runs_until(line: &Line, last: usize, days: usize, day: Day) -> bool
     requires no_deletion { is_deletion line.now ≡ false }
     ensures { result ≡ runs_until (field_at last 6 line.now) (field_at days 7 line.now) day }
 {
-    if !line.days_unless_deleted(days).unwrap().on(day.weekday()) {
-        return false;
+    match line.days_unless_deleted(days) {
+        Some(days) => {
+            if !days.on(day.weekday()) {
+                return false;
+            }
+        }
+        None => unreachable!(),
     }
-    day.number() <= line.end_unless_deleted(last).unwrap().number()
+    match line.end_unless_deleted(last) {
+        Some(last) => day.number() <= last.number(),
+        None => unreachable!(),
+    }
 }

@@ -26,5 +26,12 @@ pub fn ends_of<'a>(train: &ScheduleView<'a>) -> Option<(&'a Line, &'a Line)>
 fn first_of<'a>(lines: &'a [Line], identity: &[u8; 2]) -> Option<&'a Line>
     ensures { option_copied result ≡ find (λ line. has_identity identity.now line) lines.entry.now }
 {
-    lines.iter().find(|line| line.bytes()[..2] == identity[..])
+    lines.iter().find(|line| has_identity(line, identity))
+}
+
+/// Whether the line has this record identity.
+fn has_identity(line: &Line, identity: &[u8; 2]) -> bool
+    ensures { result ≡ has_identity identity.now line.now }
+{
+    line.bytes()[..2] == identity[..]
 }

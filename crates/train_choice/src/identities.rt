@@ -52,9 +52,21 @@ impl<'a> Identities<'a> {
             → AreRowsOf (live_in self.old) rows
             → identity ≡ identity_of (train_in rows uid.now day)) }
     {
-        if let Some(identity) = self.known.get(&(*uid, day)) {
-            return Ok(*identity);
+        let known = self.known.get(&(*uid, day)).copied();
+        match known {
+            Some(identity) => Ok(identity),
+            None => self.look_up(uid, day),
         }
+    }
+
+    /// Like `identity`, but always searches the schedules of the UID. Remembers the identity that
+    /// was found.
+    fn look_up(&mut self, uid: &Uid, day: Day) -> Result<[u8; 4], Memory>
+        ensures same { self.new ≡ self.old }
+        ensures identity { IfOk result (λ identity. (rows : List Row)
+            → AreRowsOf (live_in self.old) rows
+            → identity ≡ identity_of (train_in rows uid.now day)) }
+    {
         let identity = identity_of(train_on(&self.timetable, uid, day));
         self.known.insert((*uid, day), identity)?;
         Ok(identity)

@@ -16,8 +16,8 @@ use std::marker::Model;
 /// A live association: its key and its record.
 #[derive(Debug, Drop)]
 pub struct LinkView<'a> {
-    pub(crate) key: &'a AssocKey,
-    pub(crate) line: &'a Line,
+    key: &'a AssocKey,
+    line: &'a Line,
 }
 
 impl<'a> Model for LinkView<'a> {
@@ -34,6 +34,17 @@ impl<'a> Model for LinkView<'a> {
 
 #[tactic(auto, using(crate::proofs::KeptLines::kept_line))]
 impl<'a> LinkView<'a> {
+    /// The association with this key and this record. The record has to fit the key.
+    pub(crate) fn of(key: &'a AssocKey, line: &'a Line) -> LinkView<'a>
+        requires { IsAssociationOf (association_key_meant key.now) line.now }
+        ensures { result ≡ record {
+          key = association_key_meant key.entry.now;
+          line = line.entry.now;
+        } }
+    {
+        LinkView { key, line }
+    }
+
     /// The association's key.
     pub fn key(&self) -> &'a AssocKey
         ensures { association_key_meant result.now ≡ self.now.key }
@@ -62,7 +73,10 @@ impl<'a> LinkView<'a> {
     pub fn record(&self) -> Assoc<'a>
         ensures { result ≡ self.now.line }
     {
-        assoc(self.line()).unwrap()
+        match assoc(self.line()) {
+            Ok(view) => view,
+            Err(_) => unreachable!(),
+        }
     }
 }
 

@@ -7,9 +7,9 @@ ghost use Rattle.train_choice.specs.Falls.{falls_among};
 ghost use Rattle.train_choice.specs.Midnights.{some_late, ascends, falls_along};
 ghost use Rattle.train_choice.specs.UpTo.{occurrences_to};
 
+use crate::events::Events;
 use crate::schedule_view::ScheduleView;
 use crate::times::EventTimes;
-use crate::walk::Events;
 use cif_line::{Line, Tiploc, kind};
 
 /// How often a train passes midnight between its start and an event: 0 to 2 times. Events are

@@ -1,5 +1,6 @@
 //! The order in which the schedules of a UID, or the associations of a group, are chosen.
 ghost use Rattle.std.specs.Prelude.{◌≡◌, ℕ};
+ghost use Rattle.std.specs.Ordering.{is_lt};
 ghost use Rattle.std.specs.Option.{option_copied};
 ghost use Rattle.train_choice.specs.Ranked.{is_better, rank_cmp, rank_meant};
 
@@ -15,19 +16,25 @@ pub(crate) trait Ranked {
         ensures { rank_meant result ≡ rank self.now };
 }
 
-/// Whether `more` is better than `best`, or there is no `best` yet. It is better if its STP
-/// indicator is earlier in the alphabet, or if both have the same indicator and `more` has the
-/// later first date.
+/// Whether `more` is better than `best`, or there is no `best` yet.
 pub(crate) fn is_better<R: Ranked>(more: &R, best: Option<&R>) -> bool
     ensures { result ≡ is_better (rank_cmp R.rank) more.now (option_copied best.entry) }
 {
-    let Some(best) = best else {
-        return true;
-    };
-    let (stp, first) = more.rank();
-    let (best_stp, best_first) = best.rank();
+    match best {
+        Some(best) => comes_before(more.rank(), best.rank()),
+        None => true,
+    }
+}
+
+/// Whether `one` comes before `other` in the order of choice. It does if its STP indicator is
+/// earlier in the alphabet, or if both have the same indicator and `one` has the later first date.
+fn comes_before(one: (Stp, Day), other: (Stp, Day)) -> bool
+    ensures { result ≡ is_lt (rank_cmp rank_meant one other) }
+{
+    let (stp, first) = one;
+    let (other_stp, other_first) = other;
     stp.letter()
-        .cmp(&best_stp.letter())
-        .then(best_first.number().cmp(&first.number()))
+        .cmp(&other_stp.letter())
+        .then(other_first.number().cmp(&first.number()))
         .is_lt()
 }

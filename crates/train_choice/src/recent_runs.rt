@@ -21,6 +21,18 @@ pub struct RecentRuns {
 }
 
 impl RecentRuns {
+    /// The value for a schedule that runs neither on the given day nor on one of the two days
+    /// before it.
+    pub(crate) fn never() -> RecentRuns
+        ensures { AreRecentRuns (λ back. false) result }
+    {
+        RecentRuns {
+            today: false,
+            day_before: false,
+            two_before: false,
+        }
+    }
+
     /// Whether the schedule runs on the given day or on one of the two days before it.
     pub fn is_some(&self) -> bool
         ensures { result ≡ (self.now.today || self.now.day_before || self.now.two_before) }
@@ -48,7 +60,10 @@ pub(crate) fn recent_runs_of(line: &Line, first: Day, day: Day) -> RecentRuns
     requires no_deletion { is_deletion line.now ≡ false }
     ensures { AreRecentRuns (runs_back_by_fields line.now first day) result }
 {
-    let days = line.days_unless_deleted(22).unwrap();
+    let days = match line.days_unless_deleted(22) {
+        Some(days) => days,
+        None => unreachable!(),
+    };
     let begun = RecentRuns {
         today: begun_back(&days, first, day, 0),
         day_before: begun_back(&days, first, day, 1),
@@ -57,11 +72,13 @@ pub(crate) fn recent_runs_of(line: &Line, first: Day, day: Day) -> RecentRuns
     if !begun.is_some() {
         return begun;
     }
-    let last = line.end_unless_deleted(16).unwrap().number();
-    RecentRuns {
-        today: begun.today & lasts_back(last, day, 0),
-        day_before: begun.day_before & lasts_back(last, day, 1),
-        two_before: begun.two_before & lasts_back(last, day, 2),
+    match line.end_unless_deleted(16) {
+        Some(last) => RecentRuns {
+            today: begun.today & lasts_back(last.number(), day, 0),
+            day_before: begun.day_before & lasts_back(last.number(), day, 1),
+            two_before: begun.two_before & lasts_back(last.number(), day, 2),
+        },
+        None => unreachable!(),
     }
 }
 

@@ -9,12 +9,13 @@ ghost use Rattle.docker_model.specs.docker.Event.{falls_to};
 ghost use Rattle.cif_change.specs.Meaning.{schedule_key_meant};
 ghost use Rattle.train_choice.specs.RecentRuns.{AreRecentRuns, may_run_recently, runs_back};
 ghost use Rattle.train_choice.specs.Occurrences.{occurrences};
-ghost use Rattle.train_choice.specs.UpTo.{names_place, occurrences_to, up_to_last};
+ghost use Rattle.train_choice.specs.UpTo.{occurrences_to, up_to_last};
 
 use crate::days_run::schedule_runs_on;
+use crate::events::Events;
 use crate::ranked::Ranked;
 use crate::recent_runs::{RecentRuns, recent_runs_of, runs_on_recent_weekday};
-use crate::walk::Events;
+use crate::up_to::up_to_last;
 use cif_change::{Lines, ScheduleKey};
 use cif_line::{Day, Line, Stp, Tiploc};
 use std::marker::Model;
@@ -22,8 +23,8 @@ use std::marker::Model;
 /// A live schedule: its key and its lines.
 #[derive(Debug, Drop)]
 pub struct ScheduleView<'a> {
-    pub(crate) key: &'a ScheduleKey,
-    pub(crate) lines: &'a Lines,
+    key: &'a ScheduleKey,
+    lines: &'a Lines,
 }
 
 impl<'a> Model for ScheduleView<'a> {
@@ -39,14 +40,22 @@ impl<'a> Model for ScheduleView<'a> {
 
 #[tactic(auto, using(crate::proofs::KeptLines::kept_lines))]
 impl<'a> ScheduleView<'a> {
+    /// The schedule with this key and these lines. The lines have to fit the key.
+    pub(crate) fn of(key: &'a ScheduleKey, lines: &'a Lines) -> ScheduleView<'a>
+        requires { IsScheduleOf (schedule_key_meant key.now) lines.now }
+        ensures { result ≡ record {
+          key = schedule_key_meant key.entry.now;
+          lines = lines.entry.now;
+        } }
+    {
+        ScheduleView { key, lines }
+    }
+
     /// Another view of the same schedule.
     pub(crate) fn again(&self) -> ScheduleView<'a>
         ensures { result ≡ self.now }
     {
-        ScheduleView {
-            key: self.key,
-            lines: self.lines,
-        }
+        ScheduleView::of(self.key, self.lines)
     }
 
     /// The key: the UID, the runs-from date and the STP indicator.
@@ -73,7 +82,10 @@ impl<'a> ScheduleView<'a> {
         ensures good { HasGoodFields result.now }
         ensures no_deletion { is_deletion result.now ≡ false }
     {
-        self.lines().first().unwrap()
+        match self.lines.as_slice().first() {
+            Some(line) => line,
+            None => unreachable!(),
+        }
     }
 
     /// Whether the schedule runs on a day. The call doesn't read the lines if the day is before the
@@ -90,11 +102,7 @@ impl<'a> ScheduleView<'a> {
         ensures { AreRecentRuns (runs_back self.now.lines day) result }
     {
         if begins_after(self.key, day) {
-            return RecentRuns {
-                today: false,
-                day_before: false,
-                two_before: false,
-            };
+            return RecentRuns::never();
         }
         recent_runs_of(self.first(), self.key.runs_from, day)
     }
@@ -153,26 +161,4 @@ fn begins_after(key: &ScheduleKey, day: Day) -> bool
     ensures { result ≡ nat_lt day (schedule_key_meant key.now).runs_from }
 {
     day.number() < key.runs_from.number()
-}
-
-/// The lines up to and including the last line at a place. No later line has an event at the place.
-/// The search begins at the end.
-fn up_to_last<'a>(lines: &'a [Line], place: &Tiploc) -> &'a [Line]
-    ensures { result.now ≡ up_to_last place.now lines.entry.now }
-{
-    let mut rest = lines;
-    while let Some((line, before)) = rest.split_last() {
-        if names_place(line, place) {
-            return rest;
-        }
-        rest = before;
-    }
-    rest
-}
-
-/// Whether the place is in columns 3 to 9 of the line, where a location record has its TIPLOC.
-fn names_place(line: &Line, place: &Tiploc) -> bool
-    ensures { result ≡ names_place place.now line.now }
-{
-    line.bytes()[2..9] == place.bytes()[..]
 }

@@ -2,7 +2,7 @@
 ghost use Rattle.std.specs.Prelude.{◌≡◌, ◌≤◌, [], length, option_map};
 ghost use Rattle.cif_line.specs.Kind.{meaning};
 ghost use Rattle.std.specs.Iterator.{YieldsFirstBy, item_count};
-ghost use Rattle.docker_model.specs.records.Record.{kind_of};
+ghost use Rattle.docker_model.specs.records.Record.{HasKind, kind_of, origin_location, intermediate_location, terminating_location};
 ghost use Rattle.docker_model.specs.records.Field.{HasGoodFields};
 ghost use Rattle.docker_model.specs.file.Journey.{timed, times_of};
 ghost use Rattle.docker_model.specs.file.Journey as journey;
@@ -31,9 +31,7 @@ impl EventTimes {
         }
     }
 
-    /// The times in a line. `kind` has to be the line's kind. An origin has only a departure, and a
-    /// terminus has only an arrival.
-    #[tactic(auto, using(crate::proofs::LineTimes::line_times))]
+    /// The times in a line. `kind` has to be the line's kind.
     pub(crate) fn of(kind: Option<Kind>, line: &Line) -> EventTimes
         requires kind { option_map meaning kind ≡ kind_of line.now }
         requires good { HasGoodFields line.now }
@@ -41,19 +39,9 @@ impl EventTimes {
         ensures few { length (times_meant result) ≤ 3 }
     {
         match kind {
-            Some(Kind::OriginLocation) => EventTimes {
-                departure: Some(line.present_time(11)),
-                ..EventTimes::none()
-            },
-            Some(Kind::IntermediateLocation) => EventTimes {
-                arrival: line.scheduled_time(11),
-                pass: line.scheduled_time(21),
-                departure: line.scheduled_time(16),
-            },
-            Some(Kind::TerminatingLocation) => EventTimes {
-                arrival: Some(line.present_time(11)),
-                ..EventTimes::none()
-            },
+            Some(Kind::OriginLocation) => origin_times(line),
+            Some(Kind::IntermediateLocation) => call_times(line),
+            Some(Kind::TerminatingLocation) => terminus_times(line),
             _ => EventTimes::none(),
         }
     }
@@ -96,5 +84,47 @@ impl Iterator for EventTimes {
         }
         let time = self.departure.take()?;
         Some((Occasion::Departure, time))
+    }
+}
+
+/// The times at an origin: only a departure.
+#[tactic(auto, using(crate::proofs::LineTimes::line_times))]
+fn origin_times(line: &Line) -> EventTimes
+    requires kind { HasKind origin_location line.now }
+    requires good { HasGoodFields line.now }
+    ensures { times_meant result ≡ times_of line.now }
+{
+    EventTimes {
+        arrival: None,
+        pass: None,
+        departure: Some(line.present_time(11)),
+    }
+}
+
+/// The times at an intermediate location, which may have an arrival, a pass and a departure.
+#[tactic(auto, using(crate::proofs::LineTimes::line_times))]
+fn call_times(line: &Line) -> EventTimes
+    requires kind { HasKind intermediate_location line.now }
+    requires good { HasGoodFields line.now }
+    ensures { times_meant result ≡ times_of line.now }
+{
+    EventTimes {
+        arrival: line.scheduled_time(11),
+        pass: line.scheduled_time(21),
+        departure: line.scheduled_time(16),
+    }
+}
+
+/// The times at a terminus: only an arrival.
+#[tactic(auto, using(crate::proofs::LineTimes::line_times))]
+fn terminus_times(line: &Line) -> EventTimes
+    requires kind { HasKind terminating_location line.now }
+    requires good { HasGoodFields line.now }
+    ensures { times_meant result ≡ times_of line.now }
+{
+    EventTimes {
+        arrival: Some(line.present_time(11)),
+        pass: None,
+        departure: None,
     }
 }

@@ -1,19 +1,18 @@
-//! The events of a schedule, found by a walk over its lines.
-ghost use Rattle.std.specs.Prelude.{◌≡◌, ℕ, ◌+◌, ◌^◌, ◌<◌, ◌≤◌, None, All, List, length, option_map};
+//! A walk over the lines of a schedule, line by line.
+ghost use Rattle.std.specs.Prelude.{◌≡◌, ℕ, ◌+◌, ◌≤◌, [], None, length, option_map};
 ghost use Rattle.cif_line.specs.Kind.{meaning};
-ghost use Rattle.std.specs.Iterator.{YieldsFirstBy, item_count};
+ghost use Rattle.std.specs.Iterator.{YieldsFirstBy};
 ghost use Rattle.docker_model.specs.records.Record.{kind_of};
 ghost use Rattle.docker_model.specs.records.Field.{HasGoodFields};
 ghost use Rattle.docker_model.specs.file.Journey.{times_of};
 ghost use Rattle.docker_laws.specs.EventWalk.{fall_at};
 ghost use Rattle.train_choice.specs.Meaning.{times_meant};
-ghost use Rattle.train_choice.specs.Occurrences.{Occurrence as Event, occurrences_from, turned, identity_after};
-ghost use Rattle.train_choice.specs.EventWalk.{CanWalk, HasRoom, events_here, events_left, occurrence_meant, progress_after_line, progress_of};
+ghost use Rattle.train_choice.specs.Occurrences.{turned, identity_after};
+ghost use Rattle.train_choice.specs.EventWalk.{occurrence_meant, progress_of, events_here, progress_after_line, HasRoom};
 
 use crate::occasion::Occasion;
 use crate::times::EventTimes;
 use cif_line::{Kind, Line, Time, change, kind};
-use std::marker::Model;
 
 /// An event of a schedule, with the data that a walk over the lines computes for it.
 #[derive(Clone, Copy, Debug)]
@@ -46,8 +45,25 @@ pub(crate) struct EventWalk<'a> {
 }
 
 impl<'a> EventWalk<'a> {
+    /// A walk before its first line. `basic` is the schedule's first line, and `identity` is the
+    /// train identity at the start.
+    pub(crate) fn new(basic: &'a Line, identity: &'a [u8; 4]) -> EventWalk<'a>
+        ensures times { times_meant result.times ≡ [] }
+        ensures progress { progress_of result
+            ≡ record { number = 1; falls = 0; last = None; identity = identity.entry.now } }
+    {
+        EventWalk {
+            line: basic,
+            times: EventTimes::none(),
+            number: 1,
+            falls: 0,
+            last: None,
+            identity,
+        }
+    }
+
     /// Moves to the next line.
-    fn advance(&mut self, line: &'a Line)
+    pub(crate) fn advance(&mut self, line: &'a Line)
         requires good { HasGoodFields line.now }
         ensures line { self.new.line ≡ line.entry }
         ensures times { times_meant self.new.times ≡ times_of line.entry.now }
@@ -61,7 +77,7 @@ impl<'a> EventWalk<'a> {
     }
 
     /// The next event of the current line, or `None` if the line has no further events.
-    fn next_event(&mut self) -> Option<Occurrence<'a>>
+    pub(crate) fn next_event(&mut self) -> Option<Occurrence<'a>>
         requires room { HasRoom self.old 0 }
         ensures event { YieldsFirstBy occurrence_meant events_here self.old result self.new }
         ensures behind { progress_after_line self.new ≡ progress_after_line self.old }
@@ -84,64 +100,6 @@ impl<'a> EventWalk<'a> {
     }
 }
 
-/// An iterator over the events of a schedule.
-#[derive(Debug, Drop)]
-pub struct Events<'a> {
-    walk: EventWalk<'a>,
-    lines: &'a [Line],
-}
-
-impl<'a> Model for Events<'a> {
-    ghost Value = { List Event };
-
-    ghost view = { λ events. events_left events.walk events.lines.now };
-
-    ghost invariant = { λ events. CanWalk events.walk events.lines.now };
-}
-
-impl<'a> Events<'a> {
-    /// The events of these lines. `basic` is the first line of the schedule, and `identity` is the
-    /// train identity in that line.
-    pub(crate) fn of(basic: &'a Line, identity: &'a [u8; 4], lines: &'a [Line]) -> Events<'a>
-        requires good { All HasGoodFields lines.now }
-        requires few { length lines.now < 2 ^ 32 }
-        ensures { result ≡ occurrences_from
-            (record { number = 1; falls = 0; last = None; identity = identity.entry.now })
-            lines.entry.now }
-    {
-        Events {
-            walk: EventWalk {
-                line: basic,
-                times: EventTimes::none(),
-                number: 1,
-                falls: 0,
-                last: None,
-                identity,
-            },
-            lines,
-        }
-    }
-}
-
-impl<'a> Iterator for Events<'a> {
-    type Item = Occurrence<'a>;
-
-    ghost next_gives = { YieldsFirstBy occurrence_meant (λ events. events) };
-
-    ghost remaining = { item_count (λ events. events) };
-
-    fn next(&mut self) -> Option<Occurrence<'a>> {
-        'lines: loop {
-            if let Some(event) = self.walk.next_event() {
-                return Some(event);
-            }
-            let (line, rest) = self.lines.split_first()?;
-            self.lines = rest;
-            self.walk.advance(line);
-        }
-    }
-}
-
 /// Returns 1 if `time` is below the previous time, because the train then passes midnight between
 /// the two times. Otherwise returns 0.
 fn fall(last: Option<Time>, time: Time) -> u64
@@ -161,7 +119,10 @@ fn identity_after<'a>(kind: Option<Kind>, line: &'a Line, identity: &'a [u8; 4])
     ensures { result.now ≡ identity_after line.entry.now identity.entry.now }
 {
     match kind {
-        Some(Kind::ChangeEnRoute) => change(line).unwrap().identity(),
+        Some(Kind::ChangeEnRoute) => match change(line) {
+            Ok(view) => view.identity(),
+            Err(_) => unreachable!(),
+        },
         _ => identity,
     }
 }

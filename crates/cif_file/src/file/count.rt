@@ -9,9 +9,9 @@ use std::marker::Model;
 /// The header of a CIF file, with the numbers of its records and of its changes.
 #[derive(Debug, Drop)]
 pub struct FileCount {
-    pub(crate) header: HeaderLine,
-    pub(crate) records: u32,
-    pub(crate) changes: u64,
+    header: HeaderLine,
+    records: u32,
+    changes: u64,
 }
 
 impl Model for FileCount {
@@ -31,6 +31,26 @@ impl Model for FileCount {
 }
 
 impl FileCount {
+    /// Makes a `FileCount` from a file's header and counts.
+    pub(crate) fn of(header: HeaderLine, records: u32, changes: u64) -> FileCount
+        requires counted { IsCounted (record {
+          header_line = header;
+          record_count = records;
+          change_count = changes;
+        }) }
+        ensures { result ≡ record {
+          header_line = header;
+          record_count = records;
+          change_count = changes;
+        } }
+    {
+        FileCount {
+            header,
+            records,
+            changes,
+        }
+    }
+
     /// A view of the header.
     pub fn header(&self) -> Header<'_>
         ensures { result ≡ self.now.header_line }

@@ -50,10 +50,11 @@ impl Ended<CountingKeeper> {
         requires { IsCounted (count_ended self) }
         ensures { result ≡ count_ended self }
     {
-        FileCount {
-            header: self.header,
-            records: self.records,
-            changes: self.keeper.changes,
-        }
+        let Ended {
+            header,
+            records,
+            keeper,
+        } = self;
+        FileCount::of(header, records, keeper.count())
     }
 }

@@ -9,7 +9,7 @@ use std::marker::Model;
 /// The line of a header whose checked fields are good.
 #[derive(Debug, Drop)]
 pub struct HeaderLine {
-    pub(crate) line: Line,
+    line: Line,
 }
 
 impl Model for HeaderLine {
@@ -21,6 +21,13 @@ impl Model for HeaderLine {
 }
 
 impl HeaderLine {
+    /// Copies the line of this header.
+    pub(crate) fn of(view: &Header<'_>) -> HeaderLine
+        ensures { result ≡ view.now }
+    {
+        HeaderLine { line: *view.line() }
+    }
+
     /// A view of the header.
     pub fn view(&self) -> Header<'_>
         ensures { result ≡ self.now }

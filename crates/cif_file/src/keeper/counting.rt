@@ -1,4 +1,5 @@
 //! The keeper that only counts the changes of a file.
+ghost use Rattle.std.specs.Prelude.{◌≡◌, []};
 ghost use Rattle.cif_file.specs.KeeperRead.{CountsChanges};
 
 use crate::keeper::ChangeKeeper;
@@ -11,7 +12,23 @@ use std::alloc::AllocError;
 /// most two changes, so the 64-bit count never overflows.
 #[derive(Debug, Drop)]
 pub(crate) struct CountingKeeper {
-    pub(crate) changes: u64,
+    changes: u64,
+}
+
+impl CountingKeeper {
+    /// A `CountingKeeper` that has counted no change yet.
+    pub(crate) fn new() -> CountingKeeper
+        ensures { CountsChanges result [] [] }
+    {
+        CountingKeeper { changes: 0 }
+    }
+
+    /// How many changes were counted.
+    pub(crate) fn count(&self) -> u64
+        ensures { result ≡ self.now.changes }
+    {
+        self.changes
+    }
 }
 
 impl ChangeKeeper for CountingKeeper {

@@ -43,13 +43,7 @@ pub fn changes_of(number: u32, single: &Single<'_>) -> SingleChanges
 {
     match single {
         Single::TiplocInsert(view) => by_itself(tiploc_put(number, view.code(), view)),
-        Single::TiplocAmend(view) => match other_code(view) {
-            None => by_itself(tiploc_put(number, view.code(), view)),
-            Some(code) => SingleChanges {
-                first: Some(tiploc_deleted(number, view)),
-                last: tiploc_put(number, code, view),
-            },
-        },
+        Single::TiplocAmend(view) => changes_amended(number, view),
         Single::TiplocDelete(view) => by_itself(tiploc_deleted(number, view)),
         Single::Association(view) => by_itself(association_change(number, view)),
     }
@@ -65,6 +59,22 @@ fn by_itself(change: Change) -> SingleChanges
     }
 }
 
+/// The changes of a TIPLOC amendment. If the amendment gives the TIPLOC another code, the first
+/// change deletes the old code, and the last change puts the TIPLOC's details under the new code.
+fn changes_amended(number: u32, view: &TiplocRecord<'_>) -> SingleChanges
+    requires { HasKind tiploc_amend view.now }
+    ensures changes { listed result ≡ changes_of_record number view.now [] }
+    ensures no_schedule { PutNoSchedules result }
+{
+    match other_code(view) {
+        None => by_itself(tiploc_put(number, view.code(), view)),
+        Some(code) => SingleChanges {
+            first: Some(tiploc_deleted(number, view)),
+            last: tiploc_put(number, code, view),
+        },
+    }
+}
+
 /// How many changes the record makes.
 pub(crate) fn count_changes(single: &Single<'_>) -> u64
     requires { HasKind (kind_of_single single.now) (line_of_single single.now) }
@@ -72,11 +82,21 @@ pub(crate) fn count_changes(single: &Single<'_>) -> u64
         result ≡ length (changes_of_record number (line_of_single single.now) []) }
 {
     match single {
-        Single::TiplocAmend(view) => match other_code(view) {
-            None => 1,
-            Some(_) => 2,
-        },
-        Single::TiplocInsert(_) | Single::TiplocDelete(_) | Single::Association(_) => 1,
+        Single::TiplocInsert(_) => 1,
+        Single::TiplocAmend(view) => count_amended(view),
+        Single::TiplocDelete(_) => 1,
+        Single::Association(_) => 1,
+    }
+}
+
+/// How many changes a TIPLOC amendment makes.
+fn count_amended(view: &TiplocRecord<'_>) -> u64
+    requires { HasKind tiploc_amend view.now }
+    ensures { (number : ℕ) → result ≡ length (changes_of_record number view.now []) }
+{
+    match other_code(view) {
+        None => 1,
+        Some(_) => 2,
     }
 }
 

@@ -34,7 +34,10 @@ pub(crate) fn is_trailer(bytes: &[u8]) -> bool
     let Some(line) = Line::of(bytes) else {
         return false;
     };
-    matches!(kind(&line), Some(Kind::Trailer))
+    match kind(&line) {
+        Some(Kind::Trailer) => true,
+        _ => false,
+    }
 }
 
 /// Takes the next line, given its number, which must be within the limit on records.

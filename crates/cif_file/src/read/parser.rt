@@ -1,10 +1,9 @@
 //! The parser of a CIF file that arrives in pieces.
-ghost use Rattle.std.specs.Prelude.{◌≡◌, ◌≢◌, ◌+◌, ◌-◌, ◌^◌, ◌<◌, ◌≤◌, ◌↔◌, length, map, IsTrue, [], ◌∷◌, ◌++◌, IsOk, IfOk, IfErr, OnOk, Err};
-ghost use Rattle.std.specs.List.{concat};
+ghost use Rattle.std.specs.Prelude.{◌≡◌, ◌≢◌, ◌+◌, ◌-◌, ◌^◌, ◌<◌, ◌≤◌, ◌↔◌, length, IsTrue, [], ◌∷◌, ◌++◌, IsOk, IfOk, IfErr, OnOk, Err};
 ghost use Rattle.docker_model.specs.records.Record.{HasKind, IsRecord, trailer};
 ghost use Rattle.cif_laws.specs.CompleteLines.{HasNoFeed};
-ghost use Rattle.cif_file.specs.ParserRead.{HasRead, HasFailed, HasNotFailed, IsReading, IsOfFileText, IsRefused, EndsBy, IsLater, NamesLater, IsLast};
-ghost use Rattle.cif_file.specs.ParserRead.{NamesLast, GoesOn, TakesUpTo, TellsFault, TellsNoFault, EndsAs, EndsInFault, ParserState, WasFed};
+ghost use Rattle.cif_file.specs.ParserRead.{HasRead, HasFailed, HasNotFailed, IsReading, EndsBy, IsLater, NamesLater, IsLast};
+ghost use Rattle.cif_file.specs.ParserRead.{NamesLast, GoesOn, TakesUpTo, TellsFault, TellsNoFault, EndsAs, EndsInFault};
 
 use crate::fault::FileFault;
 use crate::file::CifFile;
@@ -48,12 +47,17 @@ fn fault_at_end(fault: FileFault, line: &[u8]) -> FileFault
         ¬ HasKind trailer line.now → fault.number < 2 ^ 32 - 1 →
         result ≡ record { number = fault.number + 1; cause = FileCause.NoEnd } }
 {
-    if fault.cause != FileCause::Memory || is_trailer(line) {
-        return fault;
-    }
-    FileFault {
-        number: fault.number.saturating_add(1),
-        cause: FileCause::NoEnd,
+    match fault.cause {
+        FileCause::Memory => {
+            if is_trailer(line) {
+                return fault;
+            }
+            FileFault {
+                number: fault.number.saturating_add(1),
+                cause: FileCause::NoEnd,
+            }
+        }
+        _ => fault,
     }
 }
 
@@ -84,7 +88,7 @@ impl<K: ChangeKeeper> FileReading<K> {
             return self.records.take(without_return(front));
         }
         if !extend(&mut self.partial, front) {
-            return Err(self.records.refused(FileCause::Length));
+            return Err(self.records.too_long());
         }
         let taken = self.records.take(without_return(self.partial.as_slice()));
         self.partial.clear();
@@ -100,7 +104,7 @@ impl<K: ChangeKeeper> FileReading<K> {
         ensures later { IfErr result (IsLater K.keeps K.wants self.old) }
     {
         if !extend(&mut self.partial, more) {
-            return Err(self.records.refused(FileCause::Length));
+            return Err(self.records.too_long());
         }
         Ok(())
     }
@@ -174,6 +178,8 @@ pub struct FileParser {
 }
 
 impl Model for FileParser {
+    ghost use Rattle.cif_file.specs.ParserRead.{ParserState, WasFed};
+
     ghost Value = { ParserState };
 
     ghost view = { λ parser. record { reading = parser.reading; fault = parser.fault } };
@@ -234,23 +240,10 @@ impl FileParser {
     {
         match self.fault {
             Some(fault) => Err(fault),
-            None => Ok(self.reading.end()?.into_file()),
+            None => match self.reading.end() {
+                Ok(ended) => Ok(ended.into_file()),
+                Err(fault) => Err(fault),
+            },
         }
     }
-}
-
-/// Reads the file that the pieces form when they are joined. It may have at most `limit` records.
-/// The result doesn't depend on where the text is cut into pieces.
-pub fn read_pieces(alloc: Global, pieces: &[&[u8]], limit: u32) -> Result<CifFile, FileFault>
-    requires { limit ≤ MOST_RECORDS }
-    ensures ok { IfOk result (λ file.
-        IsOfFileText file limit (concat (map (λ piece. piece.now) pieces.now))) }
-    ensures err { IfErr result (λ fault.
-        IsRefused limit (concat (map (λ piece. piece.now) pieces.now)) fault) }
-{
-    let mut parser = FileParser::new(alloc, limit);
-    for piece in pieces {
-        parser.feed(piece)?;
-    }
-    parser.finish()
 }

@@ -1,23 +1,7 @@
 -- The tactic `auto` proves these goals too. Here they are proved by hand, so that the prover
 -- refuses a wrong body without a long search.
 use Rattle.cif_laws.proofs.Common.{rules}
-use Rattle.cif_line.proofs.Leftmost.{assoc_faults, reads_bad}
 use Rattle.cif_line.proofs.read.assoc.Goals as goal
 
-pub returns-then-not-is_transaction : goal.returns-then-not-is_transaction
-returns-then-not-is_transaction c = reads_bad _ _ (search (rules, assoc_faults))
-
-pub returns-then-not-is_date : goal.returns-then-not-is_date
-returns-then-not-is_date c = reads_bad _ _ (search (rules, assoc_faults))
-
-pub returns-then-not-is_end_date : goal.returns-then-not-is_end_date
-returns-then-not-is_end_date c = reads_bad _ _ (search (rules, assoc_faults))
-
-pub returns-then-not-is_days : goal.returns-then-not-is_days
-returns-then-not-is_days c = reads_bad _ _ (search (rules, assoc_faults))
-
-pub returns-then-not-is_tiploc : goal.returns-then-not-is_tiploc
-returns-then-not-is_tiploc c = reads_bad _ _ (search (rules, assoc_faults))
-
-pub returns-then-not-is_stp_indicator : goal.returns-then-not-is_stp_indicator
-returns-then-not-is_stp_indicator c = reads_bad _ _ (search (rules, assoc_faults))
+pub returns-in-None : goal.returns-in-None
+returns-in-None c = search rules

@@ -18,7 +18,7 @@ returns-clause-times c =
     let times : c.read-fields.result.are_good ≡ times_joined c.args.line.now = search rules in
     let good = times_good c.args.line.now c.is_tiploc.result c.read-fields.result.are_good c.if-not-are_good.false times in
     record {
-      arrival = told_read (columns 11 15 c.args.line.now) c.read-fields.result.times.arrival good.0 (search rules);
-      departure = told_read (columns 16 20 c.args.line.now) c.read-fields.result.times.departure good.1 (search rules);
-      pass = told_read (columns 21 25 c.args.line.now) c.read-fields.result.times.pass good.2 (search rules);
+      arrival = told_read (columns 11 15 c.args.line.now) c.read-fields.result.arrival good.0 (search rules);
+      departure = told_read (columns 16 20 c.args.line.now) c.read-fields.result.departure good.1 (search rules);
+      pass = told_read (columns 21 25 c.args.line.now) c.read-fields.result.pass good.2 (search rules);
     }

@@ -1,14 +1,7 @@
 -- The tactic `auto` proves these goals too. Here they are proved by hand, so that the prover
 -- refuses a wrong body without a long search.
 use Rattle.cif_laws.proofs.Common.{rules}
-use Rattle.cif_line.proofs.Leftmost.{header_faults, reads_bad}
 use Rattle.cif_line.proofs.read.header.Goals as goal
 
-pub returns-then-not-is_date_day_first : goal.returns-then-not-is_date_day_first
-returns-then-not-is_date_day_first c = reads_bad _ _ (search (rules, header_faults))
-
-pub returns-then-not-is_clock : goal.returns-then-not-is_clock
-returns-then-not-is_clock c = reads_bad _ _ (search (rules, header_faults))
-
-pub returns-then-not-is_update_indicator : goal.returns-then-not-is_update_indicator
-returns-then-not-is_update_indicator c = reads_bad _ _ (search (rules, header_faults))
+pub returns-in-None : goal.returns-in-None
+returns-in-None c = search rules

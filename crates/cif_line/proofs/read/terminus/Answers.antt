@@ -3,5 +3,5 @@
 use Rattle.cif_laws.proofs.Common.{rules}
 use Rattle.cif_line.proofs.read.terminus.Goals as goal
 
-pub returns-in-Some : goal.returns-in-Some
-returns-in-Some c = search rules
+pub returns-in-Ok : goal.returns-in-Ok
+returns-in-Ok c = search rules

@@ -1,11 +1,7 @@
 -- The tactic `auto` proves these goals too. Here they are proved by hand, so that the prover
 -- refuses a wrong body without a long search.
 use Rattle.cif_laws.proofs.Common.{rules}
-use Rattle.cif_line.proofs.Leftmost.{tiploc_faults, reads_bad}
 use Rattle.cif_line.proofs.read.tiploc.Goals as goal
 
-pub returns-then-not-is_tiploc : goal.returns-then-not-is_tiploc
-returns-then-not-is_tiploc c = reads_bad _ _ (search (rules, tiploc_faults))
-
-pub returns-then-not-is_new_tiploc : goal.returns-then-not-is_new_tiploc
-returns-then-not-is_new_tiploc c = reads_bad _ _ (search (rules, tiploc_faults))
+pub returns-in-None : goal.returns-in-None
+returns-in-None c = search rules

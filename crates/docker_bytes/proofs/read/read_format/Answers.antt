@@ -4,7 +4,7 @@ use Rattle.state_text.specs.FormatMeaning.{format_meant}
 use Rattle.docker_bytes.specs.ReadEnds.{CountsWhy, IsWhyUnread, StopsReading}
 use Rattle.docker_bytes.specs.SourceRead.{WantsSoFar}
 use Rattle.docker_bytes.specs.StateReading.{IsMadeOf}
-use Rattle.docker_bytes.proofs.ReadLemmas.{unread, as_asked, ended_with, ends_early, ends_whole}
+use Rattle.docker_bytes.proofs.ReadLemmas.{unread, as_asked, ends_early, ends_whole}
 use Rattle.docker_bytes.proofs.read.read_format.Goals as goal
 
 pub read_pieces-requires-clause-unread : goal.read_pieces-requires-clause-unread
@@ -13,12 +13,8 @@ read_pieces-requires-clause-unread g c = unread c.new-parser.result (format_mean
 pub returns-clause-reads : goal.returns-clause-reads
 returns-clause-reads g c =
     let read = rw (c.new-parser.ensures.format_is, c.new-parser.ensures.limit_is) at c.in_ok-read_pieces.ensures.reads in
-    let format = format_meant c.args.format in
-    ends_whole _ _ _ _ c.read_pieces.new.parser _ _ (IsMadeOf g.K.Maker.makes format c.args.limit) _ c.map_err.result read
-    (λ text has. ended_with format c.args.limit text (IsMadeOf g.K.Maker.makes format c.args.limit text) _
-    (λ found told post. post) c.finish.result c.map_err.result
-    (c.finish.ensures.ok format c.args.limit text has) (c.finish.ensures.err format c.args.limit text has) c.map_err.ensures.cases)
-    (λ text made held of. record { text = text; held = held; of = of })
+    ends_whole _ _ _ _ c.read_pieces.new.parser _ _ (IsMadeOf g.K.Maker.makes (format_meant c.args.format) c.args.limit) _ c.finish.result read
+    (c.finish.ensures (format_meant c.args.format) c.args.limit) (λ text made held of. record { text = text; held = held; of = of })
 
 pub returns-in_err-read_pieces-clause-reads : goal.returns-in_err-read_pieces-clause-reads
 returns-in_err-read_pieces-clause-reads g c =

@@ -1,7 +1,7 @@
 use Rattle.cif_laws.proofs.Common.{◌≡◌, Err, ap, subst, err_from_is_err_and}
 use Rattle.docker_cmd.specs.Words.{texts}
 use Rattle.docker_cmd.specs.Job.{AskNothing}
-use Rattle.docker_cmd.specs.declared.fault.JobFault.TheVariants.{Usage}
+use Rattle.docker_cmd.specs.declared.job_fault.JobFault.TheVariants.{Usage}
 use Rattle.docker_cmd.proofs.JobOfWordsLemmas.{asks_nothing, no_subcommand}
 use Rattle.docker_cmd.proofs.job_of_words.found_job.Goals as goal
 

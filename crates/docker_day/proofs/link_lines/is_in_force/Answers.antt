@@ -1,5 +1,4 @@
-use Rattle.cif_laws.proofs.Common.{◌&&◌, not, ap, sym, ◌∙◌, AssociationKey, association_runs, column, group_of}
-use Rattle.docker_model.specs.docker.Association.{is_date_indicator}
+use Rattle.cif_laws.proofs.Common.{◌&&◌, not, ap, sym, ◌∙◌, AssociationKey, association_runs, group_of}
 use Rattle.docker_laws.specs.Gathering.{counts_as}
 use Rattle.docker_laws.specs.LiveRows.{link_in}
 use Rattle.train_choice.specs.Ranked.{is_cancellation}
@@ -10,8 +9,7 @@ pub returns : goal.returns
 returns c = λ rows are.
     let counts = c.counts.ensures rows are ∙ ap (λ (key : AssociationKey). counts_as (link_in rows (group_of key) c.args.visit.now.start) key) c.key.ensures in
     let stands = ap not c.is_cancellation.ensures ∙ ap (λ (key : AssociationKey). not (is_cancellation key.indicator)) c.key-2.ensures in
-    let indicates = c.is_date_indicator.ensures ∙ ap is_date_indicator (c.date_indicator.ensures ∙ ap (column 37) c.record.ensures) in
-    λ i. (counts i && stands i) && indicates i
+    λ i. (counts i && stands i) && c.has_indicator.ensures i
 
 pub returns-then-not-runs_on : goal.returns-then-not-runs_on
 returns-then-not-runs_on c = λ rows are. not_in_force _ _ _ _ are c.requires.live

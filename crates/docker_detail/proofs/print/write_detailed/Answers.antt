@@ -1,4 +1,4 @@
-use Rattle.cif_laws.proofs.Common.{ap, ◌+◌, ◌∙◌, refl, flat_map, on_ok_weaker, on_err_weaker, detailed_line, ended, last_line}
+use Rattle.cif_laws.proofs.Common.{ap, ◌+◌, ◌∙◌, refl, flat_map, on_ok_weaker, on_err_weaker, detailed_line, ended}
 use Rattle.docker_detail.specs.Finding.{Detailed}
 use Rattle.docker_day.proofs.Written.{as_often, last_failed, on_any_err, one_failed, all_taken, part_of_first, part_of_second, part_of_third}
 use Rattle.docker_detail.proofs.Printed.{printed, heading_is}
@@ -7,26 +7,26 @@ use Rattle.docker_detail.proofs.print.write_detailed.Goals as goal
 pub returns-in_err-write_all-clause-part : goal.returns-in_err-write_all-clause-part
 returns-in_err-write_all-clause-part g c =
     on_any_err _ (part_of_first _ _ (g.K.Sink.taken c.write_all.new.sink) (g.K.Sink.taken c.write_all.new.sink) _ _ _ _ _ _ (heading_is _ _ _ _ _ _ _
-    c.place.ensures c.day.ensures c.description.ensures (c.padded.ensures _ c.heading-heading.ensures)) refl refl c.in_err-write_all.ensures.part)
+    c.place.ensures c.day.ensures c.description.ensures c.padded_heading-heading.ensures) refl refl c.in_err-write_all.ensures.part)
 
 pub returns-in_err-write_lines-clause-part : goal.returns-in_err-write_lines-clause-part
 returns-in_err-write_lines-clause-part g c =
     on_any_err _ (part_of_second _ _ _ (g.K.Sink.taken c.write_lines.new.sink) _ _ _ _ _ _ (heading_is _ _ _ _ _ _ _
-    c.place.ensures c.day.ensures c.description.ensures (c.padded.ensures _ c.heading-heading.ensures))
+    c.place.ensures c.day.ensures c.description.ensures c.padded_heading-heading.ensures)
     (ap (flat_map (λ (line : Detailed). ended (detailed_line line))) c.lines.ensures) refl c.in_ok-write_all.ensures.whole c.in_err-write_lines.ensures.part)
 
 pub returns-clause-whole : goal.returns-clause-whole
 returns-clause-whole g c =
     on_ok_weaker c.write_all-2.result (all_taken _ _ _ _ _ _ _ _ _ _ (heading_is _ _ _ _ _ _ _
-    c.place.ensures c.day.ensures c.description.ensures (c.padded.ensures _ c.heading-heading.ensures))
-    (ap (flat_map (λ (line : Detailed). ended (detailed_line line))) c.lines.ensures) (c.padded-2.ensures last_line c.last_line.ensures)
+    c.place.ensures c.day.ensures c.description.ensures c.padded_heading-heading.ensures)
+    (ap (flat_map (λ (line : Detailed). ended (detailed_line line))) c.lines.ensures) c.padded_last_line.ensures
     c.in_ok-write_all.ensures.whole c.in_ok-write_lines.ensures.whole) c.write_all-2.ensures.whole
 
 pub returns-clause-part : goal.returns-clause-part
 returns-clause-part g c =
     on_err_weaker c.write_all-2.result (part_of_third _ _ _ _ _ _ _ _ _ _ (heading_is _ _ _ _ _ _ _
-    c.place.ensures c.day.ensures c.description.ensures (c.padded.ensures _ c.heading-heading.ensures))
-    (ap (flat_map (λ (line : Detailed). ended (detailed_line line))) c.lines.ensures) (c.padded-2.ensures last_line c.last_line.ensures)
+    c.place.ensures c.day.ensures c.description.ensures c.padded_heading-heading.ensures)
+    (ap (flat_map (λ (line : Detailed). ended (detailed_line line))) c.lines.ensures) c.padded_last_line.ensures
     c.in_ok-write_all.ensures.whole c.in_ok-write_lines.ensures.whole) c.write_all-2.ensures.part
 
 pub returns-clause-text : goal.returns-clause-text

@@ -1,7 +1,5 @@
-use Rattle.cif_laws.proofs.Common.{rules, filter_same, bytes_eq-Decides}
+use Rattle.cif_laws.proofs.Common.{rules, filter_same}
 use Rattle.docker_laws.specs.Thinning.{is_wanted}
-use Rattle.docker_laws.proofs.dockers.NeededChanges.{wanted_uid}
-use Rattle.state_laws.proofs.indexes.CallsTest.{any_back}
 use Rattle.cif_change.specs.Meaning.{key_meant}
 use Rattle.cif_change.specs.declared.key.Key.TheVariants as key
 use Rattle.docker_excerpt.specs.declared.elsewhere.Elsewhere.{Elsewhere}
@@ -9,5 +7,5 @@ use Rattle.docker_excerpt.proofs.wanted.wanted.Goals as goal
 
 pub returns : goal.returns
 returns c =
-    filter_same _ (λ (one : Elsewhere). is_wanted c.args.uids.now (key_meant (key.Schedule one.key))) _
-    (λ x b q h. search (rules, wanted_uid, any_back, bytes_eq-Decides)) c.args.elsewhere.items c.retain.new.self.items c.retain.ensures.filtered
+    filter_same _ (λ (one : Elsewhere). is_wanted c.args.uids.now (key_meant (key.Schedule one.key))) _ (λ x b q h. search rules)
+    c.args.elsewhere.items c.retain.new.self.items c.retain.ensures.filtered

@@ -1,4 +1,4 @@
-use Rattle.std.proofs.Common.{◌∷◌, [], ◌++◌, length, take, refl, sym, ap, ◌∙◌, subst, arith}
+use Rattle.std.proofs.Common.{◌∷◌, [], ◌++◌, length, take, sym, ap, ◌∙◌, subst, arith}
 use Rattle.std.proofs.Math.ListN.{get_or-map}
 use Rattle.std.proofs.lemmas.List.{length-map, map_more}
 use Rattle.std.proofs.lemmas.List.Elements.{All-get_or}
@@ -40,7 +40,7 @@ loop-event-preserved c = record {
 }
 
 pub returns-clause-run : goal.returns-clause-run
-returns-clause-run c = run_at_end _ _ _ _ _ _ c.loop-event.invariant.run c.loop-event-test.false refl
+returns-clause-run c = run_at_end _ _ _ _ _ _ c.loop-event.invariant.run c.loop-event-test.false c.of.ensures
 
 pub returns-clause-one_each : goal.returns-clause-one_each
 returns-clause-one_each c = one_each _ _ _ (returns-clause-run c) ∙ length-map c.args.events.now event_meant
@@ -50,13 +50,13 @@ returns-clause-reply c = λ place low. each_reply _ _ _ (returns-clause-run c) _
     (let same = length-map c.args.events.now event_meant in omega arith)
 
 pub returns-clause-sent : goal.returns-clause-sent
-returns-clause-sent c = one_sent c.args.offices (events_meant c.args.events.now) _ (returns-clause-run c)
+returns-clause-sent c = one_sent c.args.offices (events_meant c.args.events.now) c.of.result (returns-clause-run c)
 
 pub returns-clause-offices : goal.returns-clause-offices
-returns-clause-offices c = all_offices c.args.offices (events_meant c.args.events.now) _ (returns-clause-run c)
+returns-clause-offices c = all_offices c.args.offices (events_meant c.args.events.now) c.of.result (returns-clause-run c)
 
 pub returns-clause-state : goal.returns-clause-state
-returns-clause-state c = λ office there. each_state c.args.offices (events_meant c.args.events.now) _ (returns-clause-run c) office there
+returns-clause-state c = λ office there. each_state c.args.offices (events_meant c.args.events.now) c.of.result (returns-clause-run c) office there
 
 pub returns-clause-message : goal.returns-clause-message
-returns-clause-message c = λ message sent. each_message c.args.offices (events_meant c.args.events.now) _ (returns-clause-run c) message sent
+returns-clause-message c = λ message sent. each_message c.args.offices (events_meant c.args.events.now) c.of.result (returns-clause-run c) message sent

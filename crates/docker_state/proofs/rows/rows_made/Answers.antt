@@ -10,7 +10,7 @@ pub loop-change-preserved : goal.loop-change-preserved
 loop-change-preserved c = record {
   made = subst (λ (all : List model.Change). map row_meant c.push_reserved.new.self.items ≡ map (made_by (file_stamp_meant c.args.file.now)) all)
       (sym (map-append change_meant c.loop-change.yielded (c.in-Some.change ∷ []))) (one_row_more _ _ _ _
-      _ _ c.push_reserved.ensures.items c.row_of.ensures c.loop-change.invariant.made);
+      _ _ c.push_reserved.ensures.items c.row_of-row.ensures c.loop-change.invariant.made);
   len = (
       let more = length-append c.loop-change.yielded (c.in-Some.change ∷ []) in
       let before = c.loop-change.invariant.len in

@@ -1,6 +1,6 @@
 use Rattle.cif_laws.proofs.Common.{length, map, Vec, columns}
 use Rattle.state_index.specs.NamedPlaces.{location_lines}
-use Rattle.state_index.specs.declared.postings.Posting.{Posting}
+use Rattle.state_index.specs.declared.posting.Posting.{Posting}
 use Rattle.state_index.specs.Posted.{ArePosted, CanPost}
 use Rattle.state_index.specs.Spots.{spot_at}
 use Rattle.state_index.proofs.postings.post_locations.Given as goal

@@ -5,7 +5,7 @@ use Rattle.docker_join.specs.Meaning.{row_meant}
 use Rattle.state_index.specs.Posted.{ArePosted, CanPost, asked_places}
 use Rattle.state_index.specs.Rooms.{items_of, places_in}
 use Rattle.state_index.specs.Spots.{spot_at, spots_from}
-use Rattle.state_index.proofs.Positions.{ended}
+use Rattle.state_index.proofs.Positions.{none_left}
 use Rattle.state_index.proofs.PostedSpots.{can_back, posted_none, posted_then}
 use Rattle.state_index.proofs.postings.post_rows.Goals as goal
 
@@ -31,4 +31,4 @@ loop-row-preserved c =
 pub returns : goal.returns
 returns c = c.loop-row.invariant.posted c.loop-row.postings
     (subst (λ (rest : List (Key × Entry)). ArePosted c.args.places.now (spots_from (asked_places c.args.links) c.loop-row.at (map row_meant rest))
-    c.loop-row.postings c.loop-row.postings) (sym (ended _ c.in_default.ensures.cases)) (posted_none _ _))
+    c.loop-row.postings c.loop-row.postings) (sym (none_left _ c.in_default.ensures.cases)) (posted_none _ _))

@@ -1,6 +1,6 @@
 use Rattle.cif_laws.proofs.Common.{◌≡◌, ◌+◌, length, map, Vec}
 use Rattle.docker_join.specs.Meaning.{row_meant}
-use Rattle.state_index.specs.declared.postings.Posting.{Posting}
+use Rattle.state_index.specs.declared.posting.Posting.{Posting}
 use Rattle.state_index.specs.Posted.{ArePosted, CanPost, asked_places}
 use Rattle.state_index.specs.Rooms.{items_of, places_in}
 use Rattle.state_index.specs.Spots.{spots_from}

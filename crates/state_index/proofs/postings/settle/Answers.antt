@@ -2,7 +2,7 @@ use Rattle.cif_laws.proofs.Common.{List, sym, subst, Contains, rules, IsSorted, 
 use Rattle.std.proofs.lemmas.List.Sorted.{answers_always}
 use Rattle.std.proofs.lemmas.List.MinMax.{ranks_by}
 use Rattle.std.proofs.lemmas.List.Filters.{dedup_is}
-use Rattle.state_index.specs.declared.postings.Posting.{Posting}
+use Rattle.state_index.specs.declared.posting.Posting.{Posting}
 use Rattle.state_index.specs.PostingOrder.{posting_cmp}
 use Rattle.state_index.proofs.SortedSpots.{all_sorted, all_there, once_each, posting_equivalence}
 use Rattle.state_index.proofs.SortedSpots.{same_members, same_posting}

@@ -6,9 +6,9 @@ use Rattle.state_text.proofs.head.body_head.Goals as goal
 pub returns-then-bytes-len : goal.returns-then-bytes-len
 returns-then-bytes-len g c = too_short _ _ _ _ c.requires.ledger (ap (λ n. n + 16) c.width.ensures.value) c.if-bytes-len.true
 
-pub returns : goal.returns
-returns g c = body_after _ _ _ _ _ _ _ _ _ c.split_at.ensures.by_index.0 c.split_at.ensures.front_len c.in_ok-key.ensures
+pub returns-in-Some : goal.returns-in-Some
+returns-in-Some g c = body_after _ _ _ _ _ _ _ _ _ c.split_at.ensures.by_index.0 c.split_at.ensures.front_len c.in-Some.ensures
 
-pub returns-in_err-key : goal.returns-in_err-key
-returns-in_err-key g c = rw c.from_residual.ensures (no_put _ _ _ _ _ _ c.requires.ledger
-    c.split_at.ensures.by_index.0 c.split_at.ensures.front_len (ap (λ n. n + 16) c.width.ensures.value) c.in_err-key.ensures)
+pub returns-in-None : goal.returns-in-None
+returns-in-None g c = no_put _ _ _ _ _ _ c.requires.ledger
+    c.split_at.ensures.by_index.0 c.split_at.ensures.front_len (ap (λ n. n + 16) c.width.ensures.value) c.in-None.ensures

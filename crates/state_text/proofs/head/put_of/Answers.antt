@@ -11,11 +11,10 @@ pub returns-in_default : goal.returns-in_default
 returns-in_default g c = bad_key _ _ _ _ _ _ _ c.requires.valid.ledger c.split_at.ensures.by_index.0 c.split_at-2.ensures.by_index.0
     (c.split_at.ensures.front_len ∙ c.width.ensures.value) c.split_at-2.ensures.front_len _ c.in_default.ensures
 
-pub returns-in_err-stamp : goal.returns-in_err-stamp
-returns-in_err-stamp g c = rw c.from_residual.ensures (bad_stamp _ _ _ _ _ _ _
-    c.requires.valid.ledger c.split_at.ensures.by_index.0 c.split_at-2.ensures.by_index.0
+pub returns-in_default-judged_stamp : goal.returns-in_default-judged_stamp
+returns-in_default-judged_stamp g c = bad_stamp _ _ _ _ _ _ _ c.requires.valid.ledger c.split_at.ensures.by_index.0 c.split_at-2.ensures.by_index.0
     (c.split_at.ensures.front_len ∙ c.width.ensures.value) c.split_at-2.ensures.front_len
-    (subst (λ ledger. ¬ IsStampIn ledger (stamp_in c.split_at-2.result.0.now)) c.ledger.ensures c.in_err-stamp.ensures))
+    (subst (λ ledger. ¬ IsStampIn ledger (stamp_in c.split_at-2.result.0.now)) c.ledger.ensures c.in_default-judged_stamp.ensures)
 
 pub returns : goal.returns
 returns g c =
@@ -26,7 +25,7 @@ returns g c =
     let op_size : length c.split_at-2.result.1.now ≡ 1 = omega arith in
     record {
       here = search rules;
-      text = (λ i. key_text (c.in-Ok.ensures.0 i) ++ stamp_bytes (c.in_ok-stamp.ensures.0 i) ++ 1 ∷ [])
+      text = (λ i. key_text (c.in-Ok.ensures.0 i) ++ stamp_bytes (c.in-Some.ensures.0 i) ++ 1 ∷ [])
           ∙ put_text _ _ _ _ _ _ (is_tag _) c.split_at.ensures.by_index.0
           c.split_at-2.ensures.by_index.0 (c.split_at.ensures.front_len ∙ width) c.split_at-2.ensures.front_len op_size c.if-op-ne-PUT.false
           (λ i. let fits = c.type_inv.bytes i in omega arith);

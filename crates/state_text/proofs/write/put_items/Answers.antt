@@ -12,6 +12,6 @@ pub loop-item-preserved : goal.loop-item-preserved
 loop-item-preserved g c = record {
   given = each_given (λ xs. flat_map item_bytes (map item_meant xs)) (mapped_join item_bytes item_meant) _ _ _ _
       c.loop-item-test.true c.item-item.is (append-nil _) _ _ _ _ _ _
-      c.loop-item.invariant.given (room_then_add _ _ _ _ _ _ c.in_ok-make_room.ensures.gives.0 c.add_item.ensures);
+      c.loop-item.invariant.given (room_then_add _ _ _ _ _ _ c.in_ok-make_room.ensures.gives.0 c.add_item.ensures.items);
   no_failure = c.in_ok-make_room.ensures.gives.1 ∙ c.loop-item.invariant.no_failure;
 }

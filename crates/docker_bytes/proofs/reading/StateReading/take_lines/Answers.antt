@@ -1,40 +1,27 @@
-use Rattle.std.proofs.Common.{rules, ◌≡◌, ℕ, ◌+◌, ◌<◌, ◌≤◌, List, ◌++◌, length, refl, ap, sym, subst, ◌∙◌, arith}
+use Rattle.std.proofs.Common.{rules, ◌≡◌, ◌+◌, ◌<◌, ◌≤◌, ◌++◌, length, refl, ap, sym, subst, ◌∙◌, arith}
 use Rattle.std.proofs.lemmas.List.{nil_from_length}
 use Rattle.std.proofs.lemmas.Result.{err_from_is_err_and}
 use Rattle.docker_model.specs.state.StatePart.{width}
 use Rattle.docker_bytes.specs.declared.reading.StateReading.{StateReading}
-use Rattle.docker_bytes.specs.StateReading.{before_of, IsLineOf, ReadsOn}
+use Rattle.docker_bytes.specs.StateReading.{before_of, ReadsOn, IsLineOf}
 use Rattle.docker_bytes.proofs.LineLemmas.{line_width, lines_within}
 use Rattle.docker_bytes.proofs.ReadingLemmas.{before_rest, part_refused, told_of_piece, rest_first, rest_more, reads_none, reads_further}
 use Rattle.docker_bytes.proofs.reading.StateReading.take_lines.Goals as goal
 
--- the same reading with these lines
-abbrev with_lines : {K : Type 0} → StateReading K → List (List ℕ) → StateReading K
-with_lines it rows = record {
-  alloc = it.alloc;
-  format = it.format;
-  limit = it.limit;
-  stage = it.stage;
-  parts = it.parts;
-  lines = rows;
-  partial = it.partial;
-  item_at = it.item_at;
-  reached = it.reached;
-}
-
 pub lines-init : goal.lines-init
 lines-init g c =
-    let now = c.args.self.now in
-    let empty : length now.partial.items ≡ 0 = search rules in
-    let fits : now.reached ≤ now.limit = (let within = c.requires.within in omega arith) in
+    let empty : length c.args.self.now.partial.items ≡ 0 = search rules in
+    let same = c.make_room.ensures in
+    let now = c.make_room.new.self in
+    let fits : now.reached ≤ now.limit = subst (λ (it : StateReading _). it.reached ≤ it.limit) (sym same) (let within = c.requires.within in omega arith) in
     let bounds = lines_within _ _ _ _ c.inner_lines-more.ensures in
     let allowed = bounds.1 in
     record {
       whole = (rest_first _).1;
-      on = subst (λ rows. ReadsOn now (with_lines now rows) (before_rest c.args.piece.now c.args.piece.now)) (sym c.make_room.ensures)
-          (reads_none _ _ c.requires);
-      line = record { entries = c.in-Line._entries; stamp = c.in-Line._stamp; is = c.in-Line.is };
-      none = nil_from_length now.partial.items empty;
+      on = subst (λ it. ReadsOn c.args.self.now it (before_rest c.args.piece.now c.args.piece.now)) (sym same) (reads_none _ _ c.requires);
+      line = subst (λ (it : StateReading _). IsLineOf c.in-Line.key c.in-Line.count it.stage) (sym same)
+          (record { entries = c.in-Line._entries; stamp = c.in-Line._stamp; is = c.in-Line.is });
+      none = ap (λ (it : StateReading _). it.partial.items) same ∙ nil_from_length c.args.self.now.partial.items empty;
       held = bounds.0;
       within = omega arith;
       few = bounds.2;

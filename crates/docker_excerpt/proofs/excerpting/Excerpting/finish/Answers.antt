@@ -28,10 +28,11 @@ of-requires c =
     let part = c.under_horizon.result in
     let given = c.into_parts-parts.result.1.entries in
     let valid = subst (λ (v : Excerpting). IsValid (under (horizon_meant c.args.horizon) v.told)) (sym c.self.view_is) c.requires in
-    subst (λ place. StandsAt place c.self.inside.walk.day (with_entries part given) part) (sym c.place-place.ensures)
+    subst (λ place. StandsAt place c.day-day.result (with_entries part given) part) (sym c.place-place.ensures)
+    (subst (λ day. StandsAt c.self.inside.walk.walk.place day (with_entries part given) part) (sym c.day-day.ensures)
     (is_excerpt_of c.self.inside.walk.walk.place c.self.inside.walk.day (horizon_meant c.args.horizon) told valid part
     (map row_meant c.in_ok-rows.rows.items) given (c.in_ok-rows.ensures told c.self.invariant) (search rules) (search rules) (search rules)
-    c.into_parts-parts.ensures.given)
+    c.into_parts-parts.ensures.given))
 
 pub returns : goal.returns
 returns c =

@@ -3,5 +3,5 @@ use Rattle.cif_laws.proofs.Common.{rules}
 use Rattle.docker_excerpt.proofs.ThinLemmas.{set_knows}
 use Rattle.docker_excerpt.proofs.thinned.Thinned.know.Goals as goal
 
-pub returns-clause-known : goal.returns-clause-known
-returns-clause-known c = search (rules, set_knows)
+pub returns-in-Ok-clause-known : goal.returns-in-Ok-clause-known
+returns-in-Ok-clause-known c = search (rules, set_knows)

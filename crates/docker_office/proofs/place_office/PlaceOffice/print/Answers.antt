@@ -4,7 +4,6 @@ use Rattle.docker_day.specs.Dockers.{IsDockerOf}
 use Rattle.docker_day.specs.DockerValue.{text_of}
 use Rattle.docker_excerpt.specs.Values.{Excerpt}
 use Rattle.docker_office.specs.declared.fault.OfficeFault.TheVariants.{Sink}
-use Rattle.docker_office.proofs.ExcerptDocker.{docker_of_excerpt}
 use Rattle.docker_office.proofs.OfficeLemmas.{of_ok, of_err}
 use Rattle.docker_office.proofs.place_office.PlaceOffice.print.Goals as goal
 
@@ -12,9 +11,7 @@ pub returns-clause-ok : goal.returns-clause-ok
 returns-clause-ok g c = λ done. record {
   text = text_of c.in_ok-docker.docker;
   is = c.write_docker.ensures.text (live_table c.args.self.now.state) c.args.self.now.place c.args.self.now.day
-      (subst (λ (it : Excerpt). IsDockerOf (live_table it.state) it.place it.day c.in_ok-docker.docker) c.self.view_is
-      (docker_of_excerpt _ c.timetable-timetable.result _ _ _ c.timetable-timetable.ensures.stands c.timetable-timetable.ensures.all
-      c.place-place.ensures c.day.ensures c.in_ok-docker.ensures.ok));
+      (subst (λ (it : Excerpt). IsDockerOf (live_table it.state) it.place it.day c.in_ok-docker.docker) c.self.view_is c.in_ok-docker.ensures.ok);
   gained = of_ok _ c.write_docker.result c.map_err.result c.map_err.ensures.variant c.write_docker.ensures.whole done;
 }
 
@@ -22,8 +19,6 @@ pub returns-clause-part : goal.returns-clause-part
 returns-clause-part g c = λ failed. record {
   text = text_of c.in_ok-docker.docker;
   is = c.write_docker.ensures.text (live_table c.args.self.now.state) c.args.self.now.place c.args.self.now.day
-      (subst (λ (it : Excerpt). IsDockerOf (live_table it.state) it.place it.day c.in_ok-docker.docker) c.self.view_is
-      (docker_of_excerpt _ c.timetable-timetable.result _ _ _ c.timetable-timetable.ensures.stands c.timetable-timetable.ensures.all
-      c.place-place.ensures c.day.ensures c.in_ok-docker.ensures.ok));
+      (subst (λ (it : Excerpt). IsDockerOf (live_table it.state) it.place it.day c.in_ok-docker.docker) c.self.view_is c.in_ok-docker.ensures.ok);
   gained = of_err _ c.write_docker.result c.map_err.result c.map_err.ensures.variant c.write_docker.ensures.part Sink failed;
 }

@@ -1,7 +1,7 @@
 use Rattle.cif_laws.proofs.Common.{◌≡◌, ◌∙◌, ◌++◌, ℕ, List, [], ◌∷◌, map, ap, refl, rules, sym, subst, Contains-append_right, columns}
 use Rattle.state_index.specs.NamedPlaces.{location_lines}
 use Rattle.state_index.specs.Rooms.{Includes}
-use Rattle.state_index.proofs.Positions.{ended}
+use Rattle.state_index.proofs.Positions.{none_left}
 use Rattle.state_index.proofs.RowPlaces.{location_first, location_other}
 use Rattle.state_index.proofs.Surveyed.{listed_all, listed_more}
 use Rattle.state_index.proofs.survey.Survey.list_locations.Goals as goal
@@ -21,7 +21,7 @@ loop-line-preserved-in_ok-list c =
     record {
       kept = λ place among. c.list.ensures.kept place (c.loop-line.invariant.kept place among);
       listed = listed_more _ _ _ _ _ c.list.ensures.kept
-          (subst (λ (place : List ℕ). Includes (place ∷ []) c.list.new.self.names.items) c.field.ensures.bytes (c.in_ok-list.ensures.listed refl))
+          (subst (λ (place : List ℕ). Includes (place ∷ []) c.list.new.self.names.items) c.tiploc_in.ensures (c.in_ok-list.ensures.listed refl))
           (subst (λ (rest : List (List ℕ)). Includes (map (columns 3 9) (location_lines c.args.lines.now)) (c.loop-line.self.names.items ++ rest)) places
           c.loop-line.invariant.listed);
       calls = c.list.ensures.calls ∙ c.loop-line.invariant.calls;
@@ -42,4 +42,4 @@ loop-line-preserved c =
 
 pub returns-clause-listed : goal.returns-clause-listed
 returns-clause-listed c = λ ok. listed_all _ _ _
-    (ap (λ (rest : List (List ℕ)). map (columns 3 9) (location_lines rest)) (ended _ c.in_default.ensures.cases)) c.loop-line.invariant.listed
+    (ap (λ (rest : List (List ℕ)). map (columns 3 9) (location_lines rest)) (none_left _ c.in_default.ensures.cases)) c.loop-line.invariant.listed

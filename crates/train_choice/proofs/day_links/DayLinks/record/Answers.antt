@@ -1,7 +1,7 @@
-use Rattle.cif_laws.proofs.Common.{◌≡◌, List, Some, refl, subst, option_map, Row, AreRowsOf}
+use Rattle.cif_laws.proofs.Common.{◌≡◌, List, Some, ap, refl, ◌∙◌, subst, option_map, get, Group, Row, AreRowsOf}
 use Rattle.docker_laws.specs.LiveRows.{Link, link_in}
 use Rattle.docker_state.specs.Timetables.{live_in}
-use Rattle.train_choice.specs.Known.{PlaceDay}
+use Rattle.train_choice.specs.Known.{PlaceDay, group_cmp}
 use Rattle.train_choice.proofs.Known.{record_told}
 use Rattle.train_choice.proofs.day_links.DayLinks.record.Goals as goal
 
@@ -20,4 +20,4 @@ returns-in-Some c =
       location = c.self.inside.place;
       suffix = c.args.suffix;
     }) c.in-Some.link.now c.line.result.now c.self.invariant refl
-    c.in-Some.ensures.value c.line.ensures.line)
+    (c.in-Some.ensures.value ∙ ap (λ (group : Group). get group_cmp c.self.inside.best group) c.at-group.ensures) c.line.ensures.line)

@@ -11,7 +11,7 @@ returns-then-is_empty g c =
 
 pub returns-then-not-extend : goal.returns-then-not-extend
 returns-then-not-extend g c = fault_in_front _ _ _ _ _ _ _ refl
-    (too_long _ _ _ _ _ c.requires (λ few. false≢true (sym c.if-not-extend.true ∙ c.extend.ensures.fits.1 few)) c.refused.ensures)
+    (too_long _ _ _ _ _ c.requires (λ few. false≢true (sym c.if-not-extend.true ∙ c.extend.ensures.fits.1 few)) c.too_long.ensures)
 
 pub returns : goal.returns
 returns g c = line_ended _ _ _ _ _ _ _ _ c.requires (c.as_slice.ensures.value ∙ c.extend.ensures.items c.if-not-extend.false)

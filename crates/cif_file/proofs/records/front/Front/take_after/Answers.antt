@@ -2,7 +2,7 @@
 -- lines are a whole schedule.
 use Rattle.cif_laws.proofs.Common.{err_from_is_err_and, ◌∙◌, ap, sym, subst, refl, false≢true, follows_basic}
 use Rattle.cif_file.specs.RecordsRead.{IsNoNextCause}
-use Rattle.cif_file.proofs.FrontLemmas.{bad_behind, not_whole, anew_goes_on, over_of_closed}
+use Rattle.cif_file.proofs.FrontLemmas.{bad_behind, not_whole, anew_goes_on}
 use Rattle.cif_file.proofs.UnitLemmas.{unit_begins}
 use Rattle.cif_file.proofs.records.front.Front.take_after.Goals as goal
 
@@ -18,32 +18,22 @@ returns-in_err-unit-clause-err g c =
     (bad_behind _ _ _ _ has c.requires.«record» _ _ c.requires.stage (λ lines read. (c.complete.ensures lines read).0 c.if-not-complete.false)
     c.requires.kind (ap follows_basic c.requires.kind ∙ sym c.if-follows_basic.ensures) (c.in_err-unit.ensures.bad refl)))
 
-pub add_unit-requires : goal.add_unit-requires
-add_unit-requires g c = record { line = c.args.line.now; of = c.in_ok-unit.ensures.ok }
+pub begin_anew-requires-clause-unit : goal.begin_anew-requires-clause-unit
+begin_anew-requires-clause-unit g c = record { line = c.args.line.now; of = c.in_ok-unit.ensures.ok }
 
 pub returns-clause-read : goal.returns-clause-read
-returns-clause-read g c = λ records has counted.
-    c.in_ok-add_unit.ensures.read c.args.line.now c.in_ok-unit.ensures.ok records
-    (over_of_closed g.K.ChangeKeeper.keeps c.args.self.now c.close.new.self c.args.opened records has c.requires.stage
-    (λ lines read. (c.complete.ensures lines read).0 c.if-not-complete.false) c.close.ensures.header c.in_ok-close.ensures.kept)
-    counted
+returns-clause-read g c =
+    c.in_ok-begin_anew.ensures.read c.args.line.now c.in_ok-unit.ensures.ok (λ lines read. (c.complete.ensures lines read).0 c.if-not-complete.false)
 
-pub returns-in_err-close-clause-err : goal.returns-in_err-close-clause-err
-returns-in_err-close-clause-err g c =
-    let same = err_from_is_err_and c.from_residual-in_err-close.result c.from_residual-in_err-close.ensures.1 in
+pub returns-in_err-begin_anew-clause-err : goal.returns-in_err-begin_anew-clause-err
+returns-in_err-begin_anew-clause-err g c =
+    let same = err_from_is_err_and c.from_residual-in_err-begin_anew.result c.from_residual-in_err-begin_anew.ensures.1 in
     let is = c.in_ok-unit.ensures.ok in
     rw (same.1, same.2) (λ records has. (
-      c.in_err-close.ensures.wants,
+      c.in_err-begin_anew.ensures.wants,
       anew_goes_on _ _ _ _ has c.requires.«record» _ c.requires.stage (λ lines read. (c.complete.ensures lines read).0 c.if-not-complete.false) is.good_fields
           (unit_begins _ _ is),
     ))
 
-pub returns-in_err-add_unit-clause-err : goal.returns-in_err-add_unit-clause-err
-returns-in_err-add_unit-clause-err g c =
-    let same = err_from_is_err_and c.from_residual-in_err-add_unit.result c.from_residual-in_err-add_unit.ensures.1 in
-    let is = c.in_ok-unit.ensures.ok in
-    rw (same.1, same.2) (λ records has. (
-      c.in_err-add_unit.ensures.wants,
-      anew_goes_on _ _ _ _ has c.requires.«record» _ c.requires.stage (λ lines read. (c.complete.ensures lines read).0 c.if-not-complete.false) is.good_fields
-          (unit_begins _ _ is),
-    ))
+pub returns-then-follows_basic-clause-err : goal.returns-then-follows_basic-clause-err
+returns-then-follows_basic-clause-err g c = c.follow.ensures.err c.args.opened c.requires.stage

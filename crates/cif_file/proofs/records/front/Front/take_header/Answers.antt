@@ -17,4 +17,4 @@ returns-in_err-view-clause-err g c =
 pub returns-clause-read : goal.returns-clause-read
 returns-clause-read g c = λ records has. header_added _ _ _ _ has c.requires.«record» _ c.requires.stage
     (c.requires.kind ∙ ap (λ kind. Some (meaning kind)) c.in-Header.is) (c.in_ok-view.ensures.ok.0 refl)
-    (ap Some (c.line.ensures.line ∙ c.in_ok-view.ensures.value)) refl refl
+    (ap Some (c.of.ensures ∙ c.in_ok-view.ensures.value)) refl refl

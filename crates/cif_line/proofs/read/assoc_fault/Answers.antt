@@ -1,0 +1,26 @@
+-- The tactic `auto` proves these goals too. Here they are proved by hand, so that the prover
+-- refuses a wrong body without a long search.
+use Rattle.cif_laws.proofs.Common.{rules}
+use Rattle.cif_line.proofs.Leftmost.{assoc_faults}
+use Rattle.cif_line.proofs.read.assoc_fault.Goals as goal
+
+pub returns-then-not-is_transaction : goal.returns-then-not-is_transaction
+returns-then-not-is_transaction c = search (rules, assoc_faults)
+
+pub returns-then-not-is_date : goal.returns-then-not-is_date
+returns-then-not-is_date c = search (rules, assoc_faults)
+
+pub returns-then-not-is_end_date : goal.returns-then-not-is_end_date
+returns-then-not-is_end_date c = search (rules, assoc_faults)
+
+pub returns-then-not-is_days : goal.returns-then-not-is_days
+returns-then-not-is_days c = search (rules, assoc_faults)
+
+pub returns-then-not-is_tiploc : goal.returns-then-not-is_tiploc
+returns-then-not-is_tiploc c = search (rules, assoc_faults)
+
+pub returns-then-not-is_stp_indicator : goal.returns-then-not-is_stp_indicator
+returns-then-not-is_stp_indicator c = search (rules, assoc_faults)
+
+pub returns : goal.returns
+returns c = search (rules, assoc_faults)

@@ -1,9 +1,0 @@
--- The tactic `auto` proves these goals too. Their proofs are written out so that a wrong body is refused without a long search.
-use Rattle.cif_laws.proofs.Common.{rules}
-use Rattle.state_text.proofs.judged.judged_item.Goals as goal
-
-pub returns-then-not-is_above : goal.returns-then-not-is_above
-returns-then-not-is_above c = search rules
-
-pub returns-then-raises_floor : goal.returns-then-raises_floor
-returns-then-raises_floor c = search rules
